@@ -1,0 +1,2 @@
+//! Definitions: values and forms, the editor's state, and what each call does to it.
+#![tactic(auto)]

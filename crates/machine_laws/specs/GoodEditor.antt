@@ -1,0 +1,36 @@
+-- What holds of the editor, and of what a step does to it.
+use Rattle.std.specs.Prelude.{◌≡◌, ℕ, ◌≤◌, ◌<◌, length, Some, None}
+use Rattle.text_model.specs.Ordered.{AreOrdered, GivesOrdered}
+use Rattle.machine_laws.specs.Good.{Passes}
+use Rattle.machine_laws.specs.Fits.{MarksFit, GoodSite, shapes}
+use Rattle.editor_model.specs.Editor.{Editor, Live, live, buffer_at}
+use Rattle.editor_model.specs.Answers.{What, Put, Props, UndoGroups, Change}
+
+-- each live buffer is good, and all places lie in its text; and in a buffer that isn't made yet no place lies behind 0
+pub record GoodEditor (e : Editor) : Type 0 where
+  pub each : (id : ℕ) (l : Live) → live e id ≡ Some l → GoodSite id (record { buffer = l.buffer; marks = e.marks })
+  pub unborn : (id : ℕ) → length e.buffers ≤ id → MarksFit id 0 e.marks
+
+-- a step keeps what is newer than a boundary in each buffer, and no buffer comes to life again
+pub record Advances (e new : Editor) : Type 0 where
+  pub good : GoodEditor new
+  pub longer : length e.buffers ≤ length new.buffers
+  pub dead : (id : ℕ) → id < length e.buffers → live e id ≡ None → live new id ≡ None
+  pub passes : (id : ℕ) (l m : Live) → live e id ≡ Some l → live new id ≡ Some m → Passes l.buffer m.buffer
+
+-- besides, the kept places are of the same kinds
+pub record Steady (e new : Editor) : Type 0 where
+  pub advances : Advances e new
+  pub same_shapes : shapes new.marks.saved ≡ shapes e.marks.saved
+
+-- a change gives sets in order
+abbrev pub FineWhat : What → Type 0
+FineWhat (Put piece all point_after widen mark) = AreOrdered piece
+FineWhat (Props edit) = GivesOrdered edit
+FineWhat (UndoGroups n) = Unit {0}
+
+-- and its ends lie in the text
+pub record FineChange (e : Editor) (c : Change) : Type 0 where
+  pub what : FineWhat c.what
+  pub order : c.from ≤ c.to
+  pub fits : c.to ≤ length (buffer_at e c.buffer).text

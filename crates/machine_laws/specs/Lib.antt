@@ -1,0 +1,5 @@
+pub mod Good
+pub mod Fits
+pub mod GoodEditor
+pub mod Laws
+pub mod GoodConfig

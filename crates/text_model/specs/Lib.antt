@@ -1,0 +1,11 @@
+pub mod Characters
+pub mod Decoding
+pub mod Properties
+pub mod PropertyQuestions
+pub mod Places
+pub mod Marks
+pub mod Ordered
+pub mod OverlayQuestions
+pub mod Sticky
+pub mod Undo
+pub mod Commit
