@@ -56,6 +56,11 @@ abbrev pub put : PropSet → ℕ → Option PropVal → PropSet
 put set name None = without set name
 put set name (Some v) = with_value set name v
 
+-- a property's value as it is given: an empty list of symbols is nil, and so takes the property away
+abbrev pub given : PropVal → Option PropVal
+given (Symbols []) = None
+given v = Some v
+
 abbrev pub same_set : PropSet → PropSet → Bool
 same_set a b = same_list (λ p q. (p.0 == q.0) && same_value p.1 q.1) a b
 

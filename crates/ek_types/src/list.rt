@@ -1,0 +1,126 @@
+//! A list with a spare: how many more items fit with no memory taken.
+ghost use Rattle.std.specs.Prelude.{◌≡◌, ℕ, ◌+◌, ◌<◌, ◌≤◌, [], ◌∷◌, ◌++◌, length, IfOk, IsOk, OnOk, OnErr, slice_get, Some, List, map};
+ghost use Rattle.ek_types.specs.Listing.{items_of, spare_of};
+
+use crate::memory::{Mem, NoMemory};
+use std::alloc::Global;
+
+/// A value that can be copied where memory allows it.
+pub trait Copied: Sized {
+    /// What is seen of a value.
+    ghost Seen: { Type 0 };
+
+    ghost seen: { Self → Seen };
+
+    fn copy(&self) -> Mem<Self>
+        ensures { IfOk result (λ c. seen c ≡ seen self.now) };
+}
+
+/// Items in order, counted from 0. No comparison of two lists looks at the spare.
+#[derive(Drop)]
+pub struct ListOf<T> {
+    items: Vec<T>,
+}
+
+impl<T> ListOf<T> {
+    /// The empty list, which takes no memory yet.
+    pub fn new(alloc: Global) -> ListOf<T>
+        ensures { items_of result ≡ [] }
+    {
+        ListOf {
+            items: Vec::new(alloc),
+        }
+    }
+
+    /// Makes the spare at least `n`. A refusal leaves the list as it was.
+    pub fn reserve(&mut self, n: usize) -> Mem<()>
+        ensures items { items_of self.new ≡ items_of self.old }
+        ensures room { OnOk result (n ≤ spare_of self.new) }
+        ensures kept { spare_of self.old ≤ spare_of self.new }
+        ensures had { n ≤ spare_of self.old → IsOk result }
+    {
+        match self.items.reserve(n) {
+            Ok(()) => Ok(()),
+            Err(_) => Err(NoMemory),
+        }
+    }
+
+    pub fn len(&self) -> usize
+        ensures { result ≡ length (items_of self.now) }
+    {
+        self.items.len()
+    }
+
+    pub fn as_slice(&self) -> &[T]
+        ensures { result.now ≡ items_of self.now }
+    {
+        self.items.as_slice()
+    }
+
+    pub fn at(&self, i: usize) -> &T
+        requires { i < length (items_of self.now) }
+        ensures { slice_get (items_of self.now) i ≡ Some result.now }
+    {
+        &self.items[i]
+    }
+
+    /// Puts an item behind the others, with no memory taken.
+    pub fn push_spare(&mut self, x: T)
+        requires { 0 < spare_of self.old }
+        ensures items { items_of self.new ≡ items_of self.old ++ x ∷ [] }
+        ensures spare { spare_of self.new + 1 ≡ spare_of self.old }
+    {
+        self.items.push_reserved(x);
+    }
+}
+
+impl<T: Drop> ListOf<T> {
+    /// Puts an item behind the others. A refusal leaves the list as it was.
+    pub fn push(&mut self, x: T) -> Mem<()>
+        ensures ok { OnOk result (items_of self.new ≡ items_of self.old ++ x ∷ []) }
+        ensures err { OnErr result (items_of self.new ≡ items_of self.old) }
+    {
+        match self.items.push(x) {
+            Ok(()) => Ok(()),
+            Err(_) => Err(NoMemory),
+        }
+    }
+}
+
+impl<T: Copied + Drop> Copied for ListOf<T> {
+    ghost Seen = { List T.Seen };
+
+    ghost seen = { λ a. map T.seen (items_of a) };
+
+    fn copy(&self) -> Mem<ListOf<T>> {
+        let mut copies = ListOf::new(*self.items.allocator());
+        for i in 0..self.len() {
+            copies.push(self.at(i).copy()?)?;
+        }
+        Ok(copies)
+    }
+}
+
+impl Copied for u8 {
+    ghost use Rattle.std.specs.Prelude.{ℕ};
+
+    ghost Seen = { ℕ };
+
+    ghost seen = { λ b. b };
+
+    fn copy(&self) -> Mem<u8> {
+        Ok(*self)
+    }
+}
+
+impl Copied for u32 {
+    ghost use Rattle.std.specs.Prelude.{ℕ};
+
+    ghost Seen = { ℕ };
+
+    ghost seen = { λ n. n };
+
+    fn copy(&self) -> Mem<u32> {
+        Ok(*self)
+    }
+}
