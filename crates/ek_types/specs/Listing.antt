@@ -1,6 +1,5 @@
 -- A list beside its spare room.
 use Rattle.std.specs.Prelude.{ℕ, ◌-◌, List, vec_len, vec_capacity}
-use Rattle.std.specs.declared.alloc.Global.{Global}
 use Rattle.ek_types.specs.declared.list.ListOf.{ListOf}
 
 -- the items, in order
@@ -10,3 +9,8 @@ items_of list = list.items.items
 -- how many more fit with no memory taken
 abbrev pub spare_of : {T : Type 0} → ListOf T → ℕ
 spare_of list = vec_capacity list.items - vec_len list.items
+
+-- a list seen with its spare
+pub record Roomy (T : Type 0) : Type 0 where
+  pub items : List T
+  pub spare : ℕ

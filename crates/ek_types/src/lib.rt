@@ -2,8 +2,16 @@
 //! from and go to.
 #![tactic(auto)]
 
+mod character;
+mod chars;
 mod list;
 mod memory;
+mod property;
+mod symbol;
 
+pub use character::Ch;
+pub use chars::Chars;
 pub use list::{Copied, ListOf};
 pub use memory::{Mem, NoMemory};
+pub use property::{PropVal, SymList};
+pub use symbol::Sym;

@@ -1,0 +1,104 @@
+//! A list of characters with a spare.
+ghost use Rattle.std.specs.Prelude.{◌≡◌, ℕ, ◌+◌, ◌<◌, ◌≤◌, length, [], ◌∷◌, ◌++◌, OnOk, OnErr, IfOk, IsOk, slice_get, Some, ◌==◌};
+ghost use Rattle.text_model.specs.Characters.{IsCharacter};
+ghost use Rattle.ek_types.specs.Seen.{ch_of};
+
+use crate::character::Ch;
+use crate::memory::{Mem, NoMemory};
+use std::alloc::Global;
+use std::marker::Model;
+
+/// Characters in order, counted from 0, seen as their list with the spare beside it: how many more fit with no memory
+/// taken. Each is a real one: a raw byte is 0x80 or more.
+#[derive(Drop)]
+pub struct Chars {
+    items: Vec<Ch>,
+}
+
+impl Model for Chars {
+    ghost use Rattle.std.specs.Prelude.{map, ◌-◌, vec_len, vec_capacity};
+    ghost use Rattle.ek_types.specs.Listing.{Roomy};
+    ghost use Rattle.text_model.specs.Characters.{Ch as Character, IsCharacter};
+
+    ghost Value = { Roomy Character };
+
+    ghost use Rattle.ek_types.specs.Seen.{ch_of, AreCharacters};
+
+    ghost view = { λ c. record { items = map ch_of c.items.items; spare = vec_capacity c.items - vec_len c.items } };
+
+    ghost invariant = { λ c. AreCharacters (map ch_of c.items.items) };
+}
+
+impl Chars {
+    /// No characters, which takes no memory yet.
+    pub fn new(alloc: Global) -> Chars
+        ensures { result.items ≡ [] }
+    {
+        Chars {
+            items: Vec::new(alloc),
+        }
+    }
+
+    /// Makes the spare at least `n`. A refusal leaves the characters as they were.
+    pub fn reserve(&mut self, n: usize) -> Mem<()>
+        ensures items { self.new.items ≡ self.old.items }
+        ensures room { OnOk result (n ≤ self.new.spare) }
+        ensures kept { self.old.spare ≤ self.new.spare }
+        ensures had { n ≤ self.old.spare → IsOk result }
+    {
+        match self.items.reserve(n) {
+            Ok(()) => Ok(()),
+            Err(_) => Err(NoMemory),
+        }
+    }
+
+    /// Puts a character behind the others. A refusal leaves them as they were.
+    pub fn push(&mut self, c: Ch) -> Mem<()>
+        requires { IsCharacter (ch_of c) }
+        ensures ok { OnOk result (self.new.items ≡ self.old.items ++ ch_of c ∷ []) }
+        ensures err { OnErr result (self.new.items ≡ self.old.items) }
+    {
+        self.items.push(c)?;
+        Ok(())
+    }
+
+    /// Puts a character behind the others, with no memory taken.
+    pub fn push_spare(&mut self, c: Ch)
+        requires character { IsCharacter (ch_of c) }
+        requires room { 0 < self.old.spare }
+        ensures items { self.new.items ≡ self.old.items ++ ch_of c ∷ [] }
+        ensures spare { self.new.spare + 1 ≡ self.old.spare }
+    {
+        self.items.push_reserved(c);
+    }
+
+    pub fn len(&self) -> usize
+        ensures { result ≡ length self.now.items }
+    {
+        self.items.len()
+    }
+
+    pub fn is_empty(&self) -> bool
+        ensures { result ≡ (length self.now.items == 0) }
+    {
+        self.items.is_empty()
+    }
+
+    pub fn at(&self, i: usize) -> Ch
+        requires { i < length self.now.items }
+        ensures item { slice_get self.now.items i ≡ Some (ch_of result) }
+        ensures character { IsCharacter (ch_of result) }
+    {
+        self.items[i]
+    }
+
+    /// The same characters again.
+    pub fn copy(&self) -> Mem<Chars>
+        ensures { IfOk result (λ c. c.items ≡ self.now.items) }
+    {
+        match self.items.clone() {
+            Ok(items) => Ok(Chars { items }),
+            Err(_) => Err(NoMemory),
+        }
+    }
+}

@@ -1,0 +1,5 @@
+//! Symbols.
+
+/// A symbol, by its number.
+#[derive(Clone, Copy, Debug, PartialEq, Eq)]
+pub struct Sym(pub u32);
