@@ -6,6 +6,7 @@ mod character;
 mod chars;
 mod list;
 mod memory;
+mod prop_set;
 mod property;
 mod symbol;
 
@@ -13,5 +14,6 @@ pub use character::Ch;
 pub use chars::Chars;
 pub use list::{Copied, ListOf};
 pub use memory::{Mem, NoMemory};
+pub use prop_set::PropSet;
 pub use property::{PropVal, SymList};
 pub use symbol::Sym;

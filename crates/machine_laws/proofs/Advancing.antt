@@ -8,7 +8,7 @@ use Rattle.text_model.specs.Marks.{Marks, Marker, Spot, leave_buffer, marker_lef
 use Rattle.text_model.specs.Commit.{Site}
 use Rattle.machine_laws.specs.Good.{Passes}
 use Rattle.machine_laws.specs.Fits.{SpotFits, MarkersFit, MarksFit, GoodSite, shapes}
-use Rattle.machine_laws.proofs.Sets.{by_test}
+use Rattle.text_model.proofs.Sets.{by_test}
 use Rattle.machine_laws.proofs.OneBuffer.{passes_self}
 use Rattle.machine_laws.proofs.Sites.{SiteStep, site_after}
 use Rattle.editor_model.specs.Editor.{Editor, Live, live, is_live, buffer_at, empty_buffer, change_site, change_buffer, with_buffer, renamed, named_as, with_marker, change_marker, marker_of, set_marker_spot, killed, after_kill, live_from, Name}

@@ -9,7 +9,7 @@ use Rattle.text_model.specs.Ordered.{IsOrdered, AreOrdered, GivesOrdered}
 use Rattle.text_model.specs.Undo.{Rec, Point, Inserted, Deleted, Prop, First, Moved, Undo, undo_in_text, pushed, pushed_all}
 use Rattle.text_model.specs.Commit.{Buffer, Site, recorded, inserted, deleted, deletion_records, adjustment, fresh_group, with_properties, property_records}
 use Rattle.machine_laws.specs.Good.{Falling, OffIsEmpty}
-use Rattle.machine_laws.proofs.Sets.{by_test, ordered-edited}
+use Rattle.text_model.proofs.Sets.{by_test, ordered-edited}
 use Rattle.machine_laws.proofs.Undoing.{deleted-back}
 use Rattle.machine_laws.proofs.Stretches.{undo_records, AreProps, props-records, property_undone}
 use Rattle.machine_laws.proofs.Records.{ArePlain, Moves, moves_then, moves_stay, pushed_moves, inserted_moves, pushed_all_moves}

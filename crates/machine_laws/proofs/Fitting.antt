@@ -14,7 +14,7 @@ use Rattle.text_model.specs.Ordered.{AreOrdered}
 use Rattle.machine_laws.specs.Good.{Falling, OffIsEmpty}
 use Rattle.machine_laws.proofs.Changes.{length-splice, length-with_sets, Outcome}
 use Rattle.machine_laws.proofs.Groups.{Within, trial_more, within_after, one_record}
-use Rattle.machine_laws.proofs.Sets.{by_test}
+use Rattle.text_model.proofs.Sets.{by_test}
 
 -- PLACES
 pub after_insert_fits : (q n : ℕ) (advances : Bool) (p size : ℕ) → q ≤ size → p ≤ size → after_insert q n advances p ≤ size + n

@@ -8,7 +8,7 @@ use Rattle.text_model.specs.Undo.{Rec, Boundary, Point, Inserted, Deleted, Prop,
 use Rattle.text_model.specs.Commit.{Buffer, Site, set_point, undo_one, undo_each, moves_behind, undone_groups}
 use Rattle.text_model.specs.Undo.{boundary_at, ends_with}
 use Rattle.machine_laws.specs.Good.{IsFine, Falling, OffIsEmpty, PendingAgrees, Good}
-use Rattle.machine_laws.proofs.Sets.{by_test, if_true, if_false}
+use Rattle.text_model.proofs.Sets.{by_test, if_true, if_false}
 use Rattle.machine_laws.proofs.Records.{falling_less, Steps, older, HeadAbove, moves_then, moves_stay}
 use Rattle.machine_laws.proofs.Changes.{Outcome, inserted_outcome, deleted_outcome, properties_outcome, text-with_properties, length-splice, length-with_sets}
 

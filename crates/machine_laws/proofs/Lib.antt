@@ -1,5 +1,4 @@
 pub mod Undoing
-pub mod Sets
 pub mod Stretches
 pub mod Records
 pub mod Changes

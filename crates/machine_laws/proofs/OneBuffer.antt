@@ -8,7 +8,7 @@ use Rattle.text_model.specs.Undo.{Rec, Boundary, Entry, Undo, is_boundary, newer
 use Rattle.text_model.specs.Commit.{Buffer, Site, inserted, deleted, with_properties, property_records, no_pending, replaced, reset, undone_groups}
 use Rattle.text_model.specs.Undo.{boundary_at}
 use Rattle.machine_laws.specs.Good.{Falling, OffIsEmpty, PendingAgrees, Good, Passes}
-use Rattle.machine_laws.proofs.Sets.{by_test, if_true, if_false}
+use Rattle.text_model.proofs.Sets.{by_test, if_true, if_false}
 use Rattle.machine_laws.proofs.Records.{Steps, steps_stay, not_above, older, boundary_stands, Shorter, shorter-cut, falling-shorter, boundary-shorter}
 use Rattle.machine_laws.proofs.Changes.{Outcome, inserted_outcome, deleted_outcome, properties_outcome}
 use Rattle.machine_laws.proofs.Groups.{Follows, groups_undone, older_all, newer_than-older}

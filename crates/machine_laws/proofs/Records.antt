@@ -6,7 +6,7 @@ use Rattle.text_model.specs.Properties.{Cell, splice}
 use Rattle.text_model.specs.Undo.{Rec, Boundary, Point, Inserted, Deleted, Prop, First, Moved, Entry, Undo, is_boundary, newer_than, stands, rewind, undo_in_text, in_front, extends, ends_at, cut, without_oldest_group, has_boundary, fits, pushed, pushed_all}
 use Rattle.text_model.specs.Undo.{boundary_at}
 use Rattle.machine_laws.specs.Good.{IsFine, Falling, OffIsEmpty}
-use Rattle.machine_laws.proofs.Sets.{by_test, if_false}
+use Rattle.text_model.proofs.Sets.{by_test, if_false}
 use Rattle.machine_laws.proofs.Stretches.{undo_records}
 use Rattle.machine_laws.proofs.Undoing.{newer_than-cut, out-again, inserted-out}
 

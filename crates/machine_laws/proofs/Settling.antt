@@ -6,7 +6,7 @@ use Rattle.text_model.specs.Marks.{Marks}
 use Rattle.text_model.specs.Commit.{Site}
 use Rattle.machine_laws.specs.Good.{Passes}
 use Rattle.machine_laws.specs.Fits.{MarksFit, shapes}
-use Rattle.machine_laws.proofs.Sets.{by_test}
+use Rattle.text_model.proofs.Sets.{by_test}
 use Rattle.machine_laws.proofs.OneBuffer.{passes_like}
 use Rattle.editor_model.specs.Editor.{Editor, Live, live, live_from, change_site, killed, scratch, with_buffer}
 use Rattle.machine_laws.specs.GoodEditor.{GoodEditor, Advances, Steady}

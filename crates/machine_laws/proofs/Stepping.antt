@@ -8,7 +8,7 @@ use Rattle.text_model.specs.Properties.{Cell}
 use Rattle.text_model.specs.Ordered.{AreOrdered}
 use Rattle.text_model.specs.Marks.{Spot, Saved, Excursion, Restriction, Pending}
 use Rattle.machine_laws.specs.Fits.{KeptFits, SavedFits, shape, shapes}
-use Rattle.machine_laws.proofs.Sets.{by_test}
+use Rattle.text_model.proofs.Sets.{by_test}
 use Rattle.machine_laws.proofs.Changes.{ordered-append}
 use Rattle.editor_model.specs.Values.{Value, Nil, T, Int, ExchangesSpent, at_place, Reply, Answered, Fault, Prim, AddHook, RemoveHook, KillBuffer, StartProcess, SetProcessFilter, SetProcessSentinel, SetProcessBuffer, ProcessSendString, ProcessSendEof, DeleteProcess, AcceptProcessOutput, Form, Forms, NoForms, Then, Do, Setq, In, WhenEq, Block, SaveExcursion, SaveRestriction, SaveCurrentBuffer, InhibitHooks, HandlerDef, equal}
 use Rattle.editor_model.specs.Editor.{Editor, Live, live, is_live, here, buffer_at, killed, register, with_register, with_buffer, with_marker}

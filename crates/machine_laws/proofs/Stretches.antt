@@ -10,7 +10,7 @@ use Rattle.text_model.specs.Properties.{PropVal, Truth, Number, Symbol, Symbols,
 use Rattle.text_model.specs.Undo.{Rec, Prop, undo_in_text}
 use Rattle.text_model.specs.Commit.{touched, stretch_record, records_of_name, records_of_names, property_records}
 use Rattle.text_model.specs.Ordered.{IsOrdered, AreOrdered, GivesOrdered}
-use Rattle.machine_laws.proofs.Sets.{by_test, if_true, if_false, elem, get-put, ordered-put, same_sets, ordered-edited, edited_touched, edited_untouched}
+use Rattle.text_model.proofs.Sets.{by_test, if_true, if_false, elem, get-put, ordered-put, same_sets, ordered-edited, edited_touched, edited_untouched}
 
 -- EQUAL VALUES
 same_list-sound : {A : Type 0} (same : A → A → Bool) → ((a b : A) → same a b ≡ true → a ≡ b) → (xs ys : List A) → same_list same xs ys ≡ true → xs ≡ ys

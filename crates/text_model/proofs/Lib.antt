@@ -1,1 +1,2 @@
 pub mod Decodings
+pub mod Sets
