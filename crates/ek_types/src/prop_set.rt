@@ -105,7 +105,8 @@ impl PropSet {
 
     /// How many properties there are.
     pub fn len(&self) -> usize
-        ensures { result ≡ length self.now }
+        ensures exact { result ≡ length self.now }
+        ensures proper { IsProper self.now }
     {
         self.pairs.len()
     }

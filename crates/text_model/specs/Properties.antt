@@ -68,6 +68,10 @@ same_set a b = same_list (λ p q. (p.0 == q.0) && same_value p.1 q.1) a b
 abbrev pub Cell : Type 0
 Cell = Ch × PropSet
 
+-- characters without properties
+abbrev pub bare : List Ch → List Cell
+bare text = map (λ c. (c, [])) text
+
 -- the part of a text from one place to another, replaced by a piece
 abbrev pub splice : (from to : ℕ) → List Cell → List Cell → List Cell
 splice from to piece text = take from text ++ (piece ++ drop to text)
