@@ -1,3 +1,4 @@
 pub mod Listed
 pub mod Characters
 pub mod PropSets
+pub mod Naming

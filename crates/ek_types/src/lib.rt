@@ -16,4 +16,4 @@ pub use list::{Copied, ListOf};
 pub use memory::{Mem, NoMemory};
 pub use prop_set::PropSet;
 pub use property::{PropVal, SymList};
-pub use symbol::Sym;
+pub use symbol::{Sym, Symbols};
