@@ -18,4 +18,4 @@ pub use memory::{Mem, NoMemory};
 pub use piece::{Piece, Run};
 pub use prop_set::PropSet;
 pub use property::{PropVal, SymList};
-pub use symbol::Sym;
+pub use symbol::{Sym, Symbols};

@@ -1,5 +1,124 @@
-//! Symbols.
+//! Names and their numbers.
+ghost use Rattle.std.specs.Prelude.{◌≡◌, ℕ, ◌+◌, ◌<◌, ◌^◌, length, List, [], ◌∷◌, ◌++◌, map, Some, None, IfOk, OnOk, OnErr, slice_get, string_bytes};
+ghost use Rattle.std.specs.Option.{option_map};
+ghost use Rattle.ek_types.specs.Property.{number_of};
+ghost use Rattle.ek_types.specs.Names.{first_symbols, number_in, with_name, AreNumbered};
 
-/// A symbol, by its number.
+use crate::memory::{Mem, NoMemory};
+use indexmap::IndexSet;
+use std::alloc::Global;
+use std::marker::Model;
+
+/// A symbol: the number of its name among the `Symbols`.
 #[derive(Clone, Copy, Debug, PartialEq, Eq)]
 pub struct Sym(pub u32);
+
+/// Names, each with its number, which are counted from 0 in the order of first use and never change.
+#[derive(Drop)]
+pub struct Symbols {
+    names: IndexSet<String>,
+}
+
+impl Model for Symbols {
+    ghost use Rattle.std.specs.Prelude.{ℕ, ◌<◌, ◌^◌, length, List, map, string_bytes};
+    ghost use Rattle.ek_types.specs.Names.{AreNumbered};
+
+    ghost Value = { List (List ℕ) };
+
+    ghost view = { λ s. map string_bytes s.names.keys };
+
+    ghost invariant = { λ s. AreNumbered (map string_bytes s.names.keys) × (length s.names.keys < 2 ^ 32) };
+}
+
+impl Symbols {
+    /// The names that have a number in every script.
+    pub fn new(alloc: Global) -> Mem<Symbols>
+        ensures { IfOk result (λ s. s ≡ first_symbols) }
+    {
+        let mut symbols = Symbols {
+            names: IndexSet::new(alloc),
+        };
+        symbols.intern("front-sticky")?;
+        symbols.intern("rear-nonsticky")?;
+        symbols.intern("evaporate")?;
+        symbols.intern("priority")?;
+        symbols.intern("before-change-functions")?;
+        symbols.intern("after-change-functions")?;
+        symbols.intern("run")?;
+        symbols.intern("exit")?;
+        symbols.intern("signal")?;
+        symbols.intern("failed")?;
+        symbols.intern("read-only")?;
+        symbols.intern("invisible")?;
+        symbols.intern("before-string")?;
+        symbols.intern("after-string")?;
+        Ok(symbols)
+    }
+
+    /// How many names there are.
+    pub fn count(&self) -> u32
+        ensures count { result ≡ length self.now }
+        ensures few { length self.now < 2 ^ 32 }
+        ensures numbered { AreNumbered self.now }
+    {
+        self.names.len() as u32
+    }
+
+    /// The symbol of a name, if it has one.
+    pub fn find(&self, name: &str) -> Option<Sym>
+        ensures { option_map number_of result ≡ number_in self.now name.now }
+    {
+        match self.names.get_index_of(name) {
+            Some(number) => Some(Sym(number as u32)),
+            None => None,
+        }
+    }
+
+    /// The name of a symbol.
+    pub fn name(&self, s: Sym) -> &str
+        requires { s.0 < length self.now }
+        ensures { slice_get self.now s.0 ≡ Some result.now }
+    {
+        self.names.get_index(s.0 as usize).unwrap().as_str()
+    }
+
+    /// The symbol of a name, which gets the next number where it has none. Want of memory leaves the names as they were.
+    pub fn intern(&mut self, name: &str) -> Mem<Sym>
+        requires { length self.old + 1 < 2 ^ 32 }
+        ensures names { OnOk result (self.new ≡ with_name self.old name.now) }
+        ensures number { IfOk result (λ s. number_in self.new name.now ≡ Some s.0) }
+        ensures stands { IfOk result (λ s. slice_get self.new s.0 ≡ Some name.now) }
+        ensures err { OnErr result (self.new ≡ self.old) }
+    {
+        match self.find(name) {
+            Some(found) => Ok(found),
+            None => {
+                let number = self.count();
+                self.put_last(name)?;
+                Ok(Sym(number))
+            }
+        }
+    }
+
+    // A name that has no number gets the next one.
+    fn put_last(&mut self, name: &str) -> Mem<()>
+        requires absent { number_in self.old name.now ≡ None }
+        requires room { length self.old + 1 < 2 ^ 32 }
+        ensures ok { OnOk result (self.new ≡ self.old ++ name.now ∷ []) }
+        ensures err { OnErr result (self.new ≡ self.old) }
+    {
+        let text = String::from_str(*self.names.allocator(), name)?;
+        self.names.insert(text)?;
+        Ok(())
+    }
+
+    /// The same names with the same numbers.
+    pub fn copy(&self) -> Mem<Symbols>
+        ensures { IfOk result (λ s. s ≡ self.now) }
+    {
+        match self.names.clone() {
+            Ok(names) => Ok(Symbols { names }),
+            Err(_) => Err(NoMemory),
+        }
+    }
+}
