@@ -1,3 +1,5 @@
-pub mod Listed
 pub mod Characters
+pub mod Failing
+pub mod Listed
+pub mod Printing
 pub mod PropSets
