@@ -4,18 +4,24 @@
 
 mod character;
 mod chars;
+mod io;
 mod list;
 mod memory;
+mod memory_io;
 mod piece;
 mod prop_set;
 mod property;
 mod symbol;
+mod writing;
 
 pub use character::Ch;
 pub use chars::Chars;
+pub use io::{Sink, SinkFault, Source, Took, Wrote};
 pub use list::{Copied, ListOf};
 pub use memory::{Mem, NoMemory};
+pub use memory_io::{MemorySink, MemorySource};
 pub use piece::{Piece, Run};
 pub use prop_set::PropSet;
 pub use property::{PropVal, SymList};
 pub use symbol::{Sym, Symbols};
+pub use writing::{put, write_all};
