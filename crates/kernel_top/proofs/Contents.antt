@@ -1,0 +1,84 @@
+-- What a change of the first path makes of a buffer's content.
+use Rattle.std.proofs.Common.{◌≡◌, ℕ, zero, suc, ◌+◌, ◌-◌, ◌≤◌, ◌<◌, Bool, true, false, List, [], ◌∷◌, ◌++◌, length, map, take, drop, refl, ap, sym, ◌∙◌, arith, length-append, append-nil, subst}
+use Rattle.std.specs.Prelude.{min, max, nat_lt, nat_le, ◌==◌, if◌then◌else◌, Some, None}
+use Rattle.std.proofs.lemmas.List.{length-map, map-append, take-map, drop-map, length-take, length-drop}
+use Rattle.std.proofs.lemmas.Bool.{ne_eqb, lt-ltb, le-ltb, ltb-false, lt-leb, le-leb}
+use Rattle.text_model.specs.Characters.{Ch}
+use Rattle.text_model.specs.Properties.{Cell, bare}
+use Rattle.text_model.specs.Places.{after_insert, after_delete, clip}
+use Rattle.text_model.specs.Marks.{Marks}
+use Rattle.text_model.specs.Undo.{Undo}
+use Rattle.text_model.specs.Commit.{Buffer, Site, no_pending, inserted as inserted_site, deleted as deleted_site}
+use Rattle.editor_model.specs.TextCalls.{with_inherited}
+use Rattle.kernel_top.specs.Plain.{plain_state, Content, buffer_with, inserted, deleted}
+use Rattle.kernel_top.proofs.Calls.{kept, put, committed_state}
+
+-- characters without properties inherit nothing where nothing is offered
+pub inherits_nothing : (text : List Ch) → with_inherited [] (bare text) ≡ bare text
+inherits_nothing [] = refl
+inherits_nothing (c ∷ text) = ap (λ cells. (c, []) ∷ cells) (inherits_nothing text)
+
+-- PLACES
+start_stays : (q n : ℕ) → after_insert q n false 0 ≡ 0
+start_stays zero n = refl
+start_stays (suc q) n = rw (lt-ltb 0 (suc q) (omega arith)) refl
+
+end_moves : (q n p : ℕ) → q ≤ p → after_insert q n true p ≡ p + n
+end_moves q n p h = rw (le-ltb p q h) (head (nat_lt q p) refl)
+  where
+    head : (b : Bool) → nat_lt q p ≡ b → (if b then p + n else q + n) ≡ p + n
+    head true e = refl
+    head false e = let back : p ≤ q = ltb-false q p e in omega arith
+
+start_kept : (q r : ℕ) → after_delete q r 0 ≡ 0
+start_kept q r = rw (le-leb 0 q (omega arith)) refl
+
+end_falls : (q r p : ℕ) → q < r → r ≤ p → after_delete q r p ≡ p - (r - q)
+end_falls q r p h k = rw (before, behind) refl
+  where
+    before : nat_le p q ≡ false
+    before = lt-leb p q (omega arith)
+    behind : nat_lt p r ≡ false
+    behind = le-ltb p r k
+
+-- BUFFERS
+abbrev Same : Buffer → Buffer → Type 0
+Same a b = a ≡ b
+
+same_buffer : {text text' : List Cell} {begin begin' end end' point point' : ℕ} {modified : Bool} {undo : Undo} → text ≡ text' → begin ≡ begin' → end ≡ end' → point ≡ point' →
+    Same (record { text = text; begin = begin; end = end; point = point; modified = modified; undo = undo }) (record { text = text'; begin = begin'; end = end'; point = point'; modified = modified; undo = undo })
+same_buffer {modified = modified} {undo = undo} a b c d = λ i. record { text = a i; begin = b i; end = c i; point = d i; modified = modified; undo = undo }
+
+bare_spliced : (text piece : List Ch) (p q : ℕ) → take p (bare text) ++ (bare piece ++ drop q (bare text)) ≡ bare (take p text ++ (piece ++ drop q text))
+bare_spliced text piece p q =
+    rw (map-append {B = Cell} (λ c. (c, [])) (take p text) (piece ++ drop q text), map-append {B = Cell} (λ c. (c, [])) piece (drop q text), take-map {Y = Cell} (λ c. (c, [])) p text, drop-map {Y = Cell} (λ c. (c, [])) q text) refl
+
+pub inserted_content : (c : Content) (u : Undo) (x : Ch) (more : List Ch) → c.point ≤ length c.text →
+    (put (buffer_with c u) c.point c.point (bare (x ∷ more)) true).buffer ≡ buffer_with (inserted (x ∷ more) c) (put (buffer_with c u) c.point c.point (bare (x ∷ more)) true).buffer.undo
+inserted_content c u x more h =
+    let n : length (bare (x ∷ more)) ≡ length (x ∷ more) = length-map (x ∷ more) (λ d. (d, [])) in
+    let begins = start_stays c.point (length (bare (x ∷ more))) in
+    let ends : after_insert c.point (length (bare (x ∷ more))) true (length c.text) ≡ length c.text + length (x ∷ more) = end_moves c.point (length (bare (x ∷ more))) (length c.text) h ∙ ap (λ k. length c.text + k) n in
+    let size : length (inserted (x ∷ more) c).text ≡ length c.text + length (x ∷ more) =
+          omega (arith, length-append (take c.point c.text) ((x ∷ more) ++ drop c.point c.text), length-append (x ∷ more) (drop c.point c.text), length-take c.point c.text, length-drop c.point c.text) in
+    let clipped : clip 0 (length c.text + length (x ∷ more)) (c.point + length (x ∷ more)) ≡ c.point + length (x ∷ more) = omega arith in
+    let point : clip (after_insert c.point (length (bare (x ∷ more))) false 0) (after_insert c.point (length (bare (x ∷ more))) true (length c.text)) (c.point + length (bare (x ∷ more))) ≡ c.point + length (x ∷ more) =
+          rw (begins, ends, n) clipped in
+    same_buffer (bare_spliced c.text (x ∷ more) c.point c.point) begins (ends ∙ sym size) point
+
+pub insertion_pops : (c : Content) (u : Undo) (x : Ch) (more : List Ch) →
+    committed_state (put (buffer_with c u) c.point c.point (bare (x ∷ more)) true) ≡ plain_state (put (buffer_with c u) c.point c.point (bare (x ∷ more)) true).buffer
+insertion_pops c u x more = refl
+
+pub deleted_content : (c : Content) (u : Undo) (from to : ℕ) → from < to → to ≤ length c.text → c.point ≤ length c.text →
+    (put (buffer_with c u) from to [] false).buffer ≡ buffer_with (deleted from to c) (put (buffer_with c u) from to [] false).buffer.undo
+deleted_content c u from to h k l =
+    let apart : (from == to) ≡ false = ne_eqb from to (λ e. omega arith) in
+    let size : length (deleted from to c).text ≡ length c.text - (to - from) = omega (arith, length-append (take from c.text) (drop to c.text), length-take from c.text, length-drop to c.text) in
+    rw apart (same_buffer (bare_spliced c.text [] from to) (start_kept from to) (end_falls from to (length c.text) h k ∙ sym size) refl)
+
+pub deletion_pops : (c : Content) (u : Undo) (from to : ℕ) → from < to →
+    committed_state (put (buffer_with c u) from to [] false) ≡ plain_state (put (buffer_with c u) from to [] false).buffer
+deletion_pops c u from to h =
+    let apart : (from == to) ≡ false = ne_eqb from to (λ e. omega arith) in
+    rw apart refl
