@@ -14,7 +14,7 @@ pub use arguments::argument;
 pub use call::{Arg, Args, Call};
 pub use fault::Fault;
 pub use form::{Form, Forms};
-pub use primitive::{Primitive, Primitive as Prim, MOST_ARGUMENTS};
+pub use primitive::{MOST_ARGUMENTS, Primitive, Primitive as Prim};
 pub use reply::{Replies, Reply};
 pub use script::{HandlerDef, HandlerDefs, Script};
 pub use value::{Value, Values};

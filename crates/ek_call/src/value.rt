@@ -1,12 +1,11 @@
 //! Values.
-ghost use Rattle.std.specs.Prelude.{◌≡◌, IfOk, IfSome, is_some, map, []};
-ghost use Rattle.editor_model.specs.Arguments.{is_string, is_integer, is_symbol, string_of};
-ghost use Rattle.editor_model.specs.Values.{Int as number, Sym as symbol, is_nil};
+ghost use Rattle.std.specs.Prelude.{◌≡◌, IfOk, IfSome, is_some, map};
+ghost use Rattle.editor_model.specs.Arguments.{is_string, is_integer, is_symbol};
+ghost use Rattle.editor_model.specs.Values.{Int as number, Sym as symbol, Str as string, is_nil};
 ghost use Rattle.ek_types.specs.Listing.{items_of};
 ghost use Rattle.ek_call.specs.Meaning.{view};
 
-use ek_types::{Chars, Copied, ListOf, Mem, Sym};
-use std::alloc::Global;
+use ek_types::{Copied, ListOf, Mem, Piece, Sym};
 
 /// Values in order, counted from 0.
 pub type Values = ListOf<Value>;
@@ -18,7 +17,7 @@ pub enum Value {
     T,
     Int(i64),
     Sym(Sym),
-    Str(Chars),
+    Str(Piece),
     List(Values),
     /// A list with a tail, which only the undo list of a buffer holds.
     Dot(Values, Box<Value>),
@@ -62,9 +61,9 @@ impl Value {
     }
 
     /// The string, where the value is one.
-    pub fn string(&self) -> Option<&Chars>
+    pub fn string(&self) -> Option<&Piece>
         ensures kind { is_some result ≡ is_string (view self.now) }
-        ensures value { IfSome result (λ s. string_of (view self.now) ≡ map (λ c. (c, [])) s.now.items) }
+        ensures value { IfSome result (λ s. view self.now ≡ string s.now) }
     {
         match self {
             Value::Str(text) => Some(text),
