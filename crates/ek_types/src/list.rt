@@ -45,6 +45,11 @@ impl<T> ListOf<T> {
         }
     }
 
+    /// The allocator that the list keeps.
+    pub fn allocator(&self) -> Global {
+        *self.items.allocator()
+    }
+
     pub fn len(&self) -> usize
         ensures { result ≡ length (items_of self.now) }
     {
