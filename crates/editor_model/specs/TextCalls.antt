@@ -1,5 +1,5 @@
 -- The calls on point, on the text and on the accessible portion of a buffer.
-use Rattle.std.specs.Prelude.{ℕ, ◌+◌, ◌-◌, pos, Bool, true, false, ◌&&◌, not, ◌==◌, nat_lt, nat_le, min, max, List, [], ◌∷◌, ◌++◌, map, length, slice_get, if◌then◌else◌, Option, Some, None, option_map}
+use Rattle.std.specs.Prelude.{ℕ, ◌-◌, pos, Bool, true, false, ◌&&◌, not, ◌==◌, nat_lt, nat_le, min, max, List, [], ◌∷◌, ◌++◌, map, length, slice_get, if◌then◌else◌, Option, Some, None, option_map}
 use Rattle.text_model.specs.Characters.{code}
 use Rattle.text_model.specs.Properties.{Cell, PropSet, part, put_all}
 use Rattle.text_model.specs.Places.{clip}

@@ -44,4 +44,3 @@ pub record BrokenOff (program : Program) (bound : ℕ) (script : Script) (exchan
   pub exchanges_are : exchanges ≡ made ++ kills
   pub killed : AreKills (living made) kills
   pub bytes : IsPrefixOf written (lines said)
-
