@@ -1,4 +1,6 @@
--- The calls that concern hooks and processes: what each refuses, and its next step.
+-- The step of a call. Calls on the editor go by its table; those that concern hooks and processes stand here. GNU Emacs
+-- Lisp Reference Manual, sections "Asynchronous Processes", "Deleting Processes", "Process Information",
+-- "Input to Processes", "Accepting Output".
 use Rattle.std.specs.Prelude.{ℕ, ◌+◌, pos, Bool, true, false, not, ◌==◌, List, [], ◌∷◌, ◌++◌, map, filter, length, drop, if◌then◌else◌, Option, Some, None}
 use Rattle.std.specs.List.{list_any, enumerate_from}
 use Rattle.text_model.specs.Marks.{Spot}

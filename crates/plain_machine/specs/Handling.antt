@@ -1,4 +1,6 @@
--- Handlers: how they are entered, run and left.
+-- Handlers: how they are entered, run and left. A handler is a filter or sentinel of a process or a hook function of a
+-- buffer: a body of the script, a native, or the default one. GNU Emacs Lisp Reference Manual, sections "Filter Functions",
+-- "Sentinels", "Change Hooks".
 use Rattle.std.specs.Prelude.{ℕ, ◌+◌, ◌-◌, Bool, true, false, nat_lt, List, [], ◌∷◌, ◌++◌, map, length, drop, codes, Option, Some, None, unwrap_or}
 use Rattle.text_model.specs.Characters.{Ch, Scalar}
 use Rattle.text_model.specs.Properties.{Cell}

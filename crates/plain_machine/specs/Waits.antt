@@ -1,4 +1,5 @@
--- Waits, deletions and the end of a run.
+-- Waits, deletions and the end of a run: all steps that ask a running child. GNU Emacs Lisp Reference Manual, sections
+-- "Accepting Output", "Filter Functions", "Decoding Output", "Sentinels", "Deleting Processes".
 use Rattle.std.specs.Prelude.{ℕ, zero, suc, ◌+◌, ℤ, pos, negsuc, Bool, true, false, ◌&&◌, ◌||◌, not, ◌==◌, nat_lt, nat_le, List, [], ◌∷◌, ◌++◌, map, filter, length, drop, codes, decimal, Option, Some, None}
 use Rattle.std.specs.List.{enumerate_from, list_all}
 use Rattle.text_model.specs.Characters.{Ch, Scalar}
