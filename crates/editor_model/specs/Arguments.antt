@@ -1,4 +1,5 @@
 -- What the arguments of a call are, and the tests on them.
+-- Positions count from 1 in arguments and answers, and places from 0 inside a text; `place` goes from the one to the other.
 use Rattle.std.specs.Prelude.{ℕ, ◌+◌, ◌-◌, ℤ, pos, Bool, true, false, ◌&&◌, ◌||◌, not, ◌==◌, nat_le, nat_lt, min, max, List, [], map, length, slice_get, Option, Some, None, is_some, unwrap_or}
 use Rattle.text_model.specs.Properties.{Cell, PropVal}
 use Rattle.text_model.specs.Marks.{Spot}

@@ -1,4 +1,5 @@
--- The calls on buffers.
+-- The calls on buffers. GNU Emacs Lisp Reference Manual, sections "Current Buffer", "Buffer Names",
+-- "Buffer Modification", "Buffer List", "Creating Buffers".
 use Rattle.std.specs.Prelude.{ℕ, [], ◌∷◌, map, length, Option, Some, None}
 use Rattle.editor_model.specs.Values.{Value, Nil, Str, TheBuffer, list, plain, truth, WrongType, Reply, Answered, Refused}
 use Rattle.editor_model.specs.Editor.{Editor, Name, Live, live, is_live, find, live_from, buffer_at, change_buffer, with_buffer, renamed, free_name, others}

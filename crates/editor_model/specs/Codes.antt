@@ -1,4 +1,5 @@
--- How the logic stores values: what a model that holds values is asked for.
+-- How the logic stores values: what a model that holds values is asked for. Nothing here is about editors; a reader may
+-- pass over it.
 use Rattle.std.specs.Prelude.{◌≡◌, ◌⊎◌, ℕ, zero, suc, ℤ, pos, List, [], ◌∷◌, refl}
 use Rattle.std.proofs.Common.{ap, inl, inr}
 use Rattle.std.specs.Coded.{Coded, code_by, coded_ℕ, coded_ℤ, coded_list, coded×, coded⊎}

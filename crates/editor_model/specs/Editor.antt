@@ -1,4 +1,5 @@
--- The editor: all buffers, the current one, what moves with them, and the registers.
+-- The editor: all buffers, the current one, what moves with them, and the registers; and the small changes of them
+-- that calls are made of. GNU Emacs Lisp Reference Manual, chapters "Buffers" and "Markers".
 use Rattle.std.specs.Prelude.{ℕ, zero, suc, ◌+◌, Bool, true, false, ◌==◌, List, [], ◌∷◌, ◌++◌, map, length, codes, decimal, slice_get, slice_set, if◌then◌else◌, Option, Some, None, is_some, unwrap_or}
 use Rattle.text_model.specs.Characters.{Ch, Scalar}
 use Rattle.text_model.specs.Properties.{same_list, same_ch}

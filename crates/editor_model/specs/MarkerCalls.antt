@@ -1,4 +1,4 @@
--- The calls on markers.
+-- The calls on markers. GNU Emacs Lisp Reference Manual, chapter "Markers".
 use Rattle.std.specs.Prelude.{ℕ, Bool, false, [], ◌∷◌, length, Option, Some, None, option_map}
 use Rattle.text_model.specs.Marks.{Spot}
 use Rattle.text_model.specs.Places.{clip}

@@ -1,4 +1,5 @@
--- The calls on overlays.
+-- The calls on overlays. GNU Emacs Lisp Reference Manual, sections "Managing Overlays", "Overlay Properties",
+-- "Finding Overlays".
 use Rattle.std.specs.Prelude.{ℕ, ◌+◌, pos, min, max, List, [], ◌∷◌, map, length, Option, Some, None}
 use Rattle.text_model.specs.Properties.{PropSet, PropVal, get, put}
 use Rattle.text_model.specs.Places.{clip}

@@ -1,4 +1,5 @@
--- The table of the calls on buffers, texts, markers, properties, overlays and undo.
+-- The table of the calls on buffers, texts, markers, properties, overlays and undo: the editor without handlers and
+-- processes. The calls that concern those stand in the machine.
 use Rattle.std.specs.Prelude.{true, false, List}
 use Rattle.editor_model.specs.Values.{Value, TheBuffer, at_place, truth, WrongType, Reply, Answered, Refused, Prim, CurrentBuffer, SetBuffer, GetBuffer, GetBufferCreate, GenerateNewBuffer, RenameBuffer, BufferLiveP, BufferName, BufferList, BufferModifiedP, SetBufferModifiedP, PointAt, PointMin, PointMax, BufferSize, BufferNarrowedP, GotoChar, CharAfter, BufferString, BufferSubstring, BufferSubstringNoProperties, Insert, InsertAndInherit, InsertBeforeMarkers, InsertBeforeMarkersAndInherit, InsertBufferSubstring, DeleteRegion, DeleteAndExtractRegion, EraseBuffer, NarrowToRegion, Widen, MakeMarker, PointMarker, CopyMarker, SetMarker, MarkerPosition, MarkerBuffer, MarkerInsertionType, SetMarkerInsertionType, GetTextProperty, TextPropertiesAt, PutTextProperty, AddTextProperties, RemoveTextProperties, SetTextProperties, NextPropertyChange, NextSinglePropertyChange, PreviousPropertyChange, PreviousSinglePropertyChange, TextPropertyAny, TextPropertyNotAll, MakeOverlay, OverlayStart, OverlayEnd, OverlayBuffer, OverlayPut, OverlayGet, OverlayProperties, MoveOverlay, DeleteOverlay, OverlaysAt, OverlaysIn, GetCharProperty, NextOverlayChange, PreviousOverlayChange, UndoBoundary, UndoStart, UndoMore, BufferUndoList, BufferDisableUndo, BufferEnableUndo}
 use Rattle.editor_model.specs.Editor.{Editor, here}

@@ -1,5 +1,7 @@
--- The calls on point, on the text and on the accessible portion of a buffer.
-use Rattle.std.specs.Prelude.{ℕ, ◌+◌, ◌-◌, pos, Bool, true, false, ◌&&◌, not, ◌==◌, nat_lt, nat_le, min, max, List, [], ◌∷◌, ◌++◌, map, length, slice_get, if◌then◌else◌, Option, Some, None, option_map}
+-- The calls on point, on the text and on the accessible portion of a buffer. GNU Emacs Lisp Reference Manual, sections
+-- "Point", "Narrowing", "Near Point", "Buffer Contents", "Insertion", "Deletion"; for what an insertion inherits
+-- "Sticky Properties"; for a process's output "Filter Functions".
+use Rattle.std.specs.Prelude.{ℕ, ◌-◌, pos, Bool, true, false, ◌&&◌, not, ◌==◌, nat_lt, nat_le, min, max, List, [], ◌∷◌, ◌++◌, map, length, slice_get, if◌then◌else◌, Option, Some, None, option_map}
 use Rattle.text_model.specs.Characters.{code}
 use Rattle.text_model.specs.Properties.{Cell, PropSet, part, put_all}
 use Rattle.text_model.specs.Places.{clip}

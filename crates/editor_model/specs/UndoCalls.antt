@@ -1,4 +1,4 @@
--- The calls on undo records.
+-- The calls on undo records. GNU Emacs Lisp Reference Manual, sections "Undo" and "Maintaining Undo".
 use Rattle.std.specs.Prelude.{ℕ, pos, Bool, true, false, not, nat_lt, nat_le, ◌&&◌, List, [], ◌∷◌, map, length, is_some}
 use Rattle.text_model.specs.Undo.{Undo, Entry, Rec, Boundary, Point, Inserted, Deleted, Prop, First, Moved, with_boundary, started, disabled, enabled, pending, undone, trial}
 use Rattle.text_model.specs.Commit.{Buffer}

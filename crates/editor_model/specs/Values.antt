@@ -1,10 +1,13 @@
--- What calls take and answer, and the forms of a script.
+-- What calls take and answer, the forms of a script, and the faults that a call can meet.
+-- Read this first: all files of the editor and of its machine speak of these types. An object in a value is its number,
+-- in the order in which such objects were made; a symbol is its number in the run's list of names.
 use Rattle.std.specs.Prelude.{ℕ, ◌+◌, ℤ, pos, Bool, true, false, ◌&&◌, ◌==◌, List, [], ◌∷◌, map, if◌then◌else◌, Option, Some, None}
 use Rattle.std.specs.List.{list_any}
 use Rattle.std.specs.Ordering.{int_eq}
 use Rattle.text_model.specs.Characters.{Ch}
 use Rattle.text_model.specs.Properties.{Cell, same_list, same_ch, PropVal, PropSet, Truth, Number, Symbol, Symbols, Text}
 
+-- `Items` is a list that isn't empty; `Dotted` a list with a tail
 mutual
   pub data Value : Type 0 where
     Nil : Value
@@ -124,9 +127,11 @@ as_pairs Nil = Some []
 as_pairs (Items vs) = pairs_of (items vs)
 as_pairs _ = None
 
+-- why a call is refused
 pub data Fault : Type 0 where
   ArgsOutOfRange WrongType VoidVariable NoSuchBuffer BufferKilled NoFurtherUndo UndoOutside UndoDisabled NoSuchProcess ProcessEnded BrokenPipe SpawnFailed Nesting ExchangesSpent BufferFull TooMany : Fault
 
+-- what a call comes to
 pub data Reply : Type 0 where
   Answered : Value → Reply
   Refused : Fault → Reply
@@ -159,6 +164,8 @@ pub data Prim : Type 0 where
   ProcessExitStatus ProcessFilter ProcessSentinel SetProcessFilter SetProcessSentinel SetProcessBuffer : Prim
   ProcessSendString ProcessSendEof DeleteProcess AcceptProcessOutput : Prim
 
+-- FORMS
+-- an argument of a call: a constant, or a name, which stands for a parameter or a register
 pub data Arg : Type 0 where
   Const : Value → Arg
   Name : ℕ → Arg
@@ -170,6 +177,7 @@ pub record Call : Type 0 where
 pub data Block : Type 0 where
   SaveExcursion SaveRestriction SaveCurrentBuffer InhibitHooks : Block
 
+-- a call; a call whose answer is kept under a name; a block; forms that are done where two arguments are equal
 mutual
   pub data Form : Type 0 where
     Do : Call → Form

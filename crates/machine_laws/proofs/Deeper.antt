@@ -6,14 +6,13 @@ use Rattle.std.specs.List.{list_any}
 use Rattle.editor_model.specs.Values.{Value, Nesting, WrongType, ArgsOutOfRange, Fault, Prim, KillBuffer, DeleteProcess, AcceptProcessOutput}
 use Rattle.editor_model.specs.Arguments.{arg, buffer_of, must_be_buffer_or_nil, buffer_there}
 use Rattle.editor_model.specs.Answers.{Test, refuse, first_fault}
-use Rattle.editor_model.specs.Prims.{Q, S, C, P, manner_of}
-use Rattle.editor_model.specs.Table.{query, apply, prepare}
+use Rattle.editor_model.specs.Prims.{OnlyAsks, SetsState, ChangesText, ConcernsHandlers, manner_of}
 use Rattle.plain_machine.specs.Exchanges.{Exchange}
 use Rattle.plain_machine.specs.State.{State, Program}
 use Rattle.plain_machine.specs.Items.{Item, MakeCall, Refuse, Target, Said, Config, Next, Step, Goes, Asks, Ended}
 use Rattle.plain_machine.specs.Arguments.{process_of, is_running, running_in}
 use Rattle.plain_machine.specs.Refusals.{process_tests, must_nest, only_where, must_be_process, must_be_process_or_nil, must_be_replaceable, process_there, is_rounds, rounds_of, most_rounds}
-use Rattle.plain_machine.specs.Calls.{on, answered, unless, call, process_call, process_effect, set_call, change_call}
+use Rattle.plain_machine.specs.Calls.{on, unless, call, process_effect, call_by, unless_fault}
 use Rattle.plain_machine.specs.Step.{step, item_step}
 use Rattle.plain_machine.specs.Run.{Reaches, stays, goes, asks}
 use Rattle.machine_laws.specs.Laws.{is_nesting, IsNesting, SameDeeper}
@@ -59,18 +58,18 @@ module _ (program : Program) (bound deeper : ℕ) (more : bound ≤ deeper) wher
     refused : (s : State) (rest : List Item) → t ≡ on s (Refuse Nesting ∷ rest) → Beside c t u
 
   unless_beside : (c : Config) (s : State) (rest : List Item) (step : Step) (first second : List Test) → Alike (first_fault first) (first_fault second) → Beside c (unless first s rest step) (unless second s rest step)
-  unless_beside c s rest step first second (same e) = equal (ap (λ (o : Option Fault). elim o [ Some f ↦ on s (Refuse f ∷ rest) | None ↦ step ]) e)
-  unless_beside c s rest step first second (nesting e) = refused s rest (ap (λ (o : Option Fault). elim o [ Some f ↦ on s (Refuse f ∷ rest) | None ↦ step ]) e)
+  unless_beside c s rest step first second (same e) = equal (ap (λ (o : Option Fault). unless_fault o s rest step) e)
+  unless_beside c s rest step first second (nesting e) = refused s rest (ap (λ (o : Option Fault). unless_fault o s rest step) e)
 
   call_beside : (c : Config) (s : State) (target : Target) (rest : List Item) (prim : Prim) (args : List Value) → Beside c (call program bound s target rest prim args) (call program deeper s target rest prim args)
   call_beside c s target rest prim args =
       (elim (manner_of prim) as (λ m. Beside c
-      (elim m [ Q ↦ answered s target (query s.editor prim args) rest | S ↦ set_call s target rest (apply s.editor prim args) | C ↦ change_call s target rest (prepare s.editor prim args) | P ↦ process_call program bound s target rest prim args ])
-      (elim m [ Q ↦ answered s target (query s.editor prim args) rest | S ↦ set_call s target rest (apply s.editor prim args) | C ↦ change_call s target rest (prepare s.editor prim args) | P ↦ process_call program deeper s target rest prim args ])) [
-        | Q ↦ equal refl
-        | S ↦ equal refl
-        | C ↦ equal refl
-        | P ↦ unless_beside c s rest (process_effect s target rest prim args) (process_tests program bound s prim args) (process_tests program deeper s prim args) (tests_alike s prim args)
+      (call_by m program bound s target rest prim args)
+      (call_by m program deeper s target rest prim args)) [
+        | OnlyAsks ↦ equal refl
+        | SetsState ↦ equal refl
+        | ChangesText ↦ equal refl
+        | ConcernsHandlers ↦ unless_beside c s rest (process_effect s target rest prim args) (process_tests program bound s prim args) (process_tests program deeper s prim args) (tests_alike s prim args)
       ])
 
   step_beside : (c : Config) → Beside c (step program bound c) (step program deeper c)

@@ -1,27 +1,27 @@
 -- How deep handlers nest: one level more than the bound, by hook functions.
 use Rattle.std.proofs.Common.{◌≡◌, ℕ, zero, suc, ◌+◌, ◌-◌, ◌<◌, ◌≤◌, Bool, true, false, List, [], ◌∷◌, ◌++◌, length, map, refl, sym, ◌∙◌, subst, arith}
-use Rattle.std.specs.Prelude.{pos, Option, Some, None, ◌&&◌, ◌||◌, nat_lt, nat_le, drop, codes, unwrap_or, slice_set}
+use Rattle.std.specs.Prelude.{pos, Option, Some, None, ◌&&◌, ◌||◌, nat_lt, nat_le, drop, codes, slice_set}
 use Rattle.text_model.specs.Characters.{Ch}
 use Rattle.text_model.specs.Decoding.{characters, all_characters}
 use Rattle.text_model.specs.Marks.{Saved, Excursion, Restriction, Pending}
 use Rattle.text_model.specs.Properties.{Cell}
-use Rattle.editor_model.specs.Values.{Value, Nil, T, Int, ExchangesSpent, VoidVariable, ArgsOutOfRange, WrongType, Nesting, at_place, Reply, Answered, Fault, Prim, StartProcess, KillBuffer, SetProcessFilter, SetProcessSentinel, SetProcessBuffer, ProcessSendString, ProcessSendEof, DeleteProcess, AcceptProcessOutput, Form, Forms, NoForms, Then, Do, Setq, In, WhenEq, Block, SaveExcursion, SaveRestriction, SaveCurrentBuffer, InhibitHooks, HandlerDef, equal, Script}
+use Rattle.editor_model.specs.Values.{Value, Nil, T, Int, ArgsOutOfRange, WrongType, Nesting, at_place, Reply, Answered, Fault, Prim, StartProcess, KillBuffer, SetProcessFilter, SetProcessSentinel, SetProcessBuffer, ProcessSendString, ProcessSendEof, DeleteProcess, AcceptProcessOutput, Form, Forms, NoForms, Then, Do, Setq, In, WhenEq, Block, SaveExcursion, SaveRestriction, SaveCurrentBuffer, InhibitHooks, HandlerDef, equal, Script}
 use Rattle.editor_model.specs.Editor.{register, with_register, is_live, killed}
 use Rattle.editor_model.specs.Arguments.{arg, string_of, buffer_of, must_be_buffer_or_nil, buffer_there}
 use Rattle.editor_model.specs.Answers.{Test, refuse, first_fault}
 use Rattle.editor_model.specs.TextCalls.{prepare_output}
 use Rattle.editor_model.specs.Table.{Change, Commit, query, apply, prepare, Prepared, Changes, Quiet, Nothing, Barred, Done, Failed, commit}
-use Rattle.editor_model.specs.Prims.{Q, S, C, P, manner_of}
-use Rattle.plain_machine.specs.Exchanges.{Ask, Read, AskEnd, Kill, Answer, Started, Sent, Broken, Closed, Killed, Bytes, End, Code, Signal, Running, Exchange}
+use Rattle.editor_model.specs.Prims.{OnlyAsks, SetsState, ChangesText, ConcernsHandlers, manner_of}
+use Rattle.plain_machine.specs.Exchanges.{Ask, Answer, Started, Sent, Broken, Closed, Killed, Bytes, End, Code, Signal, Running, Exchange}
 use Rattle.plain_machine.specs.State.{State, hooks_of, Program, Process, Status, Runs, Exited, Signalled, Lost, process, change_process}
 use Rattle.plain_machine.specs.Lines.{Kind, KilledLast, OfBefore, OfAfter, OfFilter, OfSentinel}
 use Rattle.plain_machine.specs.Items.{Item, Top, Body, DoForm, MakeCall, Leave, GiveAnswer, Refuse, MakeChange, Hooks, Calm, CommitChange, Enter, Native, Called, Exit, Wait, Delete, Finish, WriteDump, Target, Nowhere, ToName, ToNative, Kept, KeptExcursion, KeptRestriction, KeptBuffer, KeptInhibition, Waiting, Config, Said, Next, Step, Goes, Asks, Ended}
-use Rattle.plain_machine.specs.Calls.{silent, on, answered, unless, call, process_call, process_effect, spawned, started, is_new_child, sent_answer, closed_answer, with_input_closed, with_filter, with_sentinel, of_buffer, process_buffer, send, send_eof, set_call, change_call, with_editor}
+use Rattle.plain_machine.specs.Calls.{silent, on, answered, unless, call, process_effect, spawned, started, is_new_child, sent_answer, closed_answer, with_input_closed, with_filter, with_sentinel, of_buffer, process_buffer, send, send_eof, change_call, with_editor, call_by, spawned_child, unless_fault}
 use Rattle.plain_machine.specs.Refusals.{process_tests, may_ask, must_be_replaceable, must_be_process, must_be_process_or_nil, process_there, must_nest, only_where, is_rounds, rounds_of, most_rounds}
-use Rattle.plain_machine.specs.Arguments.{process_of, filter_of, sentinel_of, child_of, is_closed, is_running, encoded, handler_def, native_from, running_in, runs}
-use Rattle.plain_machine.specs.Forms.{dropped, restored, pop, put_back, with_saved, saved_of, if_live, evaluate, do_form, block, assigned, scope_of, give, kept_reply, commit_change, at_kept, popped, bracket, current, says}
-use Rattle.plain_machine.specs.Handling.{mark_of_process, second, sentinel_words, plain_text, bound_params, unlisted, body_of, default_handler, put_in, output_in, process_buffer_of, native, native_call, left_state, ended_handler, without_hooks_item}
-use Rattle.plain_machine.specs.Waits.{ask_process, asked_more, read_answer, end_answer, drain, is_room, entry_of, counts, more_characters, exit_text, target_is_eligible, from_eligible, eligible, delete, kill_answer, ends, kill_at_end, finish, wait}
+use Rattle.plain_machine.specs.Arguments.{process_of, filter_of, sentinel_of, child_of, is_closed, is_running, encoded, handler_def, running_in, runs}
+use Rattle.plain_machine.specs.Forms.{dropped, restored, pop, put_back, with_saved, saved_of, if_live, evaluate, do_form, block, assigned, scope_of, give, kept_reply, commit_change, at_kept, popped, bracket, current, says, after_commit, call_with, when_eq}
+use Rattle.plain_machine.specs.Handling.{mark_of_process, second, sentinel_words, plain_text, bound_params, unlisted, body_of, default_handler, put_in, output_in, process_buffer_of, native, left_state, ended_handler, without_hooks_item, named_body, native_next}
+use Rattle.plain_machine.specs.Waits.{ask_process, asked_more, read_answer, end_answer, drain, is_room, entry_of, counts, more_characters, exit_text, target_is_eligible, from_eligible, eligible, delete, kill_answer, ends, kill_at_end, finish, wait, ask_if, ask_next, delete_one, delete_running, hear, kill_live, wait_case, finish_one, finish_running}
 use Rattle.plain_machine.specs.Step.{step, item_step}
 use Rattle.plain_machine.specs.Run.{Reaches, start}
 use Rattle.machine_laws.specs.Laws.{Shallow}
@@ -187,7 +187,7 @@ module _ (program : Program) (bound : ℕ) where
     unless_does : (tests : List Test) (t : Step) → (first_fault tests ≡ None → Does t) → Does (unless tests s rest t)
     unless_does tests t h = go (first_fault tests) refl
       where
-        go : (o : Option Fault) → first_fault tests ≡ o → Does (elim o [ Some f ↦ on s (Refuse f ∷ rest) | None ↦ t ])
+        go : (o : Option Fault) → first_fault tests ≡ o → Does (unless_fault o s rest t)
         go None e = h e
         go (Some f) e = whole (q, tt, r)
 
@@ -217,7 +217,7 @@ module _ (program : Program) (bound : ℕ) where
     spawn_does : (target : Target) (name b : Value) (words : List ℕ) (more : List (List ℕ)) → Does (Asks (Ask.Spawn words more) (spawned s target rest name b))
     spawn_does target name b words more = go
       where
-        made : (child : ℕ) (new : Bool) (x : Next) → elim new [ false ↦ None | true ↦ Some (silent (started s name b child) (GiveAnswer (Value.TheProcess (length s.processes)) target ∷ rest)) ] ≡ Some x → Good x.config
+        made : (child : ℕ) (new : Bool) (x : Next) → spawned_child new s target rest name b child ≡ Some x → Good x.config
         made child false x e = cc
         made child true x e = given (silent (started s name b child) (GiveAnswer (Value.TheProcess (length s.processes)) target ∷ rest)) x (whole (q, tt, r)) e
 
@@ -236,11 +236,11 @@ module _ (program : Program) (bound : ℕ) where
     body_does SaveCurrentBuffer forms = whole (q, tt, (q, tt, r))
     body_does InhibitHooks forms = let t : Room bound true s.depth = room_true bound s.inhibited s.depth q in whole (t, tt, (t, tt, r))
 
-    evaluated_does : (o : Option (List Value)) (prim : Prim) (target : Target) → Does (elim o [ None ↦ on s (Refuse VoidVariable ∷ rest) | Some args ↦ on s (MakeCall prim args target ∷ rest) ])
+    evaluated_does : (o : Option (List Value)) (prim : Prim) (target : Target) → Does (call_with o prim target s rest)
     evaluated_does None prim target = whole (q, tt, r)
     evaluated_does (Some args) prim target = whole (q, tt, r)
 
-    pair_does : (o : Option (List Value)) (forms : Forms) → Does (elim o [ Some (x ∷ y ∷ []) ↦ (elim (equal x y) [ true ↦ on s (Body forms ∷ rest) | false ↦ on s rest ]) | _ ↦ on s (Refuse VoidVariable ∷ rest) ])
+    pair_does : (o : Option (List Value)) (forms : Forms) → Does (when_eq o forms s rest)
     pair_does None forms = whole (q, tt, r)
     pair_does (Some []) forms = whole (q, tt, r)
     pair_does (Some (x ∷ [])) forms = whole (q, tt, r)
@@ -270,7 +270,7 @@ module _ (program : Program) (bound : ℕ) where
         last y e = given _ y (entry_does (change_process p (λ y. record y { drained = true }) (asked_more s)) p x (more_characters (characters x.bytes) (all_characters x.bytes)) (Wait w target ∷ rest)
             (change_same p (λ y. record y { drained = true }) (asked_more s)) (change_deep p (λ y. record y { drained = true }) (asked_more s)) l (q, l, r)) e
 
-        heard : (bytes : List ℕ) (b : Bool) (y : Next) → elim b [ false ↦ None | true ↦ Some (silent (change_process p (λ y. record y { bytes = x.bytes ++ bytes }) (asked_more s)) (entry_of s p x (more_characters (characters x.bytes) (characters (x.bytes ++ bytes))) (Wait (record w { counted = w.counted || counts w p }) target ∷ rest))) ] ≡ Some y → Good y.config
+        heard : (bytes : List ℕ) (b : Bool) (y : Next) → hear b s w target rest p x bytes ≡ Some y → Good y.config
         heard bytes false y e = cc
         heard bytes true y e = given _ y (entry_does (change_process p (λ y. record y { bytes = x.bytes ++ bytes }) (asked_more s)) p x (more_characters (characters x.bytes) (characters (x.bytes ++ bytes))) (Wait (record w { counted = w.counted || counts w p }) target ∷ rest)
             (change_same p (λ y. record y { bytes = x.bytes ++ bytes }) (asked_more s)) (change_deep p (λ y. record y { bytes = x.bytes ++ bytes }) (asked_more s)) l (q, l, r)) e
@@ -295,14 +295,11 @@ module _ (program : Program) (bound : ℕ) where
     ask_does : (w : Waiting) (target : Target) (p : ℕ) → s.depth < bound → Does (ask_process s w target rest p)
     ask_does w target p l = go (may_ask s) (process s p)
       where
-        which : (x : Process) (b : Bool) → Does (elim b [ false ↦ Asks (Read x.child) (read_answer s w target rest p x) | true ↦ Asks (AskEnd x.child) (end_answer s w target rest p x) ])
+        which : (x : Process) (b : Bool) → Does (ask_next b s w target rest p x)
         which x true = end_does w target p x l
         which x false = read_does w target p x l
 
-        go : (b : Bool) (o : Option Process) → Does (elim b [
-          | false ↦ on s (Refuse ExchangesSpent ∷ rest)
-          | true ↦ (elim o [ None ↦ on s rest | Some x ↦ (elim x.drained [ false ↦ Asks (Read x.child) (read_answer s w target rest p x) | true ↦ Asks (AskEnd x.child) (end_answer s w target rest p x) ]) ])
-        ])
+        go : (b : Bool) (o : Option Process) → Does (ask_if b o s w target rest p)
         go false o = whole (q, tt, r)
         go true None = whole r
         go true (Some x) = which x x.drained
@@ -310,19 +307,7 @@ module _ (program : Program) (bound : ℕ) where
     wait_does : (w : Waiting) (target : Target) → s.depth < bound → Does (wait s w target rest)
     wait_does w target l = go w.counted (target_is_eligible s w) (from_eligible s w w.asking) (eligible s w) w.rounds
       where
-        go : (counted fit : Bool) (asking all : List ℕ) (rounds : ℕ) → Does (elim counted [
-          | true ↦ on s (GiveAnswer T target ∷ rest)
-          | false ↦ (elim fit [
-            | false ↦ on s (GiveAnswer Nil target ∷ rest)
-            | true ↦ (elim asking [
-              | p ∷ more ↦ ask_process s (record w { asking = more }) target rest p
-              | [] ↦ (elim all [
-                | [] ↦ on s (GiveAnswer Nil target ∷ rest)
-                | p ∷ more ↦ (elim rounds [ zero ↦ on s (GiveAnswer Nil target ∷ rest) | suc n ↦ on s (Wait (record w { rounds = n; asking = p ∷ more }) target ∷ rest) ])
-              ])
-            ])
-          ])
-        ])
+        go : (counted fit : Bool) (asking all : List ℕ) (rounds : ℕ) → Does (wait_case counted fit asking all rounds s w target rest)
         go true fit asking all rounds = whole (q, tt, r)
         go false false asking all rounds = whole (q, tt, r)
         go false true (p ∷ more) all rounds = ask_does (record w { asking = more }) target p l
@@ -338,11 +323,11 @@ module _ (program : Program) (bound : ℕ) where
         killed x Answer.Failed y e = given _ y (ends_does s p x Signalled (codes "killed\n") rest refl refl l r) e
         killed x _ y e = cc
 
-        by_status : (x : Process) (k : Status) → Does (elim k [ Runs ↦ Asks (Kill x.child) (kill_answer (ends s p x Signalled (codes "killed\n") rest)) | _ ↦ on s rest ])
+        by_status : (x : Process) (k : Status) → Does (delete_running k s p x rest)
         by_status x Runs = killed x
         by_status x _ = whole r
 
-        go : (o : Option Process) → Does (elim o [ None ↦ on s rest | Some x ↦ (elim x.status [ Runs ↦ Asks (Kill x.child) (kill_answer (ends s p x Signalled (codes "killed\n") rest)) | _ ↦ on s rest ]) ])
+        go : (o : Option Process) → Does (delete_one s p o rest)
         go None = whole r
         go (Some x) = by_status x x.status
 
@@ -350,18 +335,18 @@ module _ (program : Program) (bound : ℕ) where
     deleted_does : (p : ℕ) → is_running s p ≡ false → Does (delete s p rest)
     deleted_does p h = go (process s p) h
       where
-        by_status : (x : Process) (k : Status) → runs k ≡ false → Does (elim k [ Runs ↦ Asks (Kill x.child) (kill_answer (ends s p x Signalled (codes "killed\n") rest)) | _ ↦ on s rest ])
+        by_status : (x : Process) (k : Status) → runs k ≡ false → Does (delete_running k s p x rest)
         by_status x Runs h = cc
         by_status x _ h = whole r
 
-        go : (o : Option Process) → (elim o [ None ↦ false | Some x ↦ runs x.status ]) ≡ false → Does (elim o [ None ↦ on s rest | Some x ↦ (elim x.status [ Runs ↦ Asks (Kill x.child) (kill_answer (ends s p x Signalled (codes "killed\n") rest)) | _ ↦ on s rest ]) ])
+        go : (o : Option Process) → (elim o [ None ↦ false | Some x ↦ runs x.status ]) ≡ false → Does (delete_one s p o rest)
         go None h = whole r
         go (Some x) h = by_status x x.status h
 
     kill_does : (b : ℕ) (target : Target) → Does (kill_at_end s b target rest)
     kill_does b target = go (is_live s.editor b)
       where
-        go : (v : Bool) → Does (elim v [ false ↦ on s (GiveAnswer Nil target ∷ rest) | true ↦ unless (must_be_replaceable s.editor b ∷ []) s rest (on (with_editor (killed b s.editor) s) (GiveAnswer T target ∷ rest)) ])
+        go : (v : Bool) → Does (kill_live v s b target rest)
         go false = whole (q, tt, r)
         go true = unless_does (must_be_replaceable s.editor b ∷ []) (on (with_editor (killed b s.editor) s) (GiveAnswer T target ∷ rest)) (λ e. whole (q, tt, r))
 
@@ -393,11 +378,11 @@ module _ (program : Program) (bound : ℕ) where
 
     call_does : (target : Target) (prim : Prim) (args : List Value) → Does (call program bound s target rest prim args)
     call_does target prim args =
-        (elim (manner_of prim) as (λ m. Does (elim m [ Q ↦ answered s target (query s.editor prim args) rest | S ↦ set_call s target rest (apply s.editor prim args) | C ↦ change_call s target rest (prepare s.editor prim args) | P ↦ process_call program bound s target rest prim args ])) [
-          | Q ↦ answered_does s target (query s.editor prim args) refl refl
-          | S ↦ answered_does (with_editor (apply s.editor prim args).editor s) target (apply s.editor prim args).reply refl refl
-          | C ↦ change_does target (prepare s.editor prim args)
-          | P ↦ unless_does (process_tests program bound s prim args) (process_effect s target rest prim args) (λ h. effect_does target prim args h)
+        (elim (manner_of prim) as (λ m. Does (call_by m program bound s target rest prim args)) [
+          | OnlyAsks ↦ answered_does s target (query s.editor prim args) refl refl
+          | SetsState ↦ answered_does (with_editor (apply s.editor prim args).editor s) target (apply s.editor prim args).reply refl refl
+          | ChangesText ↦ change_does target (prepare s.editor prim args)
+          | ConcernsHandlers ↦ unless_does (process_tests program bound s prim args) (process_effect s target rest prim args) (λ h. effect_does target prim args h)
         ])
 
     native_does : (i : ℕ) (args : List Value) (past : List Reply) → Does (native program s i args past rest)
@@ -407,7 +392,7 @@ module _ (program : Program) (bound : ℕ) where
         made true prim more f = whole (q, tt, (q, tt, r))
         made false prim more f = whole (q, tt, (q, tt, r))
 
-        go : (b : Bool) (o : Option (Prim × List Value)) → Does (elim b [ false ↦ on s rest | true ↦ (elim o [ None ↦ on s rest | Some c ↦ on s (native_call program s c ∷ Called i args past ∷ rest) ]) ])
+        go : (b : Bool) (o : Option (Prim × List Value)) → Does (native_next b o program s i args past rest)
         go false o = whole r
         go true None = whole r
         go true (Some c) = made (Rattle.plain_machine.specs.Natives.is_callable program s c) c.0 (map Rattle.plain_machine.specs.Natives.normal c.1) WrongType
@@ -423,10 +408,7 @@ module _ (program : Program) (bound : ℕ) where
   commit_does : (s : State) (c : Change) (rest : List Item) → Fits bound s.inhibited s.depth rest → Does (commit_change s c rest)
   commit_does s c rest r =
       let done : Commit = commit s.editor (at_kept c (saved_of s)) in
-      (elim done.committed as (λ k. Does (elim k [
-        | Failed f ↦ on (popped s) (Refuse f ∷ rest)
-        | Done from to old ↦ on (record (popped (with_editor done.editor s)) { inhibited = true }) (bracket s.inhibited (OfAfter c.buffer) (hooks_of s.hooks c.buffer).after (at_place from ∷ at_place to ∷ Int (pos old) ∷ []) rest)
-      ])) [
+      (elim done.committed as (λ k. Does (after_commit done.editor k s c rest)) [
         | Failed f ↦ whole (fits_room bound s.inhibited s.depth rest r, tt, r)
         | Done from to old ↦ whole (bracket_fits s.inhibited s.depth (OfAfter c.buffer) (hooks_of s.hooks c.buffer).after (at_place from ∷ at_place to ∷ Int (pos old) ∷ []) rest r)
       ])
@@ -456,10 +438,7 @@ module _ (program : Program) (bound : ℕ) where
     handler_does t kind None args e f = default_does (record t { scopes = [] ∷ t.scopes }) kind args e f
     handler_does t kind (Some name) args e f = go (handler_def program.handlers name)
       where
-        go : (o : Option HandlerDef) → Good (elim o [
-          | Some x ↦ record { state = record t { scopes = bound_params x.params args ∷ t.scopes }; work = Body x.body ∷ work }
-          | None ↦ record { state = record t { scopes = [] ∷ t.scopes }; work = Native (unwrap_or (native_from 0 program.natives name) 0) args [] ∷ work }
-        ])
+        go : (o : Option HandlerDef) → Good (named_body program t o name args (work))
         go None = at i d (record t { scopes = [] ∷ t.scopes }) _ e f (p, tt, h)
         go (Some x) = at i d (record t { scopes = bound_params x.params args ∷ t.scopes }) _ e f (p, tt, h)
 
@@ -487,11 +466,11 @@ module _ (program : Program) (bound : ℕ) where
       killed Answer.Failed y e = given told y (whole (room, tt, room)) e
       killed _ y e = cc
 
-      by_status : (x : Process) (k : Status) → Does (elim k [ Runs ↦ Asks (Kill x.child) (kill_answer told) | _ ↦ on s (Finish (n + 1) ∷ []) ])
+      by_status : (x : Process) (k : Status) → Does (finish_running program k s n x)
       by_status x Runs = killed
       by_status x _ = whole (room, tt, room)
 
-      go : (o : Option Process) → Does (elim o [ None ↦ on s (WriteDump ∷ []) | Some x ↦ (elim x.status [ Runs ↦ Asks (Kill x.child) (kill_answer told) | _ ↦ on s (Finish (n + 1) ∷ []) ]) ])
+      go : (o : Option Process) → Does (finish_one program s n o)
       go None = whole (room, tt, room)
       go (Some x) = by_status x x.status
 

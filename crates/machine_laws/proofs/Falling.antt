@@ -3,7 +3,7 @@ use Rattle.std.proofs.Common.{◌≡◌, ℕ, zero, suc, ◌+◌, ◌-◌, ◌*�
 use Rattle.std.proofs.lemmas.List.{append-nil, length-append, length-map}
 use Rattle.std.proofs.lemmas.List.Sums.{length-filter, count_by-le-length}
 use Rattle.std.proofs.lemmas.List.FromFn.{length-enumerate_from}
-use Rattle.std.specs.Prelude.{pos, Option, Some, None, ◌==◌, ◌&&◌, nat_lt, nat_le, drop, codes, filter, unwrap_or, slice_get, slice_set}
+use Rattle.std.specs.Prelude.{pos, Option, Some, None, ◌==◌, ◌&&◌, nat_lt, nat_le, drop, filter, unwrap_or, slice_get, slice_set}
 use Rattle.std.specs.List.{enumerate_from}
 use Rattle.text_model.specs.Marks.{Saved, Excursion, Restriction, Pending}
 use Rattle.text_model.specs.Properties.{Cell}
@@ -13,17 +13,16 @@ use Rattle.editor_model.specs.Arguments.{arg, string_of, buffer_of}
 use Rattle.editor_model.specs.Answers.{Test, refuse, first_fault}
 use Rattle.editor_model.specs.TextCalls.{prepare_output}
 use Rattle.editor_model.specs.Table.{Change, Commit, query, apply, prepare, Prepared, Changes, Quiet, Nothing, Barred, Done, Failed, commit}
-use Rattle.editor_model.specs.Prims.{Q, S, C, P, manner_of}
-use Rattle.plain_machine.specs.Exchanges.{Read, AskEnd, Kill}
-use Rattle.plain_machine.specs.State.{State, hooks_of, Program, Process, Status, Runs, Signalled, process, change_process}
-use Rattle.plain_machine.specs.Lines.{Kind, KilledLast, OfBefore, OfAfter, OfFilter, OfSentinel}
+use Rattle.editor_model.specs.Prims.{OnlyAsks, SetsState, ChangesText, ConcernsHandlers, manner_of}
+use Rattle.plain_machine.specs.State.{State, hooks_of, Program, Process, Status, Runs, process, change_process}
+use Rattle.plain_machine.specs.Lines.{Kind, OfBefore, OfAfter, OfFilter, OfSentinel}
 use Rattle.plain_machine.specs.Items.{Item, Top, Body, DoForm, MakeCall, Leave, GiveAnswer, Refuse, MakeChange, Hooks, Calm, CommitChange, Enter, Native, Called, Exit, Wait, Delete, Finish, WriteDump, Target, Nowhere, ToName, ToNative, Kept, KeptExcursion, KeptRestriction, KeptBuffer, KeptInhibition, Waiting, Config, Step, Goes, Asks, Ended}
-use Rattle.plain_machine.specs.Calls.{on, answered, unless, call, process_call, process_effect, waiting, with_filter, with_sentinel, of_buffer, process_buffer, send, send_eof, set_call, change_call, with_editor}
+use Rattle.plain_machine.specs.Calls.{on, answered, unless, call, process_effect, waiting, with_filter, with_sentinel, of_buffer, process_buffer, send, send_eof, change_call, with_editor, call_by, unless_fault}
 use Rattle.plain_machine.specs.Refusals.{process_tests, may_ask, must_be_replaceable, must_be_process_or_nil, process_there, must_nest, is_rounds, rounds_of, most_rounds}
 use Rattle.plain_machine.specs.Arguments.{process_of, filter_of, sentinel_of, child_of, is_closed, encoded, handler_def, native_from, running_in, runs, stands_in}
-use Rattle.plain_machine.specs.Forms.{dropped, restored, pop, put_back, with_saved, saved_of, if_live, evaluate, do_form, block, assigned, scope_of, give, kept_reply, commit_change, at_kept, popped, bracket, current}
-use Rattle.plain_machine.specs.Handling.{mark_of_process, second, sentinel_words, plain_text, bound_params, unlisted, body_of, default_handler, put_in, output_in, process_buffer_of, native, native_call, left_state, ended_handler, without_hooks_item}
-use Rattle.plain_machine.specs.Waits.{ask_process, read_answer, end_answer, target_is_eligible, from_eligible, eligible, delete, kill_answer, ends, kill_at_end, finish, wait}
+use Rattle.plain_machine.specs.Forms.{dropped, restored, pop, put_back, with_saved, saved_of, if_live, evaluate, do_form, block, assigned, scope_of, give, kept_reply, commit_change, at_kept, popped, bracket, current, after_commit, call_with, when_eq}
+use Rattle.plain_machine.specs.Handling.{mark_of_process, second, sentinel_words, plain_text, bound_params, unlisted, body_of, default_handler, put_in, output_in, process_buffer_of, native, left_state, ended_handler, without_hooks_item, named_body, native_next}
+use Rattle.plain_machine.specs.Waits.{ask_process, target_is_eligible, from_eligible, eligible, delete, ends, kill_at_end, finish, wait, ask_if, ask_next, delete_one, delete_running, finish_one, finish_running, wait_case, kill_live}
 use Rattle.plain_machine.specs.Step.{item_step}
 use Rattle.machine_laws.proofs.Weights.{Below, first, AtMost, both, at_most_same, at_most_trans, below_at_most, forms_weight, bodies_weight, call_weight, enter_weight, item_weight, behind, IsSteady, Steady, weight, total, under, calmer, lighter}
 
@@ -176,7 +175,7 @@ module _ (program : Program) (n : ℕ) where
     unless_falls : (tests : List Test) (t : Step) → (first_fault tests ≡ None → Falls s.inhibited item rest t) → Falls s.inhibited item rest (unless tests s rest t)
     unless_falls tests t h = go (first_fault tests) refl
       where
-        go : (o : Option Fault) → first_fault tests ≡ o → Falls s.inhibited item rest (elim o [ Some f ↦ on s (Refuse f ∷ rest) | None ↦ t ])
+        go : (o : Option Fault) → first_fault tests ≡ o → Falls s.inhibited item rest (unless_fault o s rest t)
         go None e = h e
         go (Some f) e = one s (Refuse f) refl tt (omega arith)
 
@@ -237,15 +236,15 @@ module _ (program : Program) (n : ℕ) where
 
   call_falls : (bound : ℕ) (s : State) (target : Target) (rest : List Item) (prim : Prim) (args : List Value) → length s.processes ≡ n → Falls s.inhibited (MakeCall prim args target) rest (call program bound s target rest prim args)
   call_falls bound s target rest prim args same =
-      (elim (manner_of prim) as (λ m. Falls s.inhibited (MakeCall prim args target) rest (elim m [ Q ↦ answered s target (query s.editor prim args) rest | S ↦ set_call s target rest (apply s.editor prim args) | C ↦ change_call s target rest (prepare s.editor prim args) | P ↦ process_call program bound s target rest prim args ])) [
-        | Q ↦ answered_falls s rest prim args target s (query s.editor prim args) refl
-        | S ↦ answered_falls s rest prim args target _ (apply s.editor prim args).reply refl
-        | C ↦ change_falls s rest prim args target (prepare s.editor prim args)
-        | P ↦ unless_falls s rest prim args target (process_tests program bound s prim args) (process_effect s target rest prim args) (λ h. effect_falls bound s target rest prim args same h)
+      (elim (manner_of prim) as (λ m. Falls s.inhibited (MakeCall prim args target) rest (call_by m program bound s target rest prim args)) [
+        | OnlyAsks ↦ answered_falls s rest prim args target s (query s.editor prim args) refl
+        | SetsState ↦ answered_falls s rest prim args target _ (apply s.editor prim args).reply refl
+        | ChangesText ↦ change_falls s rest prim args target (prepare s.editor prim args)
+        | ConcernsHandlers ↦ unless_falls s rest prim args target (process_tests program bound s prim args) (process_effect s target rest prim args) (λ h. effect_falls bound s target rest prim args same h)
       ])
 
   -- FORMS
-  evaluated_falls : (s : State) (rest : List Item) (item : Item) (o : Option (List Value)) (prim : Prim) (target : Target) → IsSteady item → call_weight n < item_weight program n item → Falls s.inhibited item rest (elim o [ None ↦ on s (Refuse VoidVariable ∷ rest) | Some args ↦ on s (MakeCall prim args target ∷ rest) ])
+  evaluated_falls : (s : State) (rest : List Item) (item : Item) (o : Option (List Value)) (prim : Prim) (target : Target) → IsSteady item → call_weight n < item_weight program n item → Falls s.inhibited item rest (call_with o prim target s rest)
   evaluated_falls s rest item None prim target h l = down s.inhibited item (Refuse VoidVariable ∷ []) rest s refl h (tt, tt) (omega arith)
   evaluated_falls s rest item (Some args) prim target h l = down s.inhibited item (MakeCall prim args target ∷ []) rest s refl h (tt, tt) (omega arith)
 
@@ -259,7 +258,7 @@ module _ (program : Program) (n : ℕ) where
       go true = Below.second (omega arith) (omega arith)
       go false = first (omega arith)
 
-  pair_falls : (s : State) (rest : List Item) (a b : Rattle.editor_model.specs.Values.Arg) (o : Option (List Value)) (forms : Forms) → Falls s.inhibited (DoForm (WhenEq a b forms)) rest (elim o [ Some (x ∷ y ∷ []) ↦ (elim (equal x y) [ true ↦ on s (Body forms ∷ rest) | false ↦ on s rest ]) | _ ↦ on s (Refuse VoidVariable ∷ rest) ])
+  pair_falls : (s : State) (rest : List Item) (a b : Rattle.editor_model.specs.Values.Arg) (o : Option (List Value)) (forms : Forms) → Falls s.inhibited (DoForm (WhenEq a b forms)) rest (when_eq o forms s rest)
   pair_falls s rest a b None forms = down s.inhibited (DoForm (WhenEq a b forms)) (Refuse VoidVariable ∷ []) rest s refl tt (tt, tt) (omega arith)
   pair_falls s rest a b (Some []) forms = down s.inhibited (DoForm (WhenEq a b forms)) (Refuse VoidVariable ∷ []) rest s refl tt (tt, tt) (omega arith)
   pair_falls s rest a b (Some (x ∷ [])) forms = down s.inhibited (DoForm (WhenEq a b forms)) (Refuse VoidVariable ∷ []) rest s refl tt (tt, tt) (omega arith)
@@ -291,10 +290,7 @@ module _ (program : Program) (n : ℕ) where
   commit_falls : (s : State) (c : Change) (rest : List Item) → Falls s.inhibited (CommitChange c) rest (commit_change s c rest)
   commit_falls s c rest =
       let done : Commit = commit s.editor (at_kept c (saved_of s)) in
-      (elim done.committed as (λ k. Falls s.inhibited (CommitChange c) rest (elim k [
-        | Failed f ↦ on (popped s) (Refuse f ∷ rest)
-        | Done from to old ↦ on (record (popped (with_editor done.editor s)) { inhibited = true }) (bracket s.inhibited (OfAfter c.buffer) (hooks_of s.hooks c.buffer).after (at_place from ∷ at_place to ∷ Int (pos old) ∷ []) rest)
-      ])) [
+      (elim done.committed as (λ k. Falls s.inhibited (CommitChange c) rest (after_commit done.editor k s c rest)) [
         | Failed f ↦ down s.inhibited (CommitChange c) (Refuse f ∷ []) rest s refl tt (tt, tt) (omega arith)
         | Done from to old ↦ done_falls s.inhibited c (OfAfter c.buffer) (hooks_of s.hooks c.buffer).after (at_place from ∷ at_place to ∷ Int (pos old) ∷ []) rest
       ])
@@ -334,10 +330,7 @@ module _ (program : Program) (n : ℕ) where
     body_falls t None e = default_falls (record t { scopes = [] ∷ t.scopes }) kind e
     body_falls t (Some name) e = go (handler_def program.handlers name) refl
       where
-        go : (o : Option HandlerDef) → handler_def program.handlers name ≡ o → Down i entry rest (elim o [
-          | Some d ↦ record { state = record t { scopes = bound_params d.params args ∷ t.scopes }; work = Body d.body ∷ leaving ∷ rest }
-          | None ↦ record { state = record t { scopes = [] ∷ t.scopes }; work = Native (unwrap_or (native_from 0 program.natives name) 0) args [] ∷ leaving ∷ rest }
-        ])
+        go : (o : Option HandlerDef) → handler_def program.handlers name ≡ o → Down i entry rest (named_body program t o name args (leaving ∷ rest))
         go None f = down i entry (Native (unwrap_or (native_from 0 program.natives name) 0) args [] ∷ leaving ∷ []) rest (record t { scopes = [] ∷ t.scopes }) e tt (tt, (tt, tt)) (omega arith)
         go (Some d) f =
             let l : forms_weight (call_weight n) d.body ≤ bodies_weight (call_weight n) program.handlers = body_light (call_weight n) program.handlers name d f in
@@ -357,7 +350,7 @@ module _ (program : Program) (n : ℕ) where
           which true w = down s.inhibited (Native i args past) (x ∷ Called i args past ∷ []) rest s refl tt (h, (tt, tt)) (rw w (omega arith))
           which false w = down s.inhibited (Native i args past) (y ∷ Called i args past ∷ []) rest s refl tt (k, (tt, tt)) (rw w (omega arith))
 
-      go : (b : Bool) → nat_lt (length past) 256 ≡ b → (o : Option (Prim × List Value)) → Falls s.inhibited (Native i args past) rest (elim b [ false ↦ on s rest | true ↦ (elim o [ None ↦ on s rest | Some c ↦ on s (native_call program s c ∷ Called i args past ∷ rest) ]) ])
+      go : (b : Bool) → nat_lt (length past) 256 ≡ b → (o : Option (Prim × List Value)) → Falls s.inhibited (Native i args past) rest (native_next b o program s i args past rest)
       go false e o = down_to s.inhibited (Native i args past) rest (record { state = s; work = rest }) refl (at_most_same (weight program n s.inhibited rest))
       go true e None = down_to s.inhibited (Native i args past) rest (record { state = s; work = rest }) refl (at_most_same (weight program n s.inhibited rest))
       go true e (Some c) = made c e (Rattle.plain_machine.specs.Natives.is_callable program s c) (MakeCall c.0 (map Rattle.plain_machine.specs.Natives.normal c.1) ToNative) (Refuse WrongType) tt tt (omega arith) (omega arith)
@@ -374,14 +367,11 @@ module _ (program : Program) (n : ℕ) where
   ask_falls : (s : State) (w v : Waiting) (target : Target) (rest : List Item) (p : ℕ) → Falls s.inhibited (Wait v target) rest (ask_process s w target rest p)
   ask_falls s w v target rest p = go (may_ask s) (process s p)
     where
-      which : (x : Process) (b : Bool) → Falls s.inhibited (Wait v target) rest (elim b [ false ↦ Asks (Read x.child) (read_answer s w target rest p x) | true ↦ Asks (AskEnd x.child) (end_answer s w target rest p x) ])
+      which : (x : Process) (b : Bool) → Falls s.inhibited (Wait v target) rest (ask_next b s w target rest p x)
       which x true = tt
       which x false = tt
 
-      go : (b : Bool) (o : Option Process) → Falls s.inhibited (Wait v target) rest (elim b [
-        | false ↦ on s (Refuse ExchangesSpent ∷ rest)
-        | true ↦ (elim o [ None ↦ on s rest | Some x ↦ (elim x.drained [ false ↦ Asks (Read x.child) (read_answer s w target rest p x) | true ↦ Asks (AskEnd x.child) (end_answer s w target rest p x) ]) ])
-      ])
+      go : (b : Bool) (o : Option Process) → Falls s.inhibited (Wait v target) rest (ask_if b o s w target rest p)
       go false o = down s.inhibited (Wait v target) (Refuse ExchangesSpent ∷ []) rest s refl tt (tt, tt) (omega arith)
       go true None = down s.inhibited (Wait v target) [] rest s refl tt tt (omega arith)
       go true (Some x) = which x x.drained
@@ -389,19 +379,7 @@ module _ (program : Program) (n : ℕ) where
   wait_falls : (s : State) (w : Waiting) (target : Target) (rest : List Item) → Falls s.inhibited (Wait w target) rest (wait s w target rest)
   wait_falls s w target rest = go w.counted (target_is_eligible s w) (from_eligible s w w.asking) (eligible s w) w.rounds refl
     where
-      go : (counted fit : Bool) (asking all : List ℕ) (rounds : ℕ) → w.rounds ≡ rounds → Falls s.inhibited (Wait w target) rest (elim counted [
-        | true ↦ on s (GiveAnswer T target ∷ rest)
-        | false ↦ (elim fit [
-          | false ↦ on s (GiveAnswer Nil target ∷ rest)
-          | true ↦ (elim asking [
-            | p ∷ more ↦ ask_process s (record w { asking = more }) target rest p
-            | [] ↦ (elim all [
-              | [] ↦ on s (GiveAnswer Nil target ∷ rest)
-              | p ∷ more ↦ (elim rounds [ zero ↦ on s (GiveAnswer Nil target ∷ rest) | suc r ↦ on s (Wait (record w { rounds = r; asking = p ∷ more }) target ∷ rest) ])
-            ])
-          ])
-        ])
-      ])
+      go : (counted fit : Bool) (asking all : List ℕ) (rounds : ℕ) → w.rounds ≡ rounds → Falls s.inhibited (Wait w target) rest (wait_case counted fit asking all rounds s w target rest)
       go true fit asking all rounds e = down s.inhibited (Wait w target) (GiveAnswer T target ∷ []) rest s refl tt (tt, tt) (omega arith)
       go false false asking all rounds e = down s.inhibited (Wait w target) (GiveAnswer Nil target ∷ []) rest s refl tt (tt, tt) (omega arith)
       go false true (p ∷ more) all rounds e = ask_falls s (record w { asking = more }) w target rest p
@@ -415,24 +393,27 @@ module _ (program : Program) (n : ℕ) where
       gone : Falls s.inhibited (Delete p) rest (on s rest)
       gone = down s.inhibited (Delete p) [] rest s refl tt tt (omega arith)
 
-      by_status : (x : Process) (k : Status) → Falls s.inhibited (Delete p) rest (elim k [ Runs ↦ Asks (Kill x.child) (kill_answer (ends s p x Signalled (codes "killed\n") rest)) | _ ↦ on s rest ])
+      by_status : (x : Process) (k : Status) → Falls s.inhibited (Delete p) rest (delete_running k s p x rest)
       by_status x Runs = tt
       by_status x _ = gone
 
-      go : (o : Option Process) → Falls s.inhibited (Delete p) rest (elim o [ None ↦ on s rest | Some x ↦ (elim x.status [ Runs ↦ Asks (Kill x.child) (kill_answer (ends s p x Signalled (codes "killed\n") rest)) | _ ↦ on s rest ]) ])
+      go : (o : Option Process) → Falls s.inhibited (Delete p) rest (delete_one s p o rest)
       go None = gone
       go (Some x) = by_status x x.status
 
   kill_buffer_falls : (s : State) (b : ℕ) (target : Target) (rest : List Item) → Falls s.inhibited (Item.KillBuffer b target) rest (kill_at_end s b target rest)
-  kill_buffer_falls s b target rest = go (is_live s.editor b) (first_fault (must_be_replaceable s.editor b ∷ []))
+  kill_buffer_falls s b target rest = go (is_live s.editor b)
     where
       one_left : (next : Item) → IsSteady next → item_weight program n next ≤ 1 → Below (weight program n s.inhibited (next ∷ rest)) (weight program n s.inhibited (Item.KillBuffer b target ∷ rest))
       one_left next h l = lighter program n s.inhibited (Item.KillBuffer b target) (next ∷ []) rest tt (h, tt) (omega arith)
 
-      go : (v : Bool) (o : Option Fault) → Falls s.inhibited (Item.KillBuffer b target) rest (elim v [ false ↦ on s (GiveAnswer Nil target ∷ rest) | true ↦ (elim o [ Some f ↦ on s (Refuse f ∷ rest) | None ↦ on (with_editor (killed b s.editor) s) (GiveAnswer T target ∷ rest) ]) ])
-      go false o = one_left (GiveAnswer Nil target) tt (omega arith)
-      go true None = one_left (GiveAnswer T target) tt (omega arith)
-      go true (Some f) = one_left (Refuse f) tt (omega arith)
+      by_fault : (o : Option Fault) → Falls s.inhibited (Item.KillBuffer b target) rest (unless_fault o s rest (on (with_editor (killed b s.editor) s) (GiveAnswer T target ∷ rest)))
+      by_fault None = one_left (GiveAnswer T target) tt (omega arith)
+      by_fault (Some f) = one_left (Refuse f) tt (omega arith)
+
+      go : (v : Bool) → Falls s.inhibited (Item.KillBuffer b target) rest (kill_live v s b target rest)
+      go false = one_left (GiveAnswer Nil target) tt (omega arith)
+      go true = by_fault (first_fault (must_be_replaceable s.editor b ∷ []))
 
   -- an item behind which nothing is left
   alone : (i : Bool) (item : Item) (front rest : List Item) → IsSteady item → Steady front → total program n front < item_weight program n item → Below (weight program n i front) (weight program n i (item ∷ rest))
@@ -445,13 +426,13 @@ module _ (program : Program) (n : ℕ) where
   finish_falls : (s : State) (p : ℕ) (rest : List Item) → length s.processes ≡ n → Falls s.inhibited (Finish p) rest (finish program s p)
   finish_falls s p rest same = go (process s p) refl
     where
-      by_status : (x : Process) → process s p ≡ Some x → (k : Status) → Falls s.inhibited (Finish p) rest (elim k [ Runs ↦ Asks (Kill x.child) (kill_answer (Rattle.plain_machine.specs.Forms.says program s (KilledLast p) s (Finish (p + 1) ∷ []))) | _ ↦ on s (Finish (p + 1) ∷ []) ])
+      by_status : (x : Process) → process s p ≡ Some x → (k : Status) → Falls s.inhibited (Finish p) rest (finish_running program k s p x)
       by_status x e Runs = tt
       by_status x e _ =
           let l : p < length s.processes = get_below s.processes p x e in
           alone s.inhibited (Finish p) (Finish (p + 1) ∷ []) rest tt (tt, tt) (omega arith)
 
-      go : (o : Option Process) → process s p ≡ o → Falls s.inhibited (Finish p) rest (elim o [ None ↦ on s (WriteDump ∷ []) | Some x ↦ (elim x.status [ Runs ↦ Asks (Kill x.child) (kill_answer (Rattle.plain_machine.specs.Forms.says program s (KilledLast p) s (Finish (p + 1) ∷ []))) | _ ↦ on s (Finish (p + 1) ∷ []) ]) ])
+      go : (o : Option Process) → process s p ≡ o → Falls s.inhibited (Finish p) rest (finish_one program s p o)
       go None e = alone s.inhibited (Finish p) (WriteDump ∷ []) rest tt (tt, tt) (omega arith)
       go (Some x) e = by_status x e x.status
 

@@ -1,6 +1,6 @@
 -- Undoing back to a kept boundary gives the text of the moment at which it was pushed.
 use Rattle.std.proofs.Common.{◌≡◌, ℕ, zero, suc, ◌≤◌, ◌<◌, Bool, true, false, List, [], ◌∷◌, length, refl, ap, sym, subst, ◌∙◌, arith, ◌⊎◌, inl, inr}
-use Rattle.std.specs.Prelude.{pos, nat_lt, Option, Some, None}
+use Rattle.std.specs.Prelude.{nat_lt, Option, Some, None}
 use Rattle.std.proofs.lemmas.Bool.{ltb-true, ltb-false, false≢true}
 use Rattle.text_model.specs.Properties.{Cell}
 use Rattle.text_model.specs.Undo.{Entry, newer_than, rewind, passed, trial}
@@ -8,14 +8,14 @@ use Rattle.text_model.specs.Commit.{Buffer, undone_groups}
 use Rattle.text_model.specs.Undo.{boundary_at, ends_with}
 use Rattle.machine_laws.specs.Good.{Passes}
 use Rattle.machine_laws.proofs.Records.{not_above}
-use Rattle.editor_model.specs.Values.{Int, Script, at_place}
+use Rattle.editor_model.specs.Values.{Script}
 use Rattle.editor_model.specs.Editor.{Editor, Live, live, buffer_at, new_editor}
 use Rattle.editor_model.specs.Table.{prepare}
 use Rattle.machine_laws.specs.GoodEditor.{GoodEditor}
 use Rattle.machine_laws.proofs.Advancing.{none_some, some_same, live_below, buffer_live}
 use Rattle.machine_laws.specs.Fits.{GoodSite}
 use Rattle.plain_machine.specs.Exchanges.{Exchange, Ask, Answer}
-use Rattle.plain_machine.specs.State.{State, Program, hooks_of}
+use Rattle.plain_machine.specs.State.{State, Program}
 use Rattle.plain_machine.specs.Items.{Said, Config, Next, Step, Goes, Asks}
 use Rattle.plain_machine.specs.Step.{step, item_step}
 use Rattle.text_model.specs.Marks.{Saved, Excursion, Restriction, Pending}
@@ -24,10 +24,9 @@ use Rattle.editor_model.specs.Commits.{commit_tests, commit, commit_of, changed,
 use Rattle.editor_model.specs.Values.{UndoMore}
 use Rattle.machine_laws.proofs.Committing.{groups_committed, tried_at}
 use Rattle.machine_laws.proofs.Groups.{Undone, groups_undone}
-use Rattle.plain_machine.specs.Items.{Item, Refuse, Ended}
-use Rattle.plain_machine.specs.Forms.{commit_change, at_kept, saved_of, popped, bracket}
-use Rattle.plain_machine.specs.Calls.{on, with_editor, change_call}
-use Rattle.plain_machine.specs.Lines.{OfAfter}
+use Rattle.plain_machine.specs.Items.{Item, Ended}
+use Rattle.plain_machine.specs.Forms.{commit_change, at_kept, saved_of, after_commit}
+use Rattle.plain_machine.specs.Calls.{change_call}
 use Rattle.plain_machine.specs.Run.{Reaches, start}
 use Rattle.machine_laws.specs.GoodConfig.{GoodConfig, Well}
 use Rattle.machine_laws.specs.Laws.{Commits, PassesQuietly, Undoes, UndoReturns}
@@ -109,16 +108,10 @@ commit_done e k t = subst (λ o. IsDone (commit_of o e (changed e k.buffer k.fro
 commit_live : (s : State) (c : Change) (rest : List Item) (n : Next) (b : ℕ) → commit_change s c rest ≡ Goes n → IsDone (commit s.editor (at_kept c (saved_of s))).committed → live (commit s.editor (at_kept c (saved_of s))).editor b ≡ live n.config.state.editor b
 commit_live s c rest n b h t = go (commit s.editor (at_kept c (saved_of s))) h t
   where
-    go : (done : Commit) → IsStep (elim done.committed [
-      | Failed f ↦ on (popped s) (Refuse f ∷ rest)
-      | Done from to old ↦ on (record (popped (with_editor done.editor s)) { inhibited = true }) (bracket s.inhibited (OfAfter c.buffer) (hooks_of s.hooks c.buffer).after (at_place from ∷ at_place to ∷ Int (pos old) ∷ []) rest)
-    ]) n → IsDone done.committed → live done.editor b ≡ live n.config.state.editor b
+    go : (done : Commit) → IsStep (after_commit done.editor done.committed s c rest) n → IsDone done.committed → live done.editor b ≡ live n.config.state.editor b
     go done k d = by_kind done.committed k d
       where
-        by_kind : (o : Committed) → IsStep (elim o [
-          | Failed f ↦ on (popped s) (Refuse f ∷ rest)
-          | Done from to old ↦ on (record (popped (with_editor done.editor s)) { inhibited = true }) (bracket s.inhibited (OfAfter c.buffer) (hooks_of s.hooks c.buffer).after (at_place from ∷ at_place to ∷ Int (pos old) ∷ []) rest)
-        ]) n → IsDone o → live done.editor b ≡ live n.config.state.editor b
+        by_kind : (o : Committed) → IsStep (after_commit done.editor o s c rest) n → IsDone o → live done.editor b ≡ live n.config.state.editor b
         by_kind (Failed f) k d = absurd d
         by_kind (Done from to old) k d = ap (λ x. live x.config.state.editor b) (one_goes _ n k)
 

@@ -5,25 +5,24 @@ use Rattle.std.proofs.lemmas.List.Elements.{filter-append}
 use Rattle.std.specs.Prelude.{pos, Option, Some, None, ◌-◌, ◌==◌, ◌&&◌, ◌||◌, not, filter, nat_le, nat_lt, drop, codes, unwrap_or, slice_get, slice_set, if◌then◌else◌}
 use Rattle.text_model.specs.Marks.{Saved, Excursion, Restriction, Pending}
 use Rattle.text_model.specs.Properties.{Cell}
-use Rattle.editor_model.specs.Values.{Value, Nil, T, Int, ExchangesSpent, WrongType, ProcessEnded, TooMany, Script, at_place, Reply, Answered, Fault, Prim, StartProcess, SetProcessFilter, SetProcessSentinel, SetProcessBuffer, ProcessSendString, ProcessSendEof, Form, Forms, NoForms, Then, Do, Setq, In, WhenEq, Block, SaveExcursion, SaveRestriction, SaveCurrentBuffer, InhibitHooks, HandlerDef, equal}
+use Rattle.editor_model.specs.Values.{Value, T, ExchangesSpent, WrongType, ProcessEnded, TooMany, Script, Reply, Answered, Fault, Prim, StartProcess, SetProcessFilter, SetProcessSentinel, SetProcessBuffer, ProcessSendString, ProcessSendEof, Form, Forms, NoForms, Then, Do, Setq, In, WhenEq, Block, SaveExcursion, SaveRestriction, SaveCurrentBuffer, InhibitHooks, HandlerDef, equal}
 use Rattle.editor_model.specs.Editor.{register, is_live, killed}
 use Rattle.editor_model.specs.Arguments.{arg, string_of, must_be_name, must_be_string, must_be_short, must_be_fewer}
 use Rattle.editor_model.specs.Answers.{Test, refuse, first_fault}
 use Rattle.editor_model.specs.Limits.{most_buffers, most_markers}
-use Rattle.text_model.specs.Decoding.{characters}
 use Rattle.editor_model.specs.TextCalls.{prepare_output}
 use Rattle.editor_model.specs.Table.{Change, Commit, query, apply, prepare, Prepared, Changes, Quiet, Nothing, Barred, Done, Failed, commit}
-use Rattle.plain_machine.specs.Exchanges.{Ask, Read, AskEnd, Kill, Answer, Started, Sent, Broken, Closed, Killed, Bytes, End, Code, Signal, Running, Exchange}
-use Rattle.plain_machine.specs.State.{State, hooks_of, Program, Process, Status, Runs, Exited, Signalled, Lost, process, change_process}
+use Rattle.plain_machine.specs.Exchanges.{Ask, Answer, Started, Sent, Broken, Closed, Killed, Bytes, End, Code, Signal, Running, Exchange}
+use Rattle.plain_machine.specs.State.{State, Program, Process, Status, Runs, Exited, Signalled, Lost, process, change_process}
 use Rattle.plain_machine.specs.Lines.{Kind, KilledLast, OfBefore, OfAfter, OfFilter, OfSentinel}
 use Rattle.plain_machine.specs.Items.{Item, Top, Body, DoForm, MakeCall, Leave, GiveAnswer, Refuse, MakeChange, Hooks, Calm, CommitChange, Enter, Native, Called, Exit, Wait, Delete, Finish, WriteDump, Target, Nowhere, ToName, ToNative, Kept, KeptExcursion, KeptRestriction, KeptBuffer, KeptInhibition, Waiting, Config, Said, Next, Step, Goes, Asks, Ended}
-use Rattle.plain_machine.specs.Calls.{silent, spawned, started, is_new_child, sent_answer, closed_answer, with_input_closed, on, answered, unless, call, process_call, process_effect, with_filter, with_sentinel, of_buffer, process_buffer, send, send_eof, set_call, change_call, with_editor}
+use Rattle.plain_machine.specs.Calls.{silent, spawned, started, is_new_child, sent_answer, closed_answer, with_input_closed, on, answered, unless, call, process_call, process_effect, with_filter, with_sentinel, of_buffer, process_buffer, send, send_eof, change_call, with_editor, call_by, spawned_child, unless_fault}
 use Rattle.plain_machine.specs.Refusals.{process_tests, may_ask, must_ask, most_exchanges, most_processes, most_sent, only_where, process_there, must_be_process, must_be_word, must_live_or_be_named, must_be_replaceable}
-use Rattle.editor_model.specs.Prims.{Q, S, C, P, manner_of}
-use Rattle.plain_machine.specs.Arguments.{process_of, filter_of, sentinel_of, child_of, is_closed, encoded, handler_def, native_from, is_running, is_empty, is_process_buffer, is_new_name}
-use Rattle.plain_machine.specs.Forms.{dropped, restored, pop, put_back, with_saved, saved_of, if_live, evaluate, do_form, block, assigned, scope_of, give, commit_change, at_kept, popped, bracket, says, current}
-use Rattle.plain_machine.specs.Handling.{mark_of_process, second, sentinel_words, plain_text, bound_params, unlisted, body_of, default_handler, put_in, output_in, put_output, process_buffer_of, native, native_call, left_state, ended_handler}
-use Rattle.plain_machine.specs.Waits.{asked_more, drain, is_room, entry_of, counts, more_characters, ask_process, read_answer, end_answer, target_is_eligible, from_eligible, eligible, delete, kill_answer, ends, kill_at_end, finish, wait}
+use Rattle.editor_model.specs.Prims.{OnlyAsks, SetsState, ChangesText, ConcernsHandlers, manner_of}
+use Rattle.plain_machine.specs.Arguments.{process_of, filter_of, sentinel_of, child_of, is_closed, encoded, handler_def, is_running, is_empty, is_process_buffer, is_new_name}
+use Rattle.plain_machine.specs.Forms.{dropped, restored, pop, put_back, with_saved, saved_of, if_live, evaluate, do_form, block, assigned, scope_of, give, commit_change, at_kept, popped, says, current, after_commit, when_eq, call_with}
+use Rattle.plain_machine.specs.Handling.{mark_of_process, second, sentinel_words, plain_text, unlisted, body_of, default_handler, put_in, output_in, put_output, process_buffer_of, native, left_state, ended_handler, named_body, native_next}
+use Rattle.plain_machine.specs.Waits.{asked_more, drain, is_room, ask_process, read_answer, end_answer, target_is_eligible, from_eligible, eligible, delete, kill_answer, ends, kill_at_end, finish, wait, ask_if, ask_next, delete_one, delete_running, finish_one, finish_running, hear, kill_live, wait_case}
 use Rattle.plain_machine.specs.Step.{step, item_step}
 use Rattle.plain_machine.specs.Run.{start}
 use Rattle.machine_laws.specs.Laws.{is_kill, FewExchanges}
@@ -105,7 +104,7 @@ answered_counts s t target (Reply.Refused f) rest h = h
 unless_counts : (tests : List Test) (s : State) (rest : List Item) (t : Step) → (first_fault tests ≡ None → Counts s t) → Counts s (unless tests s rest t)
 unless_counts tests s rest t h = go (first_fault tests) refl
   where
-    go : (o : Option Fault) → first_fault tests ≡ o → Counts s (elim o [ Some f ↦ on s (Refuse f ∷ rest) | None ↦ t ])
+    go : (o : Option Fault) → first_fault tests ≡ o → Counts s (unless_fault o s rest t)
     go None e = h e
     go (Some f) e = refl
 
@@ -141,7 +140,7 @@ send_counts s target rest child (b ∷ bytes) h = go
 spawn_counts : (s : State) (target : Target) (rest : List Item) (name b : Value) (program : List ℕ) (words : List (List ℕ)) → may_ask s ≡ true → Counts s (Asks (Ask.Spawn program words) (spawned s target rest name b))
 spawn_counts s target rest name b program words h = go
   where
-    made : (child : ℕ) (new : Bool) (x : Next) → elim new [ false ↦ None | true ↦ Some (silent (started s name b child) (GiveAnswer (Value.TheProcess (length s.processes)) target ∷ rest)) ] ≡ Some x → Counted false s.asked x.config.state.asked
+    made : (child : ℕ) (new : Bool) (x : Next) → spawned_child new s target rest name b child ≡ Some x → Counted false s.asked x.config.state.asked
     made child false x e = cc
     made child true x e = given false s.asked (silent (started s name b child) (GiveAnswer (Value.TheProcess (length s.processes)) target ∷ rest)) x (may_is s h, refl) e
 
@@ -188,16 +187,16 @@ process_call_counts program bound s target rest prim args = unless_counts (proce
 
 call_counts : (program : Program) (bound : ℕ) (s : State) (target : Target) (rest : List Item) (prim : Prim) (args : List Value) → Counts s (call program bound s target rest prim args)
 call_counts program bound s target rest prim args =
-    (elim (manner_of prim) as (λ m. Counts s (elim m [ Q ↦ answered s target (query s.editor prim args) rest | S ↦ set_call s target rest (apply s.editor prim args) | C ↦ change_call s target rest (prepare s.editor prim args) | P ↦ process_call program bound s target rest prim args ])) [
-      | Q ↦ answered_counts s s target (query s.editor prim args) rest refl
-      | S ↦ answered_counts s _ target (apply s.editor prim args).reply rest refl
-      | C ↦ change_call_counts s target rest (prepare s.editor prim args)
-      | P ↦ process_call_counts program bound s target rest prim args
+    (elim (manner_of prim) as (λ m. Counts s (call_by m program bound s target rest prim args)) [
+      | OnlyAsks ↦ answered_counts s s target (query s.editor prim args) rest refl
+      | SetsState ↦ answered_counts s _ target (apply s.editor prim args).reply rest refl
+      | ChangesText ↦ change_call_counts s target rest (prepare s.editor prim args)
+      | ConcernsHandlers ↦ process_call_counts program bound s target rest prim args
     ])
 
-evaluated_counts : (s : State) (rest : List Item) (o : Option (List Value)) (k : List Value → Item) → Counts s (elim o [ None ↦ on s (Refuse Fault.VoidVariable ∷ rest) | Some args ↦ on s (k args ∷ rest) ])
-evaluated_counts s rest None k = refl
-evaluated_counts s rest (Some args) k = refl
+evaluated_counts : (s : State) (rest : List Item) (o : Option (List Value)) (prim : Prim) (target : Target) → Counts s (call_with o prim target s rest)
+evaluated_counts s rest None prim target = refl
+evaluated_counts s rest (Some args) prim target = refl
 
 block_counts : (k : Block) (forms : Forms) (s : State) (rest : List Item) → Counts s (block k forms s rest)
 block_counts SaveExcursion forms s rest = refl
@@ -205,7 +204,7 @@ block_counts SaveRestriction forms s rest = refl
 block_counts SaveCurrentBuffer forms s rest = refl
 block_counts InhibitHooks forms s rest = refl
 
-pair_counts : (s : State) (rest : List Item) (o : Option (List Value)) (forms : Forms) → Counts s (elim o [ Some (x ∷ y ∷ []) ↦ (elim (equal x y) [ true ↦ on s (Body forms ∷ rest) | false ↦ on s rest ]) | _ ↦ on s (Refuse Fault.VoidVariable ∷ rest) ])
+pair_counts : (s : State) (rest : List Item) (o : Option (List Value)) (forms : Forms) → Counts s (when_eq o forms s rest)
 pair_counts s rest None forms = refl
 pair_counts s rest (Some []) forms = refl
 pair_counts s rest (Some (x ∷ [])) forms = refl
@@ -213,8 +212,8 @@ pair_counts s rest (Some (x ∷ y ∷ [])) forms = if_counts s (equal x y) _ _ r
 pair_counts s rest (Some (x ∷ y ∷ z ∷ more)) forms = refl
 
 form_counts : (s : State) (rest : List Item) (f : Form) → Counts s (do_form s rest f)
-form_counts s rest (Do c) = evaluated_counts s rest (evaluate s c.args) (λ args. MakeCall c.prim args Nowhere)
-form_counts s rest (Setq name c) = evaluated_counts s rest (evaluate s c.args) (λ args. MakeCall c.prim args (ToName name))
+form_counts s rest (Do c) = evaluated_counts s rest (evaluate s c.args) c.prim Nowhere
+form_counts s rest (Setq name c) = evaluated_counts s rest (evaluate s c.args) c.prim (ToName name)
 form_counts s rest (In k forms) = block_counts k forms s rest
 form_counts s rest (WhenEq a b forms) = pair_counts s rest (evaluate s (a ∷ b ∷ [])) forms
 
@@ -230,14 +229,8 @@ give_counts program s v ToNative rest = refl
 commit_counts : (s : State) (c : Change) (rest : List Item) → Counts s (commit_change s c rest)
 commit_counts s c rest = go (commit s.editor (at_kept c (saved_of s)))
   where
-    go : (done : Commit) → Counts s (elim done.committed [
-      | Failed f ↦ on (popped s) (Refuse f ∷ rest)
-      | Done from to old ↦ on (record (popped (with_editor done.editor s)) { inhibited = true }) (bracket s.inhibited (OfAfter c.buffer) (hooks_of s.hooks c.buffer).after (at_place from ∷ at_place to ∷ Int (pos old) ∷ []) rest)
-    ])
-    go done = (elim done.committed as (λ k. Counts s (elim k [
-      | Failed f ↦ on (popped s) (Refuse f ∷ rest)
-      | Done from to old ↦ on (record (popped (with_editor done.editor s)) { inhibited = true }) (bracket s.inhibited (OfAfter c.buffer) (hooks_of s.hooks c.buffer).after (at_place from ∷ at_place to ∷ Int (pos old) ∷ []) rest)
-    ])) [ Failed f ↦ refl | Done from to old ↦ refl ])
+    go : (done : Commit) → Counts s (after_commit done.editor done.committed s c rest)
+    go done = (elim done.committed as (λ k. Counts s (after_commit done.editor k s c rest)) [ Failed f ↦ refl | Done from to old ↦ refl ])
 
 -- HANDLERS
 put_in_counts : (s : State) (p : Prepared) (rest : List Item) → (put_in s p rest).state.asked ≡ s.asked
@@ -263,17 +256,14 @@ body_counts : (program : Program) (s : State) (kind : Kind) (handler : Option �
 body_counts program s kind None args rest = default_counts (record s { scopes = [] ∷ s.scopes }) kind args rest
 body_counts program s kind (Some name) args rest = go (handler_def program.handlers name)
   where
-    go : (o : Option HandlerDef) → let k : Config = elim o [
-      | Some d ↦ record { state = record s { scopes = bound_params d.params args ∷ s.scopes }; work = Body d.body ∷ rest }
-      | None ↦ record { state = record s { scopes = [] ∷ s.scopes }; work = Native (unwrap_or (native_from 0 program.natives name) 0) args [] ∷ rest }
-    ] in k.state.asked ≡ s.asked
+    go : (o : Option HandlerDef) → let k : Config = named_body program s o name args (rest) in k.state.asked ≡ s.asked
     go None = refl
     go (Some d) = refl
 
 native_counts : (program : Program) (s : State) (i : ℕ) (args : List Value) (past : List Reply) (rest : List Item) → Counts s (native program s i args past rest)
 native_counts program s i args past rest = go (nat_lt (length past) 256) (program.does i args past)
   where
-    go : (b : Bool) (o : Option (Prim × List Value)) → Counts s (elim b [ false ↦ on s rest | true ↦ (elim o [ None ↦ on s rest | Some c ↦ on s (native_call program s c ∷ Called i args past ∷ rest) ]) ])
+    go : (b : Bool) (o : Option (Prim × List Value)) → Counts s (native_next b o program s i args past rest)
     go false o = refl
     go true None = refl
     go true (Some c) = refl
@@ -296,7 +286,7 @@ read_counts s w target rest p y l = go
     last : (x : Next) → drain s w target rest p y ≡ Some x → Counted false s.asked x.config.state.asked
     last x e = given false s.asked _ x (l, change_counts p (λ y. record y { drained = true }) (asked_more s) (λ y. refl)) e
 
-    heard : (bytes : List ℕ) (b : Bool) (x : Next) → elim b [ false ↦ None | true ↦ Some (silent (change_process p (λ z. record z { bytes = y.bytes ++ bytes }) (asked_more s)) (entry_of s p y (more_characters (characters y.bytes) (characters (y.bytes ++ bytes))) (Wait (record w { counted = w.counted || counts w p }) target ∷ rest))) ] ≡ Some x → Counted false s.asked x.config.state.asked
+    heard : (bytes : List ℕ) (b : Bool) (x : Next) → hear b s w target rest p y bytes ≡ Some x → Counted false s.asked x.config.state.asked
     heard bytes false x e = cc
     heard bytes true x e = given false s.asked _ x (l, change_counts p (λ z. record z { bytes = y.bytes ++ bytes }) (asked_more s) (λ y. refl)) e
 
@@ -317,14 +307,11 @@ end_counts s w target rest p y l _ x e = cc
 ask_counts : (s : State) (w : Waiting) (target : Target) (rest : List Item) (p : ℕ) → Counts s (ask_process s w target rest p)
 ask_counts s w target rest p = go (may_ask s) refl (process s p)
   where
-    which : (x : Process) (b : Bool) → s.asked < most_exchanges → Counts s (elim b [ false ↦ Asks (Read x.child) (read_answer s w target rest p x) | true ↦ Asks (AskEnd x.child) (end_answer s w target rest p x) ])
+    which : (x : Process) (b : Bool) → s.asked < most_exchanges → Counts s (ask_next b s w target rest p x)
     which x true l = end_counts s w target rest p x l
     which x false l = read_counts s w target rest p x l
 
-    go : (b : Bool) → may_ask s ≡ b → (o : Option Process) → Counts s (elim b [
-      | false ↦ on s (Refuse ExchangesSpent ∷ rest)
-      | true ↦ (elim o [ None ↦ on s rest | Some x ↦ (elim x.drained [ false ↦ Asks (Read x.child) (read_answer s w target rest p x) | true ↦ Asks (AskEnd x.child) (end_answer s w target rest p x) ]) ])
-    ])
+    go : (b : Bool) → may_ask s ≡ b → (o : Option Process) → Counts s (ask_if b o s w target rest p)
     go false e o = refl
     go true e None = refl
     go true e (Some x) = which x x.drained (may_is s e)
@@ -332,19 +319,7 @@ ask_counts s w target rest p = go (may_ask s) refl (process s p)
 wait_counts : (s : State) (w : Waiting) (target : Target) (rest : List Item) → Counts s (wait s w target rest)
 wait_counts s w target rest = go w.counted (target_is_eligible s w) (from_eligible s w w.asking) (eligible s w) w.rounds
   where
-    go : (counted fit : Bool) (asking all : List ℕ) (rounds : ℕ) → Counts s (elim counted [
-      | true ↦ on s (GiveAnswer T target ∷ rest)
-      | false ↦ (elim fit [
-        | false ↦ on s (GiveAnswer Nil target ∷ rest)
-        | true ↦ (elim asking [
-          | p ∷ more ↦ ask_process s (record w { asking = more }) target rest p
-          | [] ↦ (elim all [
-            | [] ↦ on s (GiveAnswer Nil target ∷ rest)
-            | p ∷ more ↦ (elim rounds [ zero ↦ on s (GiveAnswer Nil target ∷ rest) | suc n ↦ on s (Wait (record w { rounds = n; asking = p ∷ more }) target ∷ rest) ])
-          ])
-        ])
-      ])
-    ])
+    go : (counted fit : Bool) (asking all : List ℕ) (rounds : ℕ) → Counts s (wait_case counted fit asking all rounds s w target rest)
     go true fit asking all rounds = refl
     go false false asking all rounds = refl
     go false true (p ∷ more) all rounds = ask_counts s (record w { asking = more }) target rest p
@@ -355,7 +330,7 @@ wait_counts s w target rest = go w.counted (target_is_eligible s w) (from_eligib
 delete_counts : (s : State) (p : ℕ) (rest : List Item) → Counts s (delete s p rest)
 delete_counts s p rest = go (process s p)
   where
-    status_of : (x : Process) (k : Status) → Counts s (elim k [ Runs ↦ Asks (Kill x.child) (kill_answer (ends s p x Signalled (codes "killed\n") rest)) | _ ↦ on s rest ])
+    status_of : (x : Process) (k : Status) → Counts s (delete_running k s p x rest)
     status_of x Runs = killed
       where
         killed : (answer : Answer) (y : Next) → kill_answer (ends s p x Signalled (codes "killed\n") rest) answer ≡ Some y → y.config.state.asked ≡ s.asked
@@ -364,21 +339,21 @@ delete_counts s p rest = go (process s p)
         killed _ y e = cc
     status_of x _ = refl
 
-    go : (o : Option Process) → Counts s (elim o [ None ↦ on s rest | Some x ↦ (elim x.status [ Runs ↦ Asks (Kill x.child) (kill_answer (ends s p x Signalled (codes "killed\n") rest)) | _ ↦ on s rest ]) ])
+    go : (o : Option Process) → Counts s (delete_one s p o rest)
     go None = refl
     go (Some x) = status_of x x.status
 
 kill_counts : (s : State) (b : ℕ) (target : Target) (rest : List Item) → Counts s (kill_at_end s b target rest)
 kill_counts s b target rest = go (is_live s.editor b)
   where
-    go : (v : Bool) → Counts s (elim v [ false ↦ on s (GiveAnswer Nil target ∷ rest) | true ↦ unless (must_be_replaceable s.editor b ∷ []) s rest (on (with_editor (killed b s.editor) s) (GiveAnswer T target ∷ rest)) ])
+    go : (v : Bool) → Counts s (kill_live v s b target rest)
     go false = refl
     go true = unless_counts (must_be_replaceable s.editor b ∷ []) s rest (on (with_editor (killed b s.editor) s) (GiveAnswer T target ∷ rest)) (λ e. refl)
 
 finish_counts : (program : Program) (s : State) (p : ℕ) → Counts s (finish program s p)
 finish_counts program s p = go (process s p)
   where
-    status_of : (x : Process) (k : Status) → Counts s (elim k [ Runs ↦ Asks (Kill x.child) (kill_answer (says program s (KilledLast p) s (Finish (p + 1) ∷ []))) | _ ↦ on s (Finish (p + 1) ∷ []) ])
+    status_of : (x : Process) (k : Status) → Counts s (finish_running program k s p x)
     status_of x Runs = killed
       where
         killed : (answer : Answer) (y : Next) → kill_answer (says program s (KilledLast p) s (Finish (p + 1) ∷ [])) answer ≡ Some y → y.config.state.asked ≡ s.asked
@@ -387,7 +362,7 @@ finish_counts program s p = go (process s p)
         killed _ y e = cc
     status_of x _ = refl
 
-    go : (o : Option Process) → Counts s (elim o [ None ↦ on s (WriteDump ∷ []) | Some x ↦ (elim x.status [ Runs ↦ Asks (Kill x.child) (kill_answer (says program s (KilledLast p) s (Finish (p + 1) ∷ []))) | _ ↦ on s (Finish (p + 1) ∷ []) ]) ])
+    go : (o : Option Process) → Counts s (finish_one program s p o)
     go None = refl
     go (Some x) = status_of x x.status
 

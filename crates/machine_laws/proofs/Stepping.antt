@@ -11,27 +11,27 @@ use Rattle.machine_laws.specs.Fits.{KeptFits, SavedFits, shape, shapes}
 use Rattle.text_model.proofs.Sets.{by_test}
 use Rattle.machine_laws.proofs.Changes.{ordered-append}
 use Rattle.editor_model.specs.Values.{Value, Nil, T, Int, ExchangesSpent, at_place, Reply, Answered, Fault, Prim, AddHook, RemoveHook, KillBuffer, StartProcess, SetProcessFilter, SetProcessSentinel, SetProcessBuffer, ProcessSendString, ProcessSendEof, DeleteProcess, AcceptProcessOutput, Form, Forms, NoForms, Then, Do, Setq, In, WhenEq, Block, SaveExcursion, SaveRestriction, SaveCurrentBuffer, InhibitHooks, HandlerDef, equal}
-use Rattle.editor_model.specs.Editor.{Editor, Live, live, is_live, here, buffer_at, killed, register, with_register, with_buffer, with_marker}
+use Rattle.editor_model.specs.Editor.{Editor, Live, live, is_live, here, killed, register, with_register, with_buffer, with_marker}
 use Rattle.editor_model.specs.Answers.{Test, first_fault, Change, Applied, Prepared, Changes, Quiet, Nothing, Barred, Commit, Done, Failed}
 use Rattle.editor_model.specs.Arguments.{arg, string_of, name_of, buffer_of}
 use Rattle.editor_model.specs.TextCalls.{prepare_output}
 use Rattle.editor_model.specs.Table.{query, apply, prepare, commit}
-use Rattle.editor_model.specs.Prims.{Q, S, C, P, manner_of}
+use Rattle.editor_model.specs.Prims.{OnlyAsks, SetsState, ChangesText, ConcernsHandlers, manner_of}
 use Rattle.machine_laws.specs.GoodEditor.{GoodEditor, Steady, FineWhat, FineChange}
 use Rattle.machine_laws.proofs.Advancing.{advances_self, buffer_live, size_of, with_buffer_advances}
 use Rattle.machine_laws.proofs.Applying.{Lies, lies, apply_steady, markers_append, SpotLies, spot_fits}
 use Rattle.machine_laws.proofs.Committing.{FinePrepared, prepare_fine, output_fine, commit_steady, some_of}
 use Rattle.machine_laws.proofs.Settling.{Settles, settles_self, settles_advances, advances_settles, marks_settle, killed_steady}
-use Rattle.plain_machine.specs.Exchanges.{Read, AskEnd, Kill, Answer, Started, Bytes, End, Code, Signal, Running, Sent, Broken, Closed, Killed}
+use Rattle.plain_machine.specs.Exchanges.{Answer, Started, Bytes, End, Code, Signal, Running, Sent, Broken, Closed, Killed}
 use Rattle.plain_machine.specs.State.{State, hooks_of, Program, Process, Status, Runs, Signalled, process, change_process}
 use Rattle.plain_machine.specs.Lines.{Kind, KilledLast, OfBefore, OfAfter, OfFilter, OfSentinel}
 use Rattle.plain_machine.specs.Items.{Item, Top, Body, DoForm, MakeCall, Leave, GiveAnswer, Refuse, MakeChange, Hooks, Calm, CommitChange, Enter, Native, Called, Exit, Wait, Delete, Finish, WriteDump, Target, Nowhere, ToName, ToNative, KeptExcursion, KeptRestriction, KeptBuffer, KeptInhibition, Waiting, Config, Next, Step, Goes, Asks, Ended}
 use Rattle.plain_machine.specs.Refusals.{process_tests, may_ask, must_be_replaceable}
 use Rattle.plain_machine.specs.Arguments.{process_of, filter_of, sentinel_of, child_of, is_closed, encoded, handler_def, native_from, running_in, is_new_name}
-use Rattle.plain_machine.specs.Calls.{silent, on, answered, unless, call, process_call, process_effect, with_filter, with_sentinel, of_buffer, process_buffer, with_process_buffer, is_new_child, started, spawned, send, sent_answer, send_eof, closed_answer, with_input_closed, set_call, change_call, with_editor}
-use Rattle.plain_machine.specs.Forms.{says, with_saved, saved_of, if_live, current, restored, evaluate, void, do_form, block, bounds_kept, assigned, scope_of, kept_reply, give, make_change, commit_change, at_kept, popped, bracket}
-use Rattle.plain_machine.specs.Handling.{text_of, plain_text, second, sentinel_words, bound_params, unlisted, body_of, default_handler, put_in, output_in, put_output, process_buffer_of, mark_of_process, native, native_call, left_state, ended_handler, without_hooks_item}
-use Rattle.plain_machine.specs.Waits.{ask_process, read_answer, end_answer, drain, entry_of, asked_more, more_characters, is_room, counts, target_is_eligible, from_eligible, eligible, delete, kill_answer, ends, exit_text, kill_at_end, finish, wait}
+use Rattle.plain_machine.specs.Calls.{on, answered, unless, call, process_effect, with_filter, with_sentinel, of_buffer, process_buffer, with_process_buffer, is_new_child, started, spawned, send, sent_answer, send_eof, closed_answer, with_input_closed, change_call, with_editor, call_by, end_of, spawned_child, unless_fault}
+use Rattle.plain_machine.specs.Forms.{says, with_saved, saved_of, if_live, current, restored, evaluate, do_form, block, bounds_kept, assigned, scope_of, kept_reply, give, make_change, commit_change, at_kept, popped, bracket, after_commit, when_eq, call_with}
+use Rattle.plain_machine.specs.Handling.{text_of, plain_text, second, sentinel_words, bound_params, unlisted, body_of, default_handler, put_in, output_in, put_output, process_buffer_of, mark_of_process, native, native_call, left_state, ended_handler, without_hooks_item, named_body, native_next, where_live}
+use Rattle.plain_machine.specs.Waits.{ask_process, read_answer, end_answer, drain, entry_of, asked_more, more_characters, is_room, counts, target_is_eligible, from_eligible, eligible, delete, kill_answer, ends, exit_text, kill_at_end, finish, wait, ask_if, ask_next, delete_one, delete_running, finish_one, finish_running, kill_live, wait_case, hear}
 use Rattle.plain_machine.specs.Step.{step, item_step}
 use Rattle.machine_laws.specs.GoodConfig.{ItemFine, AllFine, WorkFine, IsPendingIn, Stacked, GoodConfig, Well}
 use Rattle.machine_laws.proofs.Working.{kinds, Ready, all_work, well_same, well_settled, change_editor, Rests, popped_rests, left_kinds, restored_rests, leave_stacked, dropped_well}
@@ -66,7 +66,7 @@ steady_same s g = record { advances = advances_self s.editor g; same_shapes = re
 unless_well : (tests : List Test) (s : State) (rest : List Item) (t : Step) → Ready s rest → StepWell s t → StepWell s (unless tests s rest t)
 unless_well tests s rest t r h = go (first_fault tests)
   where
-    go : (o : Option Fault) → StepWell s (elim o [ Some f ↦ on s (Refuse f ∷ rest) | None ↦ t ])
+    go : (o : Option Fault) → StepWell s (unless_fault o s rest t)
     go (Some f) = well_same s s (Refuse f ∷ rest) r.editor refl (tt, r.fine) r.stacked
     go None = h
 
@@ -114,9 +114,9 @@ started_well s target rest name b child v r = record {
     x = by_test (λ n. Steady s.editor n) (is_new_name s.editor b) (with_buffer (name_of b) s.editor) s.editor (λ q. record { advances = with_buffer_advances (name_of b) s.editor r.editor; same_shapes = refl }) (λ q. steady_same s r.editor)
 
     spot : Option Spot
-    spot = elim (process_buffer e b) [ None ↦ None | Some id ↦ Some (record { buffer = id; place = (buffer_at e id).end }) ]
+    spot = end_of e (process_buffer e b)
 
-    spot_lies : (o : Option ℕ) → SpotLies e (elim o [ None ↦ None | Some id ↦ Some (record { buffer = id; place = (buffer_at e id).end }) ])
+    spot_lies : (o : Option ℕ) → SpotLies e (end_of e o)
     spot_lies None = tt
     spot_lies (Some id) = (lies e id x.advances.good).end
 
@@ -126,7 +126,7 @@ started_well s target rest name b child v r = record {
 spawned_well : (s : State) (target : Target) (rest : List Item) (name b : Value) (a : Answer) → Ready s rest → AnswerWell s (spawned s target rest name b a)
 spawned_well s target rest name b (Started child) r = go (is_new_child s child)
   where
-    go : (v : Bool) → AnswerWell s (elim v [ false ↦ None | true ↦ Some (silent (started s name b child) (GiveAnswer (Value.TheProcess (length s.processes)) target ∷ rest)) ])
+    go : (v : Bool) → AnswerWell s (spawned_child v s target rest name b child)
     go false = tt
     go true = started_well s target rest name b child (Value.TheProcess (length s.processes)) r
 spawned_well s target rest name b Answer.Refused r = well_same s _ (Refuse Fault.SpawnFailed ∷ rest) r.editor refl (tt, r.fine) r.stacked
@@ -158,17 +158,17 @@ effect_well s target rest _ args r = well_same s s _ r.editor refl (tt, r.fine) 
 
 call_well : (program : Program) (bound : ℕ) (s : State) (target : Target) (rest : List Item) (prim : Prim) (args : List Value) → Ready s rest → StepWell s (call program bound s target rest prim args)
 call_well program bound s target rest prim args r =
-    (elim (manner_of prim) as (λ m. StepWell s (elim m [ Q ↦ answered s target (query s.editor prim args) rest | S ↦ set_call s target rest (apply s.editor prim args) | C ↦ change_call s target rest (prepare s.editor prim args) | P ↦ process_call program bound s target rest prim args ])) [
-      | Q ↦ answered_well s s target (query s.editor prim args) rest r (steady_same s r.editor)
-      | S ↦ answered_well s (with_editor (apply s.editor prim args).editor s) target (apply s.editor prim args).reply rest r (apply_steady s.editor prim args r.editor)
-      | C ↦ change_call_well s target rest (prepare s.editor prim args) r (prepare_fine s.editor prim args r.editor)
-      | P ↦ unless_well (process_tests program bound s prim args) s rest (process_effect s target rest prim args) r (effect_well s target rest prim args r)
+    (elim (manner_of prim) as (λ m. StepWell s (call_by m program bound s target rest prim args)) [
+      | OnlyAsks ↦ answered_well s s target (query s.editor prim args) rest r (steady_same s r.editor)
+      | SetsState ↦ answered_well s (with_editor (apply s.editor prim args).editor s) target (apply s.editor prim args).reply rest r (apply_steady s.editor prim args r.editor)
+      | ChangesText ↦ change_call_well s target rest (prepare s.editor prim args) r (prepare_fine s.editor prim args r.editor)
+      | ConcernsHandlers ↦ unless_well (process_tests program bound s prim args) s rest (process_effect s target rest prim args) r (effect_well s target rest prim args r)
     ])
 
 -- FORMS
-evaluated_well : (s : State) (rest : List Item) (o : Option (List Value)) (k : List Value → Item) → Ready s rest → ((args : List Value) → AllFine (k args ∷ rest)) → ((args : List Value) → Stacked (k args ∷ rest) (kinds s)) → StepWell s (elim o [ None ↦ void s rest | Some args ↦ on s (k args ∷ rest) ])
-evaluated_well s rest None k r f h = well_same s s (Refuse Fault.VoidVariable ∷ rest) r.editor refl (tt, r.fine) r.stacked
-evaluated_well s rest (Some args) k r f h = well_same s s (k args ∷ rest) r.editor refl (f args) (h args)
+evaluated_well : (s : State) (rest : List Item) (o : Option (List Value)) (prim : Prim) (target : Target) → Ready s rest → StepWell s (call_with o prim target s rest)
+evaluated_well s rest None prim target r = well_same s s (Refuse Fault.VoidVariable ∷ rest) r.editor refl (tt, r.fine) r.stacked
+evaluated_well s rest (Some args) prim target r = well_same s s (MakeCall prim args target ∷ rest) r.editor refl (tt, r.fine) r.stacked
 
 -- a place kept on top
 pushed_well : (s : State) (k : Saved) (work : List Item) → GoodEditor s.editor → ((id : ℕ) → KeptFits id (size_of s.editor id) k) → AllFine work → Stacked work (shape k ∷ kinds s) → Well s.editor (record { state = with_saved (k ∷ saved_of s) s; work = work })
@@ -191,7 +191,7 @@ block_well SaveRestriction forms s rest r = pushed_well s (Restriction s.editor.
 block_well SaveCurrentBuffer forms s rest r = well_same s s (Body forms ∷ Leave (KeptBuffer s.editor.current) ∷ rest) r.editor refl (tt, (tt, r.fine)) r.stacked
 block_well InhibitHooks forms s rest r = well_same s (record s { inhibited = true }) (Body forms ∷ Leave (KeptInhibition s.inhibited) ∷ rest) r.editor refl (tt, (tt, r.fine)) r.stacked
 
-pair_well : (s : State) (rest : List Item) (o : Option (List Value)) (forms : Forms) → Ready s rest → StepWell s (elim o [ Some (x ∷ y ∷ []) ↦ (elim (equal x y) [ true ↦ on s (Body forms ∷ rest) | false ↦ on s rest ]) | _ ↦ void s rest ])
+pair_well : (s : State) (rest : List Item) (o : Option (List Value)) (forms : Forms) → Ready s rest → StepWell s (when_eq o forms s rest)
 pair_well s rest None forms r = well_same s s (Refuse Fault.VoidVariable ∷ rest) r.editor refl (tt, r.fine) r.stacked
 pair_well s rest (Some []) forms r = well_same s s (Refuse Fault.VoidVariable ∷ rest) r.editor refl (tt, r.fine) r.stacked
 pair_well s rest (Some (x ∷ [])) forms r = well_same s s (Refuse Fault.VoidVariable ∷ rest) r.editor refl (tt, r.fine) r.stacked
@@ -203,8 +203,8 @@ pair_well s rest (Some (x ∷ y ∷ [])) forms r = go (equal x y)
 pair_well s rest (Some (x ∷ y ∷ z ∷ more)) forms r = well_same s s (Refuse Fault.VoidVariable ∷ rest) r.editor refl (tt, r.fine) r.stacked
 
 form_well : (s : State) (rest : List Item) (f : Form) → Ready s rest → StepWell s (do_form s rest f)
-form_well s rest (Do c) r = evaluated_well s rest (evaluate s c.args) (λ args. MakeCall c.prim args Nowhere) r (λ args. (tt, r.fine)) (λ args. r.stacked)
-form_well s rest (Setq name c) r = evaluated_well s rest (evaluate s c.args) (λ args. MakeCall c.prim args (ToName name)) r (λ args. (tt, r.fine)) (λ args. r.stacked)
+form_well s rest (Do c) r = evaluated_well s rest (evaluate s c.args) c.prim Nowhere r
+form_well s rest (Setq name c) r = evaluated_well s rest (evaluate s c.args) c.prim (ToName name) r
 form_well s rest (In k forms) r = block_well k forms s rest r
 form_well s rest (WhenEq a b forms) r = pair_well s rest (evaluate s (a ∷ b ∷ [])) forms r
 
@@ -277,10 +277,7 @@ kept_change s c g w p (Pending b from to ∷ ks) q h =
 commit_well : (s : State) (c : Change) (rest : List Item) → GoodEditor s.editor → FineWhat c.what → AllFine rest → IsPendingIn c.buffer (kinds s) → Stacked rest (drop 1 (kinds s)) → StepWell s (commit_change s c rest)
 commit_well s c rest g w f p k = go (commit s.editor (at_kept c (saved_of s))) (commit_steady s.editor (at_kept c (saved_of s)) g (kept_change s c g w p (saved_of s) refl))
   where
-    go : (done : Commit) → Steady s.editor done.editor → StepWell s (elim done.committed [
-      | Failed y ↦ on (popped s) (Refuse y ∷ rest)
-      | Done from to old ↦ on (record (popped (with_editor done.editor s)) { inhibited = true }) (bracket s.inhibited (OfAfter c.buffer) (hooks_of s.hooks c.buffer).after (at_place from ∷ at_place to ∷ Int (pos old) ∷ []) rest)
-    ])
+    go : (done : Commit) → Steady s.editor done.editor → StepWell s (after_commit done.editor done.committed s c rest)
     go done x = by_kind done.committed
       where
         t : State
@@ -289,10 +286,7 @@ commit_well s c rest g w f p k = go (commit s.editor (at_kept c (saved_of s))) (
         y : Rests t (popped t) (drop 1 (kinds t))
         y = popped_rests t x.advances.good
 
-        by_kind : (o : Rattle.editor_model.specs.Answers.Committed) → StepWell s (elim o [
-          | Failed y ↦ on (popped s) (Refuse y ∷ rest)
-          | Done from to old ↦ on (record (popped (with_editor done.editor s)) { inhibited = true }) (bracket s.inhibited (OfAfter c.buffer) (hooks_of s.hooks c.buffer).after (at_place from ∷ at_place to ∷ Int (pos old) ∷ []) rest)
-        ])
+        by_kind : (o : Rattle.editor_model.specs.Answers.Committed) → StepWell s (after_commit done.editor o s c rest)
         by_kind (Failed a) =
             let z : Rests s (popped s) (drop 1 (kinds s)) = popped_rests s g in
             well_settled s.editor (popped s) (Refuse a ∷ rest) g z.settles (tt, f) (subst (λ ks. Stacked rest ks) (sym z.same_kinds) k)
@@ -331,7 +325,7 @@ output_in_well s (Some b) mark text rest r h l =
 process_lives : (s : State) (p b : ℕ) → process_buffer_of s p ≡ Some b → is_live s.editor b ≡ true
 process_lives s p b h = go (process s p) h
   where
-    lives : (o : Option ℕ) → SameBuffer (elim o [ None ↦ None | Some n ↦ (elim (is_live s.editor n) [ true ↦ Some n | false ↦ None ]) ]) (Some b) → is_live s.editor b ≡ true
+    lives : (o : Option ℕ) → SameBuffer (where_live s o) (Some b) → is_live s.editor b ≡ true
     lives None k = cc
     lives (Some n) k = by_test_of (is_live s.editor n) refl k
       where
@@ -339,7 +333,7 @@ process_lives s p b h = go (process s p) h
         by_test_of true q k = let e : n ≡ b = cc in subst (λ i. is_live s.editor i ≡ true) e q
         by_test_of false q k = cc
 
-    go : (o : Option Process) → SameBuffer (elim o [ None ↦ None | Some x ↦ (elim x.buffer [ None ↦ None | Some n ↦ (elim (is_live s.editor n) [ true ↦ Some n | false ↦ None ]) ]) ]) (Some b) → is_live s.editor b ≡ true
+    go : (o : Option Process) → SameBuffer (elim o [ None ↦ None | Some x ↦ (where_live s x.buffer) ]) (Some b) → is_live s.editor b ≡ true
     go None k = cc
     go (Some x) k = lives x.buffer k
 
@@ -363,10 +357,7 @@ body_well : (program : Program) (s : State) (kind : Kind) (handler : Option ℕ)
 body_well program s kind None args rest r = default_well (record s { scopes = [] ∷ s.scopes }) kind args rest (record { editor = r.editor; fine = r.fine; stacked = r.stacked })
 body_well program s kind (Some name) args rest r = go (handler_def program.handlers name)
   where
-    go : (o : Option HandlerDef) → Well s.editor (elim o [
-      | Some d ↦ record { state = record s { scopes = bound_params d.params args ∷ s.scopes }; work = Body d.body ∷ rest }
-      | None ↦ record { state = record s { scopes = [] ∷ s.scopes }; work = Native (unwrap_or (native_from 0 program.natives name) 0) args [] ∷ rest }
-    ])
+    go : (o : Option HandlerDef) → Well s.editor (named_body program s o name args (rest))
     go None = well_same s (record s { scopes = [] ∷ s.scopes }) (Native (unwrap_or (native_from 0 program.natives name) 0) args [] ∷ rest) r.editor refl (tt, r.fine) r.stacked
     go (Some d) = well_same s (record s { scopes = bound_params d.params args ∷ s.scopes }) (Body d.body ∷ rest) r.editor refl (tt, r.fine) r.stacked
 
@@ -387,7 +378,7 @@ callable_stacked program s c rest ks h = go (Rattle.plain_machine.specs.Natives.
 native_well : (program : Program) (s : State) (i : ℕ) (args : List Value) (past : List Reply) (rest : List Item) → Ready s rest → StepWell s (native program s i args past rest)
 native_well program s i args past rest r = go (nat_lt (length past) 256) (program.does i args past)
   where
-    go : (b : Bool) (o : Option (Prim × List Value)) → StepWell s (elim b [ false ↦ on s rest | true ↦ (elim o [ None ↦ on s rest | Some c ↦ on s (native_call program s c ∷ Called i args past ∷ rest) ]) ])
+    go : (b : Bool) (o : Option (Prim × List Value)) → StepWell s (native_next b o program s i args past rest)
     go false o = well_same s s rest r.editor refl r.fine r.stacked
     go true None = well_same s s rest r.editor refl r.fine r.stacked
     go true (Some c) = well_same s s (native_call program s c ∷ Called i args past ∷ rest) r.editor refl (callable_fine program s c, (tt, r.fine)) (callable_stacked program s c (Called i args past ∷ rest) (kinds s) r.stacked)
@@ -455,7 +446,7 @@ read_well s w target rest p x (Bytes bytes) r = go (is_room bytes)
     work : List Item
     work = Wait (record w { counted = w.counted || counts w p }) target ∷ rest
 
-    go : (v : Bool) → AnswerWell s (elim v [ false ↦ None | true ↦ Some (silent (change_process p (λ y. record y { bytes = x.bytes ++ bytes }) (asked_more s)) (entry_of s p x text work)) ])
+    go : (v : Bool) → AnswerWell s (hear v s w target rest p x bytes)
     go false = tt
     go true = well_same s (change_process p (λ y. record y { bytes = x.bytes ++ bytes }) (asked_more s)) (entry_of s p x text work) r.editor (change_editor p (λ y. record y { bytes = x.bytes ++ bytes }) (asked_more s)) (entry_fine s p x text work (tt, r.fine)) (entry_stacked s p x text work (kinds s) r.stacked)
 read_well s w target rest p x Answer.Nothing r = well_same s (asked_more s) (Wait w target ∷ rest) r.editor refl (tt, r.fine) r.stacked
@@ -476,14 +467,11 @@ end_well s w target rest p x _ r = tt
 ask_well : (s : State) (w : Waiting) (target : Target) (rest : List Item) (p : ℕ) → Ready s rest → StepWell s (ask_process s w target rest p)
 ask_well s w target rest p r = go (may_ask s) (process s p)
   where
-    drained : (x : Process) (b : Bool) → StepWell s (elim b [ false ↦ Asks (Read x.child) (read_answer s w target rest p x) | true ↦ Asks (AskEnd x.child) (end_answer s w target rest p x) ])
+    drained : (x : Process) (b : Bool) → StepWell s (ask_next b s w target rest p x)
     drained x true = λ a. end_well s w target rest p x a r
     drained x false = λ a. read_well s w target rest p x a r
 
-    go : (b : Bool) (o : Option Process) → StepWell s (elim b [
-      | false ↦ on s (Refuse ExchangesSpent ∷ rest)
-      | true ↦ (elim o [ None ↦ on s rest | Some x ↦ (elim x.drained [ false ↦ Asks (Read x.child) (read_answer s w target rest p x) | true ↦ Asks (AskEnd x.child) (end_answer s w target rest p x) ]) ])
-    ])
+    go : (b : Bool) (o : Option Process) → StepWell s (ask_if b o s w target rest p)
     go false o = well_same s s (Refuse ExchangesSpent ∷ rest) r.editor refl (tt, r.fine) r.stacked
     go true None = well_same s s rest r.editor refl r.fine r.stacked
     go true (Some x) = drained x x.drained
@@ -494,19 +482,7 @@ wait_well s w target rest r = go w.counted (target_is_eligible s w) (from_eligib
     answer : (v : Value) → StepWell s (on s (GiveAnswer v target ∷ rest))
     answer v = well_same s s (GiveAnswer v target ∷ rest) r.editor refl (tt, r.fine) r.stacked
 
-    go : (counted fit : Bool) (asking all : List ℕ) (rounds : ℕ) → StepWell s (elim counted [
-      | true ↦ on s (GiveAnswer T target ∷ rest)
-      | false ↦ (elim fit [
-        | false ↦ on s (GiveAnswer Nil target ∷ rest)
-        | true ↦ (elim asking [
-          | p ∷ more ↦ ask_process s (record w { asking = more }) target rest p
-          | [] ↦ (elim all [
-            | [] ↦ on s (GiveAnswer Nil target ∷ rest)
-            | p ∷ more ↦ (elim rounds [ zero ↦ on s (GiveAnswer Nil target ∷ rest) | suc n ↦ on s (Wait (record w { rounds = n; asking = p ∷ more }) target ∷ rest) ])
-          ])
-        ])
-      ])
-    ])
+    go : (counted fit : Bool) (asking all : List ℕ) (rounds : ℕ) → StepWell s (wait_case counted fit asking all rounds s w target rest)
     go true fit asking all rounds = answer T
     go false false asking all rounds = answer Nil
     go false true (p ∷ more) all rounds = ask_well s (record w { asking = more }) target rest p r
@@ -522,11 +498,11 @@ killed_well s n _ h = tt
 delete_well : (s : State) (p : ℕ) (rest : List Item) → Ready s rest → StepWell s (delete s p rest)
 delete_well s p rest r = go (process s p)
   where
-    status_of : (x : Process) (k : Status) → StepWell s (elim k [ Runs ↦ Asks (Kill x.child) (kill_answer (ends s p x Signalled (codes "killed\n") rest)) | _ ↦ on s rest ])
+    status_of : (x : Process) (k : Status) → StepWell s (delete_running k s p x rest)
     status_of x Runs = λ a. killed_well s (ends s p x Signalled (codes "killed\n") rest) a (ends_well s s p x Signalled (codes "killed\n") rest r refl)
     status_of x _ = well_same s s rest r.editor refl r.fine r.stacked
 
-    go : (o : Option Process) → StepWell s (elim o [ None ↦ on s rest | Some x ↦ (elim x.status [ Runs ↦ Asks (Kill x.child) (kill_answer (ends s p x Signalled (codes "killed\n") rest)) | _ ↦ on s rest ]) ])
+    go : (o : Option Process) → StepWell s (delete_one s p o rest)
     go None = well_same s s rest r.editor refl r.fine r.stacked
     go (Some x) = status_of x x.status
 
@@ -536,7 +512,7 @@ kill_well s b target rest r = go (is_live s.editor b)
     x : Steady s.editor (killed b s.editor)
     x = killed_steady b s.editor r.editor
 
-    go : (v : Bool) → StepWell s (elim v [ false ↦ on s (GiveAnswer Nil target ∷ rest) | true ↦ unless (must_be_replaceable s.editor b ∷ []) s rest (on (with_editor (killed b s.editor) s) (GiveAnswer T target ∷ rest)) ])
+    go : (v : Bool) → StepWell s (kill_live v s b target rest)
     go false = well_same s s (GiveAnswer Nil target ∷ rest) r.editor refl (tt, r.fine) r.stacked
     go true = unless_well (must_be_replaceable s.editor b ∷ []) s rest (on (with_editor (killed b s.editor) s) (GiveAnswer T target ∷ rest)) r
         (record { advances = x.advances; work = (tt, r.fine); stack = subst (λ ks. Stacked rest ks) (sym x.same_shapes) r.stacked })
@@ -547,11 +523,11 @@ finish_well program s p g = go (process s p)
     next : StepWell s (on s (Finish (p + 1) ∷ []))
     next = well_same s s (Finish (p + 1) ∷ []) g refl (tt, tt) tt
 
-    status_of : (x : Process) (k : Status) → StepWell s (elim k [ Runs ↦ Asks (Kill x.child) (kill_answer (says program s (KilledLast p) s (Finish (p + 1) ∷ []))) | _ ↦ on s (Finish (p + 1) ∷ []) ])
+    status_of : (x : Process) (k : Status) → StepWell s (finish_running program k s p x)
     status_of x Runs = λ a. killed_well s (says program s (KilledLast p) s (Finish (p + 1) ∷ [])) a next
     status_of x _ = next
 
-    go : (o : Option Process) → StepWell s (elim o [ None ↦ on s (WriteDump ∷ []) | Some x ↦ (elim x.status [ Runs ↦ Asks (Kill x.child) (kill_answer (says program s (KilledLast p) s (Finish (p + 1) ∷ []))) | _ ↦ on s (Finish (p + 1) ∷ []) ]) ])
+    go : (o : Option Process) → StepWell s (finish_one program s p o)
     go None = well_same s s (WriteDump ∷ []) g refl (tt, tt) tt
     go (Some x) = status_of x x.status
 

@@ -1,29 +1,29 @@
 -- Each step of the machine is one of those moves.
 use Rattle.std.proofs.Common.{◌≡◌, ℕ, zero, suc, ◌+◌, Bool, true, false, List, [], ◌∷◌, ◌++◌, length, map, refl, ap, sym, ◌∙◌, subst, arith}
 use Rattle.std.proofs.lemmas.List.{map-append}
-use Rattle.std.specs.Prelude.{pos, Option, Some, None, ◌==◌, not, ◌&&◌, ◌||◌, nat_lt, drop, codes, unwrap_or, slice_get, slice_set}
+use Rattle.std.specs.Prelude.{pos, Option, Some, None, ◌==◌, not, ◌&&◌, ◌||◌, nat_lt, drop, codes, slice_get, slice_set}
 use Rattle.std.specs.List.{list_any}
 use Rattle.text_model.specs.Characters.{Ch}
 use Rattle.text_model.specs.Decoding.{characters, all_characters}
 use Rattle.text_model.specs.Properties.{Cell}
-use Rattle.editor_model.specs.Values.{Value, Nil, T, Int, ExchangesSpent, VoidVariable, at_place, Reply, Answered, Fault, Prim, StartProcess, KillBuffer, ProcessSendString, ProcessSendEof, DeleteProcess, Form, Forms, NoForms, Then, Do, Setq, In, WhenEq, Block, SaveExcursion, SaveRestriction, SaveCurrentBuffer, InhibitHooks, HandlerDef, equal}
+use Rattle.editor_model.specs.Values.{Value, T, Int, at_place, Reply, Answered, Fault, Prim, StartProcess, KillBuffer, ProcessSendString, ProcessSendEof, DeleteProcess, Form, Forms, NoForms, Then, Do, Setq, In, WhenEq, Block, SaveExcursion, SaveRestriction, SaveCurrentBuffer, InhibitHooks, HandlerDef, equal}
 use Rattle.editor_model.specs.Editor.{is_live, killed}
 use Rattle.editor_model.specs.Arguments.{arg, string_of, buffer_of}
 use Rattle.editor_model.specs.Answers.{Test, first_fault}
 use Rattle.editor_model.specs.TextCalls.{prepare_output}
 use Rattle.editor_model.specs.Table.{Change, Commit, query, apply, prepare, Prepared, Changes, Quiet, Nothing, Barred, Done, Failed, commit}
-use Rattle.editor_model.specs.Prims.{Q, S, C, P, manner_of}
+use Rattle.editor_model.specs.Prims.{OnlyAsks, SetsState, ChangesText, ConcernsHandlers, manner_of}
 use Rattle.plain_machine.specs.Exchanges.{Ask, Spawn, Read, AskEnd, Send, Close, Kill, Answer, Started, Sent, Broken, Closed, Killed, Bytes, End, Code, Signal, Running, Exchange}
-use Rattle.plain_machine.specs.State.{State, hooks_of, Program, Process, Status, Runs, Exited, Signalled, Lost, Off, process, change_process}
+use Rattle.plain_machine.specs.State.{State, hooks_of, Program, Process, Status, Runs, Exited, Signalled, Lost, process, change_process}
 use Rattle.plain_machine.specs.Lines.{Kind, KilledLast, OfBefore, OfAfter, OfFilter, OfSentinel}
 use Rattle.plain_machine.specs.Items.{Item, Top, Body, DoForm, MakeCall, Leave, GiveAnswer, Refuse, MakeChange, Hooks, Calm, CommitChange, Enter, Native, Called, Exit, Wait, Delete, Finish, WriteDump, Target, Nowhere, ToName, ToNative, Waiting, Config, Next, Step, Goes, Asks, Ended}
-use Rattle.plain_machine.specs.Calls.{silent, on, answered, unless, call, process_call, process_effect, spawned, started, is_new_child, sent_answer, closed_answer, with_input_closed, send, send_eof, set_call, change_call, with_editor}
+use Rattle.plain_machine.specs.Calls.{silent, on, answered, unless, call, process_effect, spawned, started, is_new_child, sent_answer, closed_answer, with_input_closed, send, send_eof, change_call, with_editor, call_by, spawned_child, unless_fault}
 use Rattle.plain_machine.specs.Refusals.{process_tests, may_ask, must_be_replaceable}
-use Rattle.plain_machine.specs.Arguments.{process_of, child_of, is_closed, encoded, handler_def, native_from, running_in, runs}
+use Rattle.plain_machine.specs.Arguments.{process_of, child_of, is_closed, encoded, handler_def, running_in, runs}
 use Rattle.plain_machine.specs.Step.{step, item_step}
-use Rattle.plain_machine.specs.Forms.{dropped, restored, evaluate, do_form, block, give, kept_reply, commit_change, at_kept, saved_of, popped, bracket, says, current}
-use Rattle.plain_machine.specs.Handling.{mark_of_process, second, sentinel_words, plain_text, bound_params, enter, text_of, body_of, default_handler, put_in, output_in, process_buffer_of, native, native_call, left_state, ended_handler, without_hooks_item}
-use Rattle.plain_machine.specs.Waits.{ask_process, asked_more, read_answer, end_answer, drain, is_room, entry_of, counts, more_characters, ends, exit_text, is_eligible, target_is_eligible, from_eligible, eligible, delete, kill_answer, kill_at_end, finish, wait}
+use Rattle.plain_machine.specs.Forms.{dropped, restored, evaluate, do_form, block, give, kept_reply, commit_change, at_kept, saved_of, popped, bracket, says, current, after_commit, call_with, when_eq}
+use Rattle.plain_machine.specs.Handling.{mark_of_process, second, sentinel_words, plain_text, enter, text_of, body_of, default_handler, put_in, output_in, process_buffer_of, native, left_state, ended_handler, without_hooks_item, named_body, native_next}
+use Rattle.plain_machine.specs.Waits.{ask_process, asked_more, read_answer, end_answer, drain, is_room, entry_of, counts, more_characters, ends, exit_text, is_eligible, target_is_eligible, from_eligible, eligible, delete, kill_answer, kill_at_end, finish, wait, ask_if, ask_next, delete_one, delete_running, hear, is_eligible_one, kill_live, wait_case, finish_one, finish_running}
 use Rattle.machine_laws.proofs.Keeping.{Core, core, cores, change_keeps, step_keeps}
 use Rattle.machine_laws.proofs.Moves.{IsHook, Plain, AllPlain, Valid, Silent, Nobody, Output, coming, output_of, Working, phase, IsIdle, IsNew, IsLast, Still, Ends, Moves, rests, enters, spawns, hears, drains, dies, closes, passes, kills, dumps}
 
@@ -103,10 +103,7 @@ plain_body : (program : Program) (s : State) (kind : Kind) (handler : Option ℕ
 plain_body program s kind None args work r = plain_default (record s { scopes = [] ∷ s.scopes }) kind args work r
 plain_body program s kind (Some name) args work r = go (handler_def program.handlers name)
   where
-    go : (o : Option HandlerDef) → let k : Config = elim o [
-      | Some d ↦ record { state = record s { scopes = bound_params d.params args ∷ s.scopes }; work = Body d.body ∷ work }
-      | None ↦ record { state = record s { scopes = [] ∷ s.scopes }; work = Native (unwrap_or (native_from 0 program.natives name) 0) args [] ∷ work }
-    ] in AllPlain k.work
+    go : (o : Option HandlerDef) → let k : Config = named_body program s o name args (work) in AllPlain k.work
     go None = (tt, r)
     go (Some d) = (tt, r)
 
@@ -131,7 +128,7 @@ answered_does s t target (Answered v) rest h = ((tt, h), tt)
 answered_does s t target (Reply.Refused f) rest h = ((tt, h), tt)
 
 unless_does : (tests : List Test) (s : State) (rest : List Item) (t : Step) → AllPlain rest → Does s t → Does s (unless tests s rest t)
-unless_does tests s rest t r h = (elim (first_fault tests) as (λ o. Does s (elim o [ Some f ↦ on s (Refuse f ∷ rest) | None ↦ t ])) [ Some f ↦ ((tt, r), tt) | None ↦ h ])
+unless_does tests s rest t r h = (elim (first_fault tests) as (λ o. Does s (unless_fault o s rest t)) [ Some f ↦ ((tt, r), tt) | None ↦ h ])
 
 change_call_does : (s : State) (target : Target) (rest : List Item) (p : Prepared) → AllPlain rest → Does s (change_call s target rest p)
 change_call_does s target rest (Changes c) r = ((tt, (tt, r)), tt)
@@ -185,7 +182,7 @@ new_in child (y ∷ xs) h (suc p) x e k =
 spawn_does : (s : State) (target : Target) (rest : List Item) (name b : Value) (program : List ℕ) (words : List (List ℕ)) → AllPlain rest → Does s (Asks (Spawn program words) (spawned s target rest name b))
 spawn_does s target rest name b program words r = go
   where
-    made : (child : ℕ) (new : Bool) → is_new_child s child ≡ new → (n : Next) → elim new [ false ↦ None | true ↦ Some (silent (started s name b child) (GiveAnswer (Value.TheProcess (length s.processes)) target ∷ rest)) ] ≡ Some n →
+    made : (child : ℕ) (new : Bool) → is_new_child s child ≡ new → (n : Next) → spawned_child new s target rest name b child ≡ Some n →
         Moves (cores s) Nobody Working (record { ask = Spawn program words; answer = Started child } ∷ []) n.said (cores n.config.state) (coming n.config.work) (phase n.config.work) × Valid n.config.work
     made child false h n e = cc
     made child true h n e =
@@ -208,14 +205,14 @@ effect_does s target rest _ args r = ((tt, r), tt)
 
 call_does : (program : Program) (bound : ℕ) (s : State) (target : Target) (rest : List Item) (prim : Prim) (args : List Value) → AllPlain rest → Does s (call program bound s target rest prim args)
 call_does program bound s target rest prim args r =
-    (elim (manner_of prim) as (λ m. Does s (elim m [ Q ↦ answered s target (query s.editor prim args) rest | S ↦ set_call s target rest (apply s.editor prim args) | C ↦ change_call s target rest (prepare s.editor prim args) | P ↦ process_call program bound s target rest prim args ])) [
-      | Q ↦ answered_does s s target (query s.editor prim args) rest r
-      | S ↦ answered_does s _ target (apply s.editor prim args).reply rest r
-      | C ↦ change_call_does s target rest (prepare s.editor prim args) r
-      | P ↦ unless_does (process_tests program bound s prim args) s rest (process_effect s target rest prim args) r (effect_does s target rest prim args r)
+    (elim (manner_of prim) as (λ m. Does s (call_by m program bound s target rest prim args)) [
+      | OnlyAsks ↦ answered_does s s target (query s.editor prim args) rest r
+      | SetsState ↦ answered_does s _ target (apply s.editor prim args).reply rest r
+      | ChangesText ↦ change_call_does s target rest (prepare s.editor prim args) r
+      | ConcernsHandlers ↦ unless_does (process_tests program bound s prim args) s rest (process_effect s target rest prim args) r (effect_does s target rest prim args r)
     ])
 
-evaluated_does : (s : State) (rest : List Item) (o : Option (List Value)) (prim : Prim) (target : Target) → AllPlain rest → Does s (elim o [ None ↦ on s (Refuse VoidVariable ∷ rest) | Some args ↦ on s (MakeCall prim args target ∷ rest) ])
+evaluated_does : (s : State) (rest : List Item) (o : Option (List Value)) (prim : Prim) (target : Target) → AllPlain rest → Does s (call_with o prim target s rest)
 evaluated_does s rest None prim target r = ((tt, r), tt)
 evaluated_does s rest (Some args) prim target r = ((tt, r), tt)
 
@@ -225,7 +222,7 @@ block_does SaveRestriction forms s rest r = ((tt, (tt, r)), tt)
 block_does SaveCurrentBuffer forms s rest r = ((tt, (tt, r)), tt)
 block_does InhibitHooks forms s rest r = ((tt, (tt, r)), tt)
 
-pair_does : (s : State) (rest : List Item) (o : Option (List Value)) (forms : Forms) → AllPlain rest → Does s (elim o [ Some (x ∷ y ∷ []) ↦ (elim (equal x y) [ true ↦ on s (Body forms ∷ rest) | false ↦ on s rest ]) | _ ↦ on s (Refuse VoidVariable ∷ rest) ])
+pair_does : (s : State) (rest : List Item) (o : Option (List Value)) (forms : Forms) → AllPlain rest → Does s (when_eq o forms s rest)
 pair_does s rest None forms r = ((tt, r), tt)
 pair_does s rest (Some []) forms r = ((tt, r), tt)
 pair_does s rest (Some (x ∷ [])) forms r = ((tt, r), tt)
@@ -247,10 +244,7 @@ give_does program s v ToNative rest r = (plain_kept (Answered v) rest r, (tt, tt
 commit_does : (s : State) (c : Change) (rest : List Item) → AllPlain rest → Does s (commit_change s c rest)
 commit_does s c rest r =
     let done : Commit = commit s.editor (at_kept c (saved_of s)) in
-    (elim done.committed as (λ k. Does s (elim k [
-      | Failed f ↦ on (popped s) (Refuse f ∷ rest)
-      | Done from to old ↦ on (record (popped (with_editor done.editor s)) { inhibited = true }) (bracket s.inhibited (OfAfter c.buffer) (hooks_of s.hooks c.buffer).after (at_place from ∷ at_place to ∷ Int (pos old) ∷ []) rest)
-    ])) [ Failed f ↦ ((tt, r), tt) | Done from to old ↦ (plain_bracket s.inhibited (OfAfter c.buffer) (hooks_of s.hooks c.buffer).after (at_place from ∷ at_place to ∷ Int (pos old) ∷ []) rest tt r, tt) ])
+    (elim done.committed as (λ k. Does s (after_commit done.editor k s c rest)) [ Failed f ↦ ((tt, r), tt) | Done from to old ↦ (plain_bracket s.inhibited (OfAfter c.buffer) (hooks_of s.hooks c.buffer).after (at_place from ∷ at_place to ∷ Int (pos old) ∷ []) rest tt r, tt) ])
 
 callable_does : (s : State) (rest : List Item) (b : Bool) (prim : Prim) (args : List Value) (f : Fault) → AllPlain rest → Does s (on s (elim b [ true ↦ MakeCall prim args ToNative | false ↦ Refuse f ] ∷ rest))
 callable_does s rest true prim args f r = ((tt, r), tt)
@@ -259,7 +253,7 @@ callable_does s rest false prim args f r = ((tt, r), tt)
 native_does : (program : Program) (s : State) (i : ℕ) (args : List Value) (past : List Reply) (rest : List Item) → AllPlain rest → Does s (native program s i args past rest)
 native_does program s i args past rest r = go (nat_lt (length past) 256) (program.does i args past)
   where
-    go : (b : Bool) (o : Option (Prim × List Value)) → Does s (elim b [ false ↦ on s rest | true ↦ (elim o [ None ↦ on s rest | Some c ↦ on s (native_call program s c ∷ Called i args past ∷ rest) ]) ])
+    go : (b : Bool) (o : Option (Prim × List Value)) → Does s (native_next b o program s i args past rest)
     go false o = (r, tt)
     go true None = (r, tt)
     go true (Some c) = callable_does s (Called i args past ∷ rest) (Rattle.plain_machine.specs.Natives.is_callable program s c) c.0 (map Rattle.plain_machine.specs.Natives.normal c.1) Fault.WrongType (tt, r)
@@ -314,7 +308,7 @@ module _ (s : State) (target : Target) (rest : List Item) (r : AllPlain rest) wh
           comes (Read x.child) answer _ n e
           (drains p (core x) answer l refl (get_cores s.processes p x h) live undrained refl refl (changed_cores p (λ y. record y { drained = true }) (asked_more s) x h) t.0 refl t.2, t.1)
 
-      heard : (bytes : List ℕ) (room : Bool) (n : Next) → elim room [ false ↦ None | true ↦ Some (silent (change_process p (λ y. record y { bytes = x.bytes ++ bytes }) (asked_more s)) (entry_of s p x (more_characters (characters x.bytes) (characters (x.bytes ++ bytes))) (Wait (record w { counted = w.counted || counts w p }) target ∷ rest))) ] ≡ Some n → Comes (Read x.child) (Bytes bytes) n
+      heard : (bytes : List ℕ) (room : Bool) (n : Next) → hear room s w target rest p x bytes ≡ Some n → Comes (Read x.child) (Bytes bytes) n
       heard bytes false n e = cc
       heard bytes true n e =
           let text : List Ch = more_characters (characters x.bytes) (characters (x.bytes ++ bytes)) in
@@ -357,14 +351,11 @@ module _ (s : State) (target : Target) (rest : List Item) (r : AllPlain rest) wh
   ask_does : (w : Waiting) (p : ℕ) → ((x : Process) → process s p ≡ Some x → runs x.status ≡ true) → Does s (ask_process s w target rest p)
   ask_does w p live = go (may_ask s) (process s p) refl
     where
-      which : (x : Process) → process s p ≡ Some x → (b : Bool) → x.drained ≡ b → Does s (elim b [ false ↦ Asks (Read x.child) (read_answer s w target rest p x) | true ↦ Asks (AskEnd x.child) (end_answer s w target rest p x) ])
+      which : (x : Process) → process s p ≡ Some x → (b : Bool) → x.drained ≡ b → Does s (ask_next b s w target rest p x)
       which x h true e = end_does w p x h (live x h) e
       which x h false e = read_does w p x h (live x h) e
 
-      go : (b : Bool) (o : Option Process) → process s p ≡ o → Does s (elim b [
-        | false ↦ on s (Refuse ExchangesSpent ∷ rest)
-        | true ↦ (elim o [ None ↦ on s rest | Some x ↦ (elim x.drained [ false ↦ Asks (Read x.child) (read_answer s w target rest p x) | true ↦ Asks (AskEnd x.child) (end_answer s w target rest p x) ]) ])
-      ])
+      go : (b : Bool) (o : Option Process) → process s p ≡ o → Does s (ask_if b o s w target rest p)
       go false o e = ((tt, r), tt)
       go true None e = (r, tt)
       go true (Some x) e = which x e x.drained refl
@@ -372,11 +363,11 @@ module _ (s : State) (target : Target) (rest : List Item) (r : AllPlain rest) wh
   delete_does : (p : ℕ) → Does s (delete s p rest)
   delete_does p = go (process s p) refl
     where
-      by_status : (x : Process) → process s p ≡ Some x → (k : Status) → x.status ≡ k → Does s (elim k [ Runs ↦ Asks (Kill x.child) (kill_answer (ends s p x Signalled (codes "killed\n") rest)) | _ ↦ on s rest ])
+      by_status : (x : Process) → process s p ≡ Some x → (k : Status) → x.status ≡ k → Does s (delete_running k s p x rest)
       by_status x h Runs e = kill_does p x h (ap runs e)
       by_status x h _ e = (r, tt)
 
-      go : (o : Option Process) → process s p ≡ o → Does s (elim o [ None ↦ on s rest | Some x ↦ (elim x.status [ Runs ↦ Asks (Kill x.child) (kill_answer (ends s p x Signalled (codes "killed\n") rest)) | _ ↦ on s rest ]) ])
+      go : (o : Option Process) → process s p ≡ o → Does s (delete_one s p o rest)
       go None e = (r, tt)
       go (Some x) e = by_status x e x.status refl
 
@@ -387,8 +378,8 @@ and_left false b h = cc
 
 fit_runs : (s : State) (w : Waiting) (p : ℕ) (x : Process) → is_eligible s w p ≡ true → process s p ≡ Some x → runs x.status ≡ true
 fit_runs s w p x h e =
-    let k : (o : Option Process) → o ≡ Some x → (elim o [ None ↦ false | Some x ↦ runs x.status && ((elim x.filter [ Off ↦ false | _ ↦ true ]) && (not w.just || (elim w.target [ Some t ↦ t == p | None ↦ true ]))) ]) ≡ true → runs x.status ≡ true =
-    λ o e h. and_left (runs x.status) _ (subst (λ o. (elim o [ None ↦ false | Some x ↦ runs x.status && ((elim x.filter [ Off ↦ false | _ ↦ true ]) && (not w.just || (elim w.target [ Some t ↦ t == p | None ↦ true ]))) ]) ≡ true) e h) in
+    let k : (o : Option Process) → o ≡ Some x → (is_eligible_one w p o) ≡ true → runs x.status ≡ true =
+    λ o e h. and_left (runs x.status) _ (subst (λ o. (is_eligible_one w p o) ≡ true) e h) in
     k (process s p) e h
 
 first_fit : (s : State) (w : Waiting) (asking : List ℕ) (p : ℕ) (more : List ℕ) → from_eligible s w asking ≡ p ∷ more → is_eligible s w p ≡ true
@@ -402,19 +393,7 @@ first_fit s w (q ∷ asking) p more e = go (is_eligible s w q) (first_fit s w as
 wait_does : (s : State) (w : Waiting) (target : Target) (rest : List Item) → AllPlain rest → Does s (wait s w target rest)
 wait_does s w target rest r = go w.counted (target_is_eligible s w) (from_eligible s w w.asking) refl (eligible s w) w.rounds
   where
-    go : (counted fit : Bool) (asking : List ℕ) → from_eligible s w w.asking ≡ asking → (all : List ℕ) (rounds : ℕ) → Does s (elim counted [
-      | true ↦ on s (GiveAnswer T target ∷ rest)
-      | false ↦ (elim fit [
-        | false ↦ on s (GiveAnswer Nil target ∷ rest)
-        | true ↦ (elim asking [
-          | p ∷ more ↦ ask_process s (record w { asking = more }) target rest p
-          | [] ↦ (elim all [
-            | [] ↦ on s (GiveAnswer Nil target ∷ rest)
-            | p ∷ more ↦ (elim rounds [ zero ↦ on s (GiveAnswer Nil target ∷ rest) | suc n ↦ on s (Wait (record w { rounds = n; asking = p ∷ more }) target ∷ rest) ])
-          ])
-        ])
-      ])
-    ])
+    go : (counted fit : Bool) (asking : List ℕ) → from_eligible s w w.asking ≡ asking → (all : List ℕ) (rounds : ℕ) → Does s (wait_case counted fit asking all rounds s w target rest)
     go true fit asking e all rounds = ((tt, r), tt)
     go false false asking e all rounds = ((tt, r), tt)
     go false true (p ∷ more) e all rounds = ask_does s target rest r (record w { asking = more }) p (λ x h. fit_runs s w p x (first_fit s w w.asking p more e) h)
@@ -425,7 +404,7 @@ wait_does s w target rest r = go w.counted (target_is_eligible s w) (from_eligib
 kill_buffer_does : (s : State) (b : ℕ) (target : Target) (rest : List Item) → AllPlain rest → Does s (kill_at_end s b target rest)
 kill_buffer_does s b target rest r = go (is_live s.editor b)
   where
-    go : (v : Bool) → Does s (elim v [ false ↦ on s (GiveAnswer Nil target ∷ rest) | true ↦ unless (must_be_replaceable s.editor b ∷ []) s rest (on (with_editor (killed b s.editor) s) (GiveAnswer T target ∷ rest)) ])
+    go : (v : Bool) → Does s (kill_live v s b target rest)
     go false = ((tt, r), tt)
     go true = unless_does (must_be_replaceable s.editor b ∷ []) s rest (on (with_editor (killed b s.editor) s) (GiveAnswer T target ∷ rest)) r ((tt, r), tt)
 
@@ -484,7 +463,7 @@ finish_shown program s p rest = go (process s p) refl
         subst (λ (n : Next). Made (record { state = s; work = Finish p ∷ rest }) (record { ask = Kill x.child; answer = answer } ∷ []) n) q
         (kills p (core x) refl refl refl (tt, refl) (tt, tt) (get_cores s.processes p x h) live e' refl refl, refl)
 
-    by_status : (x : Process) → process s p ≡ Some x → (k : Status) → x.status ≡ k → Shown (record { state = s; work = Finish p ∷ rest }) (elim k [ Runs ↦ Asks (Kill x.child) (kill_answer told) | _ ↦ on s (Finish (p + 1) ∷ []) ])
+    by_status : (x : Process) → process s p ≡ Some x → (k : Status) → x.status ≡ k → Shown (record { state = s; work = Finish p ∷ rest }) (finish_running program k s p x)
     by_status x h Runs e = asked
       where
         asked : (answer : Answer) (n : Next) → kill_answer told answer ≡ Some n → Made (record { state = s; work = Finish p ∷ rest }) (record { ask = Kill x.child; answer = answer } ∷ []) n
@@ -493,7 +472,7 @@ finish_shown program s p rest = go (process s p) refl
         asked _ n k = cc
     by_status x h _ e = λ k. (passes p (core x) refl refl k refl tt (get_cores s.processes p x h) (ap runs e) refl refl, refl)
 
-    go : (o : Option Process) → process s p ≡ o → Shown (record { state = s; work = Finish p ∷ rest }) (elim o [ None ↦ on s (WriteDump ∷ []) | Some x ↦ (elim x.status [ Runs ↦ Asks (Kill x.child) (kill_answer told) | _ ↦ on s (Finish (p + 1) ∷ []) ]) ])
+    go : (o : Option Process) → process s p ≡ o → Shown (record { state = s; work = Finish p ∷ rest }) (finish_one program s p o)
     go None e = λ k. (Moves.ends p refl refl k refl tt (get_none s.processes p e) refl refl, refl)
     go (Some x) e = by_status x e x.status refl
 

@@ -1,5 +1,5 @@
 -- What holds of the undo records of a buffer, and of its text, from one change to the next.
-use Rattle.std.specs.Prelude.{◌≡◌, ℕ, ◌≤◌, ◌<◌, Bool, true, false, ◌&&◌, ◌==◌, List, [], ◌∷◌, if◌then◌else◌}
+use Rattle.std.specs.Prelude.{◌≡◌, ℕ, ◌≤◌, ◌<◌, true, false, List, [], ◌∷◌}
 use Rattle.text_model.specs.Properties.{Cell}
 use Rattle.text_model.specs.Ordered.{AreOrdered}
 use Rattle.text_model.specs.Undo.{Rec, Inserted, Deleted, Prop, Entry, Undo, boundary_at, newer_than, rewind, pending}

@@ -14,13 +14,13 @@ use Rattle.editor_model.specs.Table.{Change, UndoGroups, Quiet, prepare}
 use Rattle.plain_machine.specs.Exchanges.{Ask, Read, AskEnd, Kill, Answer, Bytes, End, Exchange, children_started, rising, gone, living}
 use Rattle.plain_machine.specs.State.{Process, Program, process}
 use Rattle.plain_machine.specs.Lines.{OfFilter, OfSentinel, Event, Entered, Replied}
-use Rattle.plain_machine.specs.Items.{Item, Refuse, Enter, MakeCall, CommitChange, Finish, WriteDump, Target, Said, Config, Next, Goes, Ended}
+use Rattle.plain_machine.specs.Items.{Item, Refuse, MakeCall, CommitChange, Finish, WriteDump, Target, Said, Config, Next, Goes}
 use Rattle.plain_machine.specs.Arguments.{runs}
 use Rattle.plain_machine.specs.Refusals.{most_exchanges}
 use Rattle.plain_machine.specs.Handling.{second}
 use Rattle.plain_machine.specs.Step.{step}
 use Rattle.plain_machine.specs.WholeRuns.{IsBetweenEntries, Ran, BrokenOff}
-use Rattle.plain_machine.specs.Run.{Reaches, start, lines, IsCut, run}
+use Rattle.plain_machine.specs.Run.{Reaches, IsCut, run}
 
 -- OF ONE PROCESS
 -- the text with which its filter was entered

@@ -1,4 +1,4 @@
--- Handlers and processes as arguments of calls.
+-- Handlers and processes as arguments of calls. GNU Emacs Lisp Reference Manual, chapter "Processes".
 use Rattle.std.specs.Prelude.{ℕ, zero, suc, ◌+◌, Bool, true, false, ◌&&◌, ◌||◌, not, ◌==◌, List, [], ◌∷◌, map, flat_map, filter, length, Option, Some, None, is_some, unwrap_or}
 use Rattle.std.specs.List.{list_all, enumerate_from}
 use Rattle.text_model.specs.Characters.{Scalar, Raw}

@@ -1,11 +1,13 @@
--- The calls that concern hooks and processes: what each refuses, and its next step.
+-- The step of a call. Calls on the editor go by its table; those that concern hooks and processes stand here. GNU Emacs
+-- Lisp Reference Manual, sections "Asynchronous Processes", "Deleting Processes", "Process Information",
+-- "Input to Processes", "Accepting Output".
 use Rattle.std.specs.Prelude.{ℕ, ◌+◌, pos, Bool, true, false, not, ◌==◌, List, [], ◌∷◌, ◌++◌, map, filter, length, drop, if◌then◌else◌, Option, Some, None}
 use Rattle.std.specs.List.{list_any, enumerate_from}
 use Rattle.text_model.specs.Marks.{Spot}
-use Rattle.editor_model.specs.Values.{Value, Nil, Int, Sym, Str, TheBuffer, TheMarker, TheProcess, list, is_nil, plain, truth, BrokenPipe, SpawnFailed, Reply, Answered, Prim, KillBuffer, AddHook, RemoveHook, StartProcess, ProcessList, GetProcess, ProcessName, ProcessStatus, ProcessBuffer, ProcessMark, ProcessLiveP, ProcessExitStatus, ProcessFilter, ProcessSentinel, SetProcessFilter, SetProcessSentinel, SetProcessBuffer, ProcessSendString, ProcessSendEof, DeleteProcess, AcceptProcessOutput}
+use Rattle.editor_model.specs.Values.{Value, Nil, Int, Sym, Str, TheBuffer, TheMarker, TheProcess, list, is_nil, plain, truth, Fault, BrokenPipe, SpawnFailed, Reply, Answered, Prim, KillBuffer, AddHook, RemoveHook, StartProcess, ProcessList, GetProcess, ProcessName, ProcessStatus, ProcessBuffer, ProcessMark, ProcessLiveP, ProcessExitStatus, ProcessFilter, ProcessSentinel, SetProcessFilter, SetProcessSentinel, SetProcessBuffer, ProcessSendString, ProcessSendEof, DeleteProcess, AcceptProcessOutput}
 use Rattle.editor_model.specs.Editor.{Editor, buffer_at, with_buffer, with_marker}
 use Rattle.editor_model.specs.Arguments.{arg, string_of, name_of, buffer_of, symbol_of}
-use Rattle.editor_model.specs.Prims.{Q, S, C, P, manner_of}
+use Rattle.editor_model.specs.Prims.{Manner, OnlyAsks, SetsState, ChangesText, ConcernsHandlers, manner_of}
 use Rattle.editor_model.specs.Answers.{Test, first_fault}
 use Rattle.editor_model.specs.Table.{Applied, query, apply, prepare, Prepared, Changes, Quiet, Nothing, Barred, commit}
 use Rattle.plain_machine.specs.Exchanges.{Spawn, Send, Close, Answer, Started, Sent, Broken, Closed}
@@ -27,8 +29,12 @@ answered s target (Answered v) rest = on s (GiveAnswer v target ∷ rest)
 answered s target (Reply.Refused f) rest = on s (Refuse f ∷ rest)
 
 -- a step, unless the call is refused
+abbrev pub unless_fault : Option Fault → State → List Item → Step → Step
+unless_fault (Some f) s rest step = on s (Refuse f ∷ rest)
+unless_fault None s rest step = step
+
 abbrev pub unless : List Test → State → List Item → Step → Step
-unless tests s rest step = elim (first_fault tests) [ Some f ↦ on s (Refuse f ∷ rest) | None ↦ step ]
+unless tests s rest step = unless_fault (first_fault tests) s rest step
 
 abbrev pub with_editor : Editor → State → State
 with_editor e s = record s { editor = e }
@@ -46,13 +52,17 @@ abbrev pub process_buffer : Editor → Value → Option ℕ
 process_buffer e Nil = None
 process_buffer e v = Some (buffer_of e v)
 
+-- its mark stands at the end of the accessible portion, or nowhere
+abbrev pub end_of : Editor → Option ℕ → Option Spot
+end_of e None = None
+end_of e (Some id) = Some (record { buffer = id; place = (buffer_at e id).end })
+
 abbrev pub started : State → (name b : Value) → (child : ℕ) → State
 started s name b child =
     let e : Editor = with_process_buffer b s.editor in
     let buffer : Option ℕ = process_buffer e b in
-    let spot : Option Spot = elim buffer [ None ↦ None | Some id ↦ Some (record { buffer = id; place = (buffer_at e id).end }) ] in
     record s {
-      editor = with_marker (record { spot = spot; advances = false }) e;
+      editor = with_marker (record { spot = end_of e buffer; advances = false }) e;
       processes = s.processes ++ record { name = process_name s.processes (name_of name); child = child; status = Runs; buffer = buffer; mark = length e.marks.markers; filter = Default; sentinel = None; bytes = []; drained = false; closed = false; listed = true } ∷ [];
       asked = s.asked + 1;
     }
@@ -61,11 +71,13 @@ started s name b child =
 abbrev pub is_new_child : State → ℕ → Bool
 is_new_child s child = not (list_any (λ x. x.child == child) s.processes)
 
+-- the first answer of a host for a child that it started before is none
+abbrev pub spawned_child : (is_new : Bool) → State → Target → List Item → (name b : Value) → (child : ℕ) → Option Next
+spawned_child false s target rest name b child = None
+spawned_child true s target rest name b child = Some (silent (started s name b child) (GiveAnswer (TheProcess (length s.processes)) target ∷ rest))
+
 abbrev pub spawned : State → Target → List Item → (name b : Value) → Answer → Option Next
-spawned s target rest name b (Started child) = elim (is_new_child s child) [
-  | false ↦ None
-  | true ↦ Some (silent (started s name b child) (GiveAnswer (TheProcess (length s.processes)) target ∷ rest))
-]
+spawned s target rest name b (Started child) = spawned_child (is_new_child s child) s target rest name b child
 spawned s target rest name b Answer.Refused = Some (silent (record s { asked = s.asked + 1 }) (Refuse SpawnFailed ∷ rest))
 spawned s target rest name b _ = None
 
@@ -121,10 +133,14 @@ exit_value (Exited n) = Int n
 exit_value Signalled = Nil
 exit_value Lost = Nil
 
+abbrev pub buffer_value : Option ℕ → Value
+buffer_value None = Nil
+buffer_value (Some b) = TheBuffer b
+
 abbrev pub told_of : Prim → Process → Value
 told_of ProcessName x = plain x.name
 told_of ProcessStatus x = Sym (status_symbol x.status)
-told_of ProcessBuffer x = elim x.buffer [ Some b ↦ TheBuffer b | None ↦ Nil ]
+told_of ProcessBuffer x = buffer_value x.buffer
 told_of ProcessMark x = TheMarker x.mark
 told_of ProcessLiveP x = truth (runs x.status)
 told_of ProcessExitStatus x = exit_value x.status
@@ -132,8 +148,16 @@ told_of ProcessFilter x = filter_value x.filter
 told_of ProcessSentinel x = sentinel_value x.sentinel
 told_of _ x = Nil
 
+abbrev pub told_of_one : Prim → Option Process → Value
+told_of_one prim None = Nil
+told_of_one prim (Some x) = told_of prim x
+
+abbrev pub process_value : Option ℕ → Value
+process_value None = Nil
+process_value (Some p) = TheProcess p
+
 abbrev pub get_process : State → Value → Value
-get_process s (Str t) = elim (find_process 0 s.processes (name_of (Str t))) [ Some p ↦ TheProcess p | None ↦ Nil ]
+get_process s (Str t) = process_value (find_process 0 s.processes (name_of (Str t)))
 get_process s v = v
 
 abbrev pub listed : State → List Value
@@ -157,7 +181,7 @@ process_effect s target rest ProcessSendString args = send s target rest (child_
 process_effect s target rest ProcessSendEof args = send_eof s target rest (process_of s (arg args 0)) (is_closed s (process_of s (arg args 0)))
 process_effect s target rest DeleteProcess args = on s (Delete (process_of s (arg args 0)) ∷ GiveAnswer Nil target ∷ rest)
 process_effect s target rest AcceptProcessOutput args = on s (Wait (waiting s (arg args 0) (arg args 1) (arg args 2)) target ∷ rest)
-process_effect s target rest prim args = on s (GiveAnswer (elim (process s (process_of s (arg args 0))) [ Some x ↦ told_of prim x | None ↦ Nil ]) target ∷ rest)
+process_effect s target rest prim args = on s (GiveAnswer (told_of_one prim (process s (process_of s (arg args 0)))) target ∷ rest)
 
 abbrev pub process_call : Program → (bound : ℕ) → State → Target → List Item → Prim → List Value → Step
 process_call program bound s target rest prim args = unless (process_tests program bound s prim args) s rest (process_effect s target rest prim args)
@@ -171,10 +195,12 @@ change_call s target rest (Barred f) = on s (Refuse f ∷ rest)
 abbrev pub set_call : State → Target → List Item → Applied → Step
 set_call s target rest a = answered (with_editor a.editor s) target a.reply rest
 
+-- EVERY CALL
+abbrev pub call_by : Manner → Program → (bound : ℕ) → State → Target → List Item → Prim → List Value → Step
+call_by OnlyAsks program bound s target rest prim args = answered s target (query s.editor prim args) rest
+call_by SetsState program bound s target rest prim args = set_call s target rest (apply s.editor prim args)
+call_by ChangesText program bound s target rest prim args = change_call s target rest (prepare s.editor prim args)
+call_by ConcernsHandlers program bound s target rest prim args = process_call program bound s target rest prim args
+
 abbrev pub call : Program → (bound : ℕ) → State → Target → List Item → Prim → List Value → Step
-call program bound s target rest prim args = elim (manner_of prim) [
-  | Q ↦ answered s target (query s.editor prim args) rest
-  | S ↦ set_call s target rest (apply s.editor prim args)
-  | C ↦ change_call s target rest (prepare s.editor prim args)
-  | P ↦ process_call program bound s target rest prim args
-]
+call program bound s target rest prim args = call_by (manner_of prim) program bound s target rest prim args

@@ -1,4 +1,4 @@
--- The words of the command line, and the drill.
+-- The words of the command line, and the drill: a script and a child that the program brings along to measure itself.
 use Rattle.std.specs.Prelude.{ℕ, zero, suc, ◌+◌, ◌%◌, Bool, true, false, ◌&&◌, ◌==◌, nat_le, List, [], ◌∷◌, ◌++◌, map, filter, take, drop, length, replicate, codes, decimal, Option, Some, None}
 use Rattle.std.specs.List.{list_all}
 use Rattle.text_model.specs.Characters.{Scalar}

@@ -1,4 +1,6 @@
--- Handlers: how they are entered, run and left.
+-- Handlers: how they are entered, run and left. A handler is a filter or sentinel of a process or a hook function of a
+-- buffer: a body of the script, a native, or the default one. GNU Emacs Lisp Reference Manual, sections "Filter Functions",
+-- "Sentinels", "Change Hooks".
 use Rattle.std.specs.Prelude.{ℕ, ◌+◌, ◌-◌, Bool, true, false, nat_lt, List, [], ◌∷◌, ◌++◌, map, length, drop, codes, Option, Some, None, unwrap_or}
 use Rattle.text_model.specs.Characters.{Ch, Scalar}
 use Rattle.text_model.specs.Properties.{Cell}
@@ -26,8 +28,12 @@ text_of text = map (λ c. (c, [])) text
 
 -- DEFAULT HANDLERS
 -- the buffer of a process, where it lives
+abbrev pub where_live : State → Option ℕ → Option ℕ
+where_live s None = None
+where_live s (Some b) = elim (is_live s.editor b) [ true ↦ Some b | false ↦ None ]
+
 abbrev pub process_buffer_of : State → ℕ → Option ℕ
-process_buffer_of s p = elim (process s p) [ None ↦ None | Some x ↦ (elim x.buffer [ None ↦ None | Some b ↦ (elim (is_live s.editor b) [ true ↦ Some b | false ↦ None ]) ]) ]
+process_buffer_of s p = elim (process s p) [ None ↦ None | Some x ↦ where_live s x.buffer ]
 
 abbrev pub mark_of_process : State → ℕ → ℕ
 mark_of_process s p = elim (process s p) [ None ↦ 0 | Some x ↦ x.mark ]
@@ -65,12 +71,17 @@ default_handler s _ args rest = record { state = s; work = rest }
 
 -- ENTERING
 -- the body of a script's handler, a native, or the insertion of a default handler
+abbrev pub in_scope : Scope → State → State
+in_scope scope s = record s { scopes = scope ∷ s.scopes }
+
+-- a script's handler hides a native of its name
+abbrev pub named_body : Program → State → Option HandlerDef → (name : ℕ) → List Value → List Item → Config
+named_body program s (Some d) name args rest = record { state = in_scope (bound_params d.params args) s; work = Body d.body ∷ rest }
+named_body program s None name args rest = record { state = in_scope [] s; work = Native (unwrap_or (native_from 0 program.natives name) 0) args [] ∷ rest }
+
 abbrev pub body_of : Program → State → Kind → Option ℕ → List Value → List Item → Config
-body_of program s kind None args rest = default_handler (record s { scopes = [] ∷ s.scopes }) kind args rest
-body_of program s kind (Some name) args rest = elim (handler_def program.handlers name) [
-  | Some d ↦ record { state = record s { scopes = bound_params d.params args ∷ s.scopes }; work = Body d.body ∷ rest }
-  | None ↦ record { state = record s { scopes = [] ∷ s.scopes }; work = Native (unwrap_or (native_from 0 program.natives name) 0) args [] ∷ rest }
-]
+body_of program s kind None args rest = default_handler (in_scope [] s) kind args rest
+body_of program s kind (Some name) args rest = named_body program s (handler_def program.handlers name) name args rest
 
 abbrev pub enter : Program → State → Kind → Option ℕ → List Value → List Item → Next
 enter program s kind handler args rest = record {
@@ -83,11 +94,13 @@ abbrev pub native_call : Program → State → Prim × List Value → Item
 native_call program s c = elim (is_callable program s c) [ true ↦ MakeCall c.0 (map normal c.1) ToNative | false ↦ Refuse WrongType ]
 
 -- a native goes on until it is done, or has had 256 replies
+abbrev pub native_next : (goes_on : Bool) → Option (Prim × List Value) → Program → State → ℕ → List Value → List Reply → List Item → Step
+native_next false c program s i args past rest = on s rest
+native_next true None program s i args past rest = on s rest
+native_next true (Some c) program s i args past rest = on s (native_call program s c ∷ Called i args past ∷ rest)
+
 abbrev pub native : Program → State → ℕ → List Value → List Reply → List Item → Step
-native program s i args past rest = elim (nat_lt (length past) 256) [
-  | false ↦ on s rest
-  | true ↦ (elim (program.does i args past) [ None ↦ on s rest | Some c ↦ on s (native_call program s c ∷ Called i args past ∷ rest) ])
-]
+native program s i args past rest = native_next (nat_lt (length past) 256) (program.does i args past) program s i args past rest
 
 abbrev pub without_hooks_item : List Item → List Item
 without_hooks_item (Hooks kind names args ∷ rest) = rest

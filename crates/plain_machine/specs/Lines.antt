@@ -1,4 +1,4 @@
--- The bytes of lines and of the dump.
+-- The bytes of lines and of the dump: what a user sees of a run. Values are printed as Lisp prints them.
 use Rattle.std.specs.Prelude.{ℕ, zero, suc, ◌+◌, ◌/◌, ◌%◌, ℤ, pos, negsuc, ◌||◌, ◌==◌, nat_lt, List, [], ◌∷◌, ◌++◌, map, flat_map, codes, decimal, encode_utf8, slice_get, if◌then◌else◌, Option, Some, None, unwrap_or}
 use Rattle.std.specs.List.{enumerate_from}
 use Rattle.text_model.specs.Characters.{Ch, Scalar, Raw}

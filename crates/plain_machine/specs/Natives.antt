@@ -1,4 +1,5 @@
--- Handlers that aren't written in the script: what their calls may hold.
+-- Handlers that aren't written in the script but in the program: what their calls may hold. A native is seen as a
+-- function of its arguments and of the replies that its calls have had so far.
 use Rattle.std.specs.Prelude.{ℕ, Bool, true, ◌&&◌, nat_lt, nat_le, List, length}
 use Rattle.std.specs.List.{list_all}
 use Rattle.text_model.specs.Properties.{PropSet, PropVal, Symbol, Symbols}

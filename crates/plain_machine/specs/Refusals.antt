@@ -1,4 +1,4 @@
--- What the calls that concern hooks and processes refuse.
+-- What the calls that concern hooks and processes refuse, and in which order.
 use Rattle.std.specs.Prelude.{ℕ, ◌+◌, pos, Bool, true, false, ◌&&◌, ◌||◌, not, ◌==◌, nat_lt, nat_le, List, [], ◌∷◌, ◌++◌, map, length, drop, None}
 use Rattle.editor_model.specs.Values.{Value, Nil, Int, TheBuffer, is_nil, ArgsOutOfRange, WrongType, VoidVariable, BufferKilled, NoSuchProcess, ProcessEnded, Nesting, ExchangesSpent, TooMany, Prim, KillBuffer, AddHook, RemoveHook, StartProcess, ProcessList, GetProcess, SetProcessFilter, SetProcessSentinel, SetProcessBuffer, ProcessSendString, ProcessSendEof, DeleteProcess, AcceptProcessOutput}
 use Rattle.editor_model.specs.Editor.{Editor, is_live, live_from}

@@ -1,4 +1,5 @@
--- The three handlers that the program brings along: insert-filter, drop-filter, note-sentinel.
+-- The three handlers that the program brings along: insert-filter, drop-filter, note-sentinel. The first does by calls
+-- what the Reference Manual's example of a filter does (section "Filter Functions").
 use Rattle.std.specs.Prelude.{ℕ, zero, suc, ℤ, pos, negsuc, ◌+ℤ◌, ◌-ℤ◌, int_lt, int_le, Bool, true, false, ◌&&◌, List, [], ◌∷◌, ◌++◌, map, codes, if◌then◌else◌, Option, Some, None}
 use Rattle.text_model.specs.Characters.{Scalar}
 use Rattle.editor_model.specs.Values.{Value, Int, Str, TheBuffer, TheMarker, Reply, Answered, Refused, Prim, GetBufferCreate, SetBuffer, PointAt, PointMax, GotoChar, Insert, ProcessBuffer, ProcessMark, MarkerPosition, SetMarker}

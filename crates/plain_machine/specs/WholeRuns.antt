@@ -1,4 +1,5 @@
--- A script's whole run, and a run that was broken off.
+-- A script's whole run, and a run that was broken off: what the top call claims of the bytes that it wrote and of the
+-- exchanges that it made.
 use Rattle.std.specs.Prelude.{◌≡◌, ℕ, List, [], ◌∷◌, ◌++◌}
 use Rattle.editor_model.specs.Values.{Script}
 use Rattle.plain_machine.specs.Exchanges.{Exchange, Kill, living}
@@ -44,4 +45,3 @@ pub record BrokenOff (program : Program) (bound : ℕ) (script : Script) (exchan
   pub exchanges_are : exchanges ≡ made ++ kills
   pub killed : AreKills (living made) kills
   pub bytes : IsPrefixOf written (lines said)
-

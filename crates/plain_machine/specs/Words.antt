@@ -1,4 +1,5 @@
--- The bytes of a script as words with blanks between them.
+-- The bytes of a script as words with blanks between them. The grammar is a relation between bytes and a script, and no
+-- way of reading one.
 use Rattle.std.specs.Prelude.{◌≡◌, ◌⊎◌, ℕ, ◌+◌, ◌*◌, ◌-◌, ℤ, pos, neg_ℤ, Bool, true, false, ◌&&◌, ◌||◌, not, ◌==◌, nat_lt, nat_le, IsTrue, List, [], ◌∷◌, ◌++◌, length, codes}
 use Rattle.std.specs.List.{list_all}
 use Rattle.text_model.specs.Characters.{Ch, Scalar, Raw}

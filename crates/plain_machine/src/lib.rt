@@ -12,4 +12,3 @@ ghost use Rattle.plain_machine.specs.Run.{Reaches};
 pub fn runs_compose()
     ensures { (program : Program) (bound : ℕ) (c d e : Config) (first second : List Exchange) (said more : List Said) → Reaches program bound c first said d → Reaches program bound d second more e → Reaches program bound c (first ++ second) (said ++ more) e }
 {}
-

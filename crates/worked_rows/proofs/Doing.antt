@@ -3,7 +3,7 @@ use Rattle.std.specs.Prelude.{ℕ, pos, List, [], ◌∷◌, map}
 use Rattle.text_model.specs.Characters.{Scalar}
 use Rattle.text_model.specs.Properties.{Cell, PropSet}
 use Rattle.editor_model.specs.Values.{Value, Nil, T, Int, Str, Reply, Answered, Refused, Prim}
-use Rattle.editor_model.specs.Prims.{Manner, Q, S, C, P, manner_of}
+use Rattle.editor_model.specs.Prims.{Manner, OnlyAsks, SetsState, ChangesText, ConcernsHandlers, manner_of}
 use Rattle.editor_model.specs.Editor.{Editor, new_editor}
 use Rattle.editor_model.specs.Table.{Applied, query, apply, prepare, Prepared, Changes, Quiet, Nothing, Barred, commit, Commit, Committed, Done, Failed}
 
@@ -21,10 +21,10 @@ changed e (Nothing v) = record { editor = e; reply = Answered v }
 changed e (Barred f) = record { editor = e; reply = Refused f }
 
 abbrev made : Manner → Editor → Prim → List Value → Applied
-made Q e prim args = record { editor = e; reply = query e prim args }
-made S e prim args = apply e prim args
-made C e prim args = changed e (prepare e prim args)
-made P e prim args = record { editor = e; reply = Answered Nil }
+made OnlyAsks e prim args = record { editor = e; reply = query e prim args }
+made SetsState e prim args = apply e prim args
+made ChangesText e prim args = changed e (prepare e prim args)
+made ConcernsHandlers e prim args = record { editor = e; reply = Answered Nil }
 
 abbrev pub Calls : Type 0
 Calls = List (Prim × List Value)

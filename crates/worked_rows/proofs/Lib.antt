@@ -1,8 +1,14 @@
-pub mod Computed
-pub mod Scaled
-pub mod Further
-mod Bounded
-mod Returned
+pub mod TextRows
+pub mod PropertyRows
+pub mod OverlayRows
+pub mod UndoRows
+pub mod HookRows
+pub mod ProcessRows
+pub mod WaitRows
+pub mod NativeRows
+pub mod LimitRows
+pub mod DrillRows
+mod UndoneRuns
 mod Doing
 mod BufferExamples
 mod TextExamples

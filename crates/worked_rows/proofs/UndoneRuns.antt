@@ -8,7 +8,7 @@ use Rattle.text_model.specs.Undo.{boundary_at, ends_with}
 use Rattle.editor_model.specs.Values.{UndoOutside}
 use Rattle.editor_model.specs.Answers.{first_fault, UndoGroups}
 use Rattle.editor_model.specs.Commits.{commit_tests}
-use Rattle.worked_rows.specs.Undoing.{undoing, barred, first_from, buffer_after, config_at}
+use Rattle.worked_rows.specs.UndoneRuns.{undoing, barred, first_from, buffer_after, config_at}
 
 -- step 13 pushes boundary 2, and step 54 undoes back to it
 pushed : map (λ n. boundary_at 2 (buffer_after undoing n).undo.entries) (12 ∷ 13 ∷ 54 ∷ []) ≡ false ∷ true ∷ true ∷ []

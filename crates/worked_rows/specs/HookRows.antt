@@ -1,0 +1,106 @@
+-- Worked rows: change hooks.
+use Rattle.std.specs.Prelude.{ℕ, [], ◌∷◌, codes}
+use Rattle.editor_model.specs.Values.{list, Name, Prim}
+use Rattle.worked_rows.specs.Row.{Row, row, script, call, set, handler, number, string, symbol, nil, t, text, before_change_functions, after_change_functions, refused, killed}
+
+-- A hook function edits the buffer before the change; its ends move along.
+--     (defhandler h (b e) (delete-region 1 2))
+--     (insert "abcd")(add-hook 'before-change-functions 'h)(delete-region 3 4)
+abbrev pub hook_edits_before_the_change : Row
+hook_edits_before_the_change =
+    let h : ℕ = 14 in let b : ℕ = 15 in let e : ℕ = 16 in
+    row (script (codes "h" ∷ codes "b" ∷ codes "e" ∷ []) (handler h (b ∷ e ∷ []) (call Prim.DeleteRegion (number 1 ∷ number 2 ∷ []) ∷ []) ∷ []) (
+    call Prim.Insert (string (codes "abcd") ∷ []) ∷
+    call Prim.AddHook (symbol before_change_functions ∷ symbol h ∷ []) ∷
+    call Prim.DeleteRegion (number 3 ∷ number 4 ∷ []) ∷ []
+    )) [] (
+    codes "= nil" ∷
+    codes "= (h)" ∷
+    codes "> before h 3 4" ∷
+    codes "  = nil" ∷
+    codes "< h" ∷
+    codes "= nil" ∷
+    codes "buffer *scratch* point 3 min 1 max 3 modified t current" ∷
+    codes "text \"bd\"" ∷ []
+    )
+
+-- A hook function kills the buffer: the change is refused.
+--     (defhandler h (b e) (kill-buffer))
+--     (get-buffer-create "w")(set-buffer "w")(insert "ab")(setq m (point-marker))(make-overlay 1 2)
+--     (add-hook 'before-change-functions 'h)(insert "c")(marker-buffer m)
+abbrev pub hook_kills_the_buffer : Row
+hook_kills_the_buffer =
+    let h : ℕ = 14 in let b : ℕ = 15 in let e : ℕ = 16 in let m : ℕ = 17 in
+    row (script (codes "h" ∷ codes "b" ∷ codes "e" ∷ codes "m" ∷ []) (handler h (b ∷ e ∷ []) (call Prim.KillBuffer [] ∷ []) ∷ []) (
+    call Prim.GetBufferCreate (string (codes "w") ∷ []) ∷
+    call Prim.SetBuffer (string (codes "w") ∷ []) ∷
+    call Prim.Insert (string (codes "ab") ∷ []) ∷
+    set m Prim.PointMarker [] ∷
+    call Prim.MakeOverlay (number 1 ∷ number 2 ∷ []) ∷
+    call Prim.AddHook (symbol before_change_functions ∷ symbol h ∷ []) ∷
+    call Prim.Insert (string (codes "c") ∷ []) ∷
+    call Prim.MarkerBuffer (Name m ∷ []) ∷ []
+    )) [] (
+    codes "= #<buffer w>" ∷
+    codes "= #<buffer w>" ∷
+    codes "= nil" ∷
+    codes "= #<marker at 3 in w>" ∷
+    codes "= #<overlay from 1 to 2 in w>" ∷
+    codes "= (h)" ∷
+    codes "> before h 3 3" ∷
+    codes "  = t" ∷
+    codes "< h" ∷
+    codes "! 5 buffer-killed" ∷
+    codes "= nil" ∷
+    codes "buffer *scratch* point 1 min 1 max 1 modified nil current" ∷
+    codes "text \"\"" ∷
+    codes "marker 0 #<marker in no buffer>" ∷
+    codes "overlay 0 #<overlay in no buffer> nil" ∷ []
+    )
+
+-- What a function behind a change is given; a change that is refused or changes nothing enters none.
+--     (defhandler g (b e n))
+--     (insert "abcdef")(add-hook 'after-change-functions 'g)(delete-region 3 2)(narrow-to-region 1 3)(delete-region 2 4)(delete-region 2 2)
+abbrev pub after_change_arguments : Row
+after_change_arguments =
+    let g : ℕ = 14 in let b : ℕ = 15 in let e : ℕ = 16 in let n : ℕ = 17 in
+    row (script (codes "g" ∷ codes "b" ∷ codes "e" ∷ codes "n" ∷ []) (handler g (b ∷ e ∷ n ∷ []) ([]) ∷ []) (
+    call Prim.Insert (string (codes "abcdef") ∷ []) ∷
+    call Prim.AddHook (symbol after_change_functions ∷ symbol g ∷ []) ∷
+    call Prim.DeleteRegion (number 3 ∷ number 2 ∷ []) ∷
+    call Prim.NarrowToRegion (number 1 ∷ number 3 ∷ []) ∷
+    call Prim.DeleteRegion (number 2 ∷ number 4 ∷ []) ∷
+    call Prim.DeleteRegion (number 2 ∷ number 2 ∷ []) ∷ []
+    )) [] (
+    codes "= nil" ∷
+    codes "= (g)" ∷
+    codes "> after g 2 2 1" ∷
+    codes "< g" ∷
+    codes "= nil" ∷
+    codes "= nil" ∷
+    codes "! 1 args-out-of-range" ∷
+    codes "= nil" ∷
+    codes "buffer *scratch* point 3 min 1 max 3 modified t current" ∷
+    codes "text \"acdef\"" ∷ []
+    )
+
+-- A hook function that ends by a fault empties its list, and the change goes on.
+--     (defhandler h (b e) (goto-char unset))
+--     (add-hook 'before-change-functions 'h)(insert "a")(insert "b")
+abbrev pub hook_ended_by_a_fault : Row
+hook_ended_by_a_fault =
+    let h : ℕ = 14 in let b : ℕ = 15 in let e : ℕ = 16 in let unset : ℕ = 17 in
+    row (script (codes "h" ∷ codes "b" ∷ codes "e" ∷ codes "unset" ∷ []) (handler h (b ∷ e ∷ []) (call Prim.GotoChar (Name unset ∷ []) ∷ []) ∷ []) (
+    call Prim.AddHook (symbol before_change_functions ∷ symbol h ∷ []) ∷
+    call Prim.Insert (string (codes "a") ∷ []) ∷
+    call Prim.Insert (string (codes "b") ∷ []) ∷ []
+    )) [] (
+    codes "= (h)" ∷
+    codes "> before h 1 1" ∷
+    codes "  ! 3 void-variable" ∷
+    codes "< h" ∷
+    codes "= nil" ∷
+    codes "= nil" ∷
+    codes "buffer *scratch* point 3 min 1 max 3 modified t current" ∷
+    codes "text \"ab\"" ∷ []
+    )

@@ -1,0 +1,105 @@
+-- Worked rows: texts, markers and blocks.
+use Rattle.std.specs.Prelude.{ℕ, [], ◌∷◌, codes}
+use Rattle.editor_model.specs.Values.{list, In, SaveExcursion, SaveRestriction, Prim}
+use Rattle.worked_rows.specs.Row.{Row, row, script, forms, call, set, number, string, nil, t, text, refused, killed}
+
+-- The empty script.
+abbrev pub empty_script : Row
+empty_script =
+    row (script [] [] []) [] (
+    codes "buffer *scratch* point 1 min 1 max 1 modified nil current" ∷
+    codes "text \"\"" ∷ []
+    )
+
+-- Insert, go, delete.
+--     (insert "hello")(goto-char 2)(delete-region 2 3)
+abbrev pub first_path : Row
+first_path =
+    row (script [] [] (
+    call Prim.Insert (string (codes "hello") ∷ []) ∷
+    call Prim.GotoChar (number 2 ∷ []) ∷
+    call Prim.DeleteRegion (number 2 ∷ number 3 ∷ []) ∷ []
+    )) [] (
+    codes "= nil" ∷
+    codes "= 2" ∷
+    codes "= nil" ∷
+    codes "buffer *scratch* point 2 min 1 max 5 modified t current" ∷
+    codes "text \"hllo\"" ∷ []
+    )
+
+-- A region past the end is refused.
+--     (insert "ab")(delete-region 1 9)
+abbrev pub region_out_of_range : Row
+region_out_of_range =
+    row (script [] [] (
+    call Prim.Insert (string (codes "ab") ∷ []) ∷
+    call Prim.DeleteRegion (number 1 ∷ number 9 ∷ []) ∷ []
+    )) [] (
+    codes "= nil" ∷
+    codes "! 1 args-out-of-range" ∷
+    codes "buffer *scratch* point 3 min 1 max 3 modified t current" ∷
+    codes "text \"ab\"" ∷ []
+    )
+
+-- An empty insertion changes nothing.
+--     (insert "")(goto-char 7)
+abbrev pub empty_insertion : Row
+empty_insertion =
+    row (script [] [] (
+    call Prim.Insert (string (codes "") ∷ []) ∷
+    call Prim.GotoChar (number 7 ∷ []) ∷ []
+    )) [] (
+    codes "= nil" ∷
+    codes "= 7" ∷
+    codes "buffer *scratch* point 1 min 1 max 1 modified nil current" ∷
+    codes "text \"\"" ∷ []
+    )
+
+-- Markers at a tie: one stays, one advances.
+--     (insert "abcd")(setq m (copy-marker 2))(setq n (copy-marker 2 t))(goto-char 2)(insert "xy")
+abbrev pub markers_at_a_tie : Row
+markers_at_a_tie =
+    let m : ℕ = 14 in let n : ℕ = 15 in
+    row (script (codes "m" ∷ codes "n" ∷ []) [] (
+    call Prim.Insert (string (codes "abcd") ∷ []) ∷
+    set m Prim.CopyMarker (number 2 ∷ []) ∷
+    set n Prim.CopyMarker (number 2 ∷ t ∷ []) ∷
+    call Prim.GotoChar (number 2 ∷ []) ∷
+    call Prim.Insert (string (codes "xy") ∷ []) ∷ []
+    )) [] (
+    codes "= nil" ∷
+    codes "= #<marker at 2 in *scratch*>" ∷
+    codes "= #<marker (moves after insertion) at 2 in *scratch*>" ∷
+    codes "= 2" ∷
+    codes "= nil" ∷
+    codes "buffer *scratch* point 4 min 1 max 7 modified t current" ∷
+    codes "text \"axybcd\"" ∷
+    codes "marker 0 #<marker at 2 in *scratch*>" ∷
+    codes "marker 1 #<marker (moves after insertion) at 4 in *scratch*>" ∷ []
+    )
+
+-- Blocks put back point and the bounds; the last buffer killed gives a new one.
+--     (insert "abcdef")
+--     (save-restriction (narrow-to-region 2 4)(goto-char 1)(save-excursion (goto-char 4)(insert "X"))(point-max))
+--     (point-max)(kill-buffer)(buffer-list)
+abbrev pub excursion_in_a_restriction : Row
+excursion_in_a_restriction =
+    row (script [] [] (
+    call Prim.Insert (string (codes "abcdef") ∷ []) ∷
+    In SaveRestriction (forms (call Prim.NarrowToRegion (number 2 ∷ number 4 ∷ []) ∷ call Prim.GotoChar (number 1 ∷ []) ∷ In SaveExcursion (forms (call Prim.GotoChar (number 4 ∷ []) ∷ call Prim.Insert (string (codes "X") ∷ []) ∷ [])) ∷ call Prim.PointMax [] ∷ [])) ∷
+    call Prim.PointMax [] ∷
+    call Prim.KillBuffer [] ∷
+    call Prim.BufferList [] ∷ []
+    )) [] (
+    codes "= nil" ∷
+    codes "= nil" ∷
+    codes "= 1" ∷
+    codes "= 4" ∷
+    codes "= nil" ∷
+    codes "= 5" ∷
+    codes "= 8" ∷
+    codes "= t" ∷
+    codes "= (#<buffer *scratch*>)" ∷
+    codes "buffer *scratch* point 1 min 1 max 1 modified nil current" ∷
+    codes "text \"\"" ∷ []
+    )
