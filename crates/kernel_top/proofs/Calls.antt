@@ -15,7 +15,7 @@ use Rattle.plain_machine.specs.State.{State, Program, new_state}
 use Rattle.plain_machine.specs.Exchanges.{Exchange}
 use Rattle.plain_machine.specs.Items.{Item, Top, MakeCall, GiveAnswer, Refuse, Hooks, Calm, CommitChange, Config, Nowhere, Step}
 use Rattle.plain_machine.specs.Calls.{on, with_editor, change_call}
-use Rattle.plain_machine.specs.Forms.{popped}
+use Rattle.plain_machine.specs.Forms.{after_commit}
 use Rattle.plain_machine.specs.Lines.{OfAfter}
 use Rattle.plain_machine.specs.Step.{step}
 use Rattle.plain_machine.specs.Run.{Reaches, stays, goes}
@@ -51,11 +51,8 @@ abbrev pub kept_state : Buffer → (from to : ℕ) → State
 kept_state b from to = record new_state { editor = kept_editor b from to }
 
 -- the step of a commit, by what the commit comes to
-abbrev by_commit : State → List Item → Commit → Step
-by_commit s rest done = elim done.committed [
-  | Failed f ↦ on (popped s) (Refuse f ∷ rest)
-  | Done from to old ↦ on (record (popped (with_editor done.editor s)) { inhibited = true }) (Hooks (OfAfter 0) [] (at_place from ∷ at_place to ∷ Int (pos old) ∷ []) ∷ Calm false ∷ rest)
-]
+abbrev by_commit : State → Change → List Item → Commit → Step
+by_commit s c rest done = after_commit done.editor done.committed s c rest
 
 module _ (program : Program) (b : Buffer) (fs : Forms) where
   pub goto_char_steps : (i : ℤ) →
@@ -77,7 +74,7 @@ module _ (program : Program) (b : Buffer) (fs : Forms) where
       step program 16 (record { state = kept_state b from to; work = CommitChange (change from to piece point_after) ∷ rest }) ≡
       on (record (committed_state (put b from to piece point_after)) { inhibited = true }) (Hooks (OfAfter 0) [] (at_place from ∷ at_place (from + length piece) ∷ Int (pos (to - from)) ∷ []) ∷ Calm false ∷ rest)
   commit_step from to piece point_after rest h =
-      ap (λ f. by_commit (kept_state b from to) rest (commit_of f (kept_editor b from to) (changed_editor (put b from to piece point_after)) (change from to piece point_after))) h
+      ap (λ f. by_commit (kept_state b from to) (change from to piece point_after) rest (commit_of f (kept_editor b from to) (changed_editor (put b from to piece point_after)) (change from to piece point_after))) h
 
   pub change_steps : (prim : Prim) (values : List Value) (from to : ℕ) (piece : List Cell) (point_after : Bool) →
       step program 16 (record { state = plain_state b; work = MakeCall prim values Nowhere ∷ Top fs ∷ [] }) ≡ change_call (plain_state b) Nowhere (Top fs ∷ []) (Changes (change from to piece point_after)) →

@@ -82,3 +82,11 @@ pub deletion_pops : (c : Content) (u : Undo) (from to : ℕ) → from < to →
 deletion_pops c u from to h =
     let apart : (from == to) ≡ false = ne_eqb from to (λ e. omega arith) in
     rw apart refl
+
+-- CONTENTS
+abbrev SameContent : Content → Content → Type 0
+SameContent a b = a ≡ b
+
+pub same_content : {text text' : List Ch} {point point' : ℕ} {modified : Bool} → text ≡ text' → point ≡ point' →
+    SameContent (record { text = text; point = point; modified = modified }) (record { text = text'; point = point'; modified = modified })
+same_content {modified = modified} a b = λ i. record { text = a i; point = b i; modified = modified }

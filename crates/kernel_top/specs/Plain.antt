@@ -1,7 +1,7 @@
 -- The states of a run that has one buffer and neither markers nor overlays, handlers nor processes.
-use Rattle.std.specs.Prelude.{ℕ, ◌+◌, Bool, true, false, List, [], ◌∷◌, ◌++◌, length, take, drop, Some}
+use Rattle.std.specs.Prelude.{ℕ, ◌+◌, Bool, true, false, List, [], ◌∷◌, ◌++◌, length, map, take, drop, Some}
 use Rattle.text_model.specs.Characters.{Ch}
-use Rattle.text_model.specs.Properties.{bare}
+use Rattle.text_model.specs.Properties.{Cell, bare}
 use Rattle.text_model.specs.Places.{after_delete}
 use Rattle.text_model.specs.Undo.{Undo}
 use Rattle.text_model.specs.Commit.{Buffer}
@@ -45,3 +45,7 @@ inserted piece c = record { text = take c.point c.text ++ (piece ++ drop c.point
 -- the part from one place to another taken out
 abbrev pub deleted : (from to : ℕ) → Content → Content
 deleted from to c = record { text = take from c.text ++ drop to c.text; point = after_delete from to c.point; modified = true }
+
+-- the characters of a piece
+abbrev pub characters : List Cell → List Ch
+characters piece = map (λ c. c.0) piece

@@ -1,2 +1,4 @@
 //! The top call.
 #![tactic(auto)]
+
+mod core_text;
