@@ -1,4 +1,6 @@
 pub mod Calls
 pub mod Contents
+pub mod Dumped
+pub mod Gathering
 pub mod Prepared
 pub mod Rotating

@@ -2,11 +2,15 @@
 ghost use Rattle.std.specs.Prelude.{◌≡◌, ◌+◌, ◌-◌, ◌<◌, ◌≤◌, ◌++◌, length, map, take, drop, OnOk, OnErr, slice_get, Some, vec_len, vec_capacity};
 ghost use Rattle.ek_types.specs.Seen.{ch_of};
 ghost use Rattle.text_model.specs.Places.{after_delete};
+ghost use Rattle.editor_model.specs.Limits.{longest_text};
 ghost use Rattle.kernel_top.specs.Plain.{new_content, inserted, deleted, characters};
 
 use ek_types::{Ch, Mem, Piece};
 use std::alloc::Global;
 use std::marker::Model;
+
+/// The most characters that a text holds.
+pub const LONGEST_TEXT: usize = 4_194_304;
 
 /// A text with point, places counted from 0.
 #[derive(Drop)]
@@ -20,12 +24,13 @@ impl Model for CoreText {
     ghost use Rattle.std.specs.Prelude.{map, length, ◌≤◌};
     ghost use Rattle.kernel_top.specs.Plain.{Content};
     ghost use Rattle.ek_types.specs.Seen.{ch_of};
+    ghost use Rattle.editor_model.specs.Limits.{longest_text};
 
     ghost Value = { Content };
 
     ghost view = { λ c. record { text = map ch_of c.text.items; point = c.point; modified = c.modified } };
 
-    ghost invariant = { λ c. c.point ≤ length c.text.items };
+    ghost invariant = { λ c. (c.point ≤ length c.text.items) × (length c.text.items ≤ longest_text) };
 }
 
 /// Puts the characters of a piece behind others, with no memory taken.
@@ -82,7 +87,8 @@ impl CoreText {
     }
 
     pub fn len(&self) -> usize
-        ensures { result ≡ length self.now.text }
+        ensures exact { result ≡ length self.now.text }
+        ensures few { result ≤ longest_text }
     {
         self.text.len()
     }
@@ -96,7 +102,8 @@ impl CoreText {
 
     pub fn point(&self) -> usize
         ensures exact { result ≡ self.now.point }
-        ensures within { self.now.point ≤ length self.now.text }
+        ensures within { result ≤ length self.now.text }
+        ensures few { result ≤ longest_text }
     {
         self.point
     }
@@ -117,6 +124,7 @@ impl CoreText {
 
     /// Puts the characters of a piece in at point, which goes behind them. A refusal leaves the text as it was.
     pub fn insert(&mut self, piece: &Piece) -> Mem<()>
+        requires room { length self.old.text + length piece.now ≤ longest_text }
         ensures ok { OnOk result (self.new ≡ inserted (characters piece.now) self.old) }
         ensures err { OnErr result (self.new ≡ self.old) }
     {

@@ -1,4 +1,6 @@
 //! The top call.
 #![tactic(auto)]
 
+mod answer;
 mod core_text;
+mod print;

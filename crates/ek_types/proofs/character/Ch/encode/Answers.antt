@@ -7,5 +7,5 @@ the_first : (out : List ℕ) (b : ℕ) → 0 < length out → take 1 (slice_set 
 the_first [] b h = absurd (omega arith)
 the_first (x ∷ out) b h = refl
 
-pub returns-in-Raw : goal.returns-in-Raw
-returns-in-Raw c = the_first c.args.out.now c.in-Raw.byte (omega arith) ∙ ap (λ s. encoded (ch_of s)) (sym c.in-Raw.is)
+pub returns-in-Raw-clause-bytes : goal.returns-in-Raw-clause-bytes
+returns-in-Raw-clause-bytes c = the_first c.args.out.now c.in-Raw.byte (omega arith) ∙ ap (λ s. encoded (ch_of s)) (sym c.in-Raw.is)

@@ -14,6 +14,6 @@ returns-clause-ok c =
     let held = with_items_is c.append.new.text c.bring_forward.new.text size in
     rw (← c.self.view_is)
     (same_content
-    (ap (map ch_of) held ∙ piece_in ch_of c.self.inside.text.items c.append.new.text.items c.bring_forward.new.text (characters c.args.piece.now) c.self.inside.point c.len-count.result appended count c.self.invariant
+    (ap (map ch_of) held ∙ piece_in ch_of c.self.inside.text.items c.append.new.text.items c.bring_forward.new.text (characters c.args.piece.now) c.self.inside.point c.len-count.result appended count c.self.invariant.0
     (rw c.deref_mut.ensures.value at c.bring_forward.ensures))
     (ap (λ k. c.self.inside.point + k) count))
