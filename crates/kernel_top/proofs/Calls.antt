@@ -20,10 +20,7 @@ use Rattle.plain_machine.specs.Lines.{OfAfter}
 use Rattle.plain_machine.specs.Step.{step}
 use Rattle.plain_machine.specs.Run.{Reaches, stays, goes}
 use Rattle.kernel_top.specs.Plain.{plain_editor, plain_state, at_top, reply_said}
-
--- the form of a call with constants
-abbrev pub called : Prim → List Arg → Form
-called prim args = Do (record { prim = prim; args = args })
+use Rattle.kernel_top.specs.Answers.{called}
 
 -- CHANGES
 -- the kept ends of a change, and no other marks

@@ -18,6 +18,11 @@ pub inherits_nothing : (text : List Ch) → with_inherited [] (bare text) ≡ ba
 inherits_nothing [] = refl
 inherits_nothing (c ∷ text) = ap (λ cells. (c, []) ∷ cells) (inherits_nothing text)
 
+-- the characters of a piece without properties
+pub text_alone : (text : List Ch) → map (λ c. c.0) (bare text) ≡ text
+text_alone [] = refl
+text_alone (c ∷ text) = ap (λ cs. c ∷ cs) (text_alone text)
+
 -- PLACES
 start_stays : (q n : ℕ) → after_insert q n false 0 ≡ 0
 start_stays zero n = refl

@@ -13,6 +13,7 @@ use Rattle.ek_call.specs.Faults.{fault_of, fault_number, fault_name}
 use Rattle.ek_call.specs.declared.fault.Fault.{Fault}
 use Rattle.ek_call.specs.declared.fault.Fault.TheVariants as fault
 use Rattle.kernel_top.specs.Plain.{plain_state, Content, buffer_with}
+use Rattle.kernel_top.proofs.Contents.{text_alone}
 use Rattle.kernel_top.specs.Answers.{replied, answer_words}
 use Rattle.kernel_top.specs.declared.answer.Answer.{Answer}
 use Rattle.kernel_top.specs.declared.answer.Answer.TheVariants as answer
@@ -55,10 +56,6 @@ no_run_more symbols at ((p ∷ set, n, m) ∷ runs) h = cc
 no_runs : (symbols : List (List ℕ)) (at : ℕ) (text : List Ch) → run_words symbols (stretches same_set at (map (λ c. c.1) (bare text))) ≡ []
 no_runs symbols at [] = refl
 no_runs symbols at (c ∷ text) = no_run_more symbols at (stretches same_set (at + 1) (map (λ c. c.1) (bare text))) (no_runs symbols (at + 1) text)
-
-text_alone : (text : List Ch) → map (λ c. c.0) (bare text) ≡ text
-text_alone [] = refl
-text_alone (c ∷ text) = ap (λ cs. c ∷ cs) (text_alone text)
 
 text_shown : (symbols : List (List ℕ)) (text : List Ch) → shown_text symbols (bare text) ≡ quoted text
 text_shown symbols text = rw (shown_text, no_runs symbols 0 text) (ap quoted (text_alone text))

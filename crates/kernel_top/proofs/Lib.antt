@@ -1,4 +1,5 @@
 pub mod Calls
+pub mod Coming
 pub mod Contents
 pub mod Dumped
 pub mod Gathering

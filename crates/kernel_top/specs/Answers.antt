@@ -1,8 +1,13 @@
--- What the answers of the first path stand for.
-use Rattle.std.specs.Prelude.{ℕ, List, ◌++◌, codes}
-use Rattle.editor_model.specs.Values.{Reply, Answered, Refused, Nil, Int}
+-- The calls of the first path, their answers, and what they make of the content.
+use Rattle.std.specs.Prelude.{ℕ, ◌+◌, ◌-◌, ℤ, Bool, ◌&&◌, nat_le, List, [], ◌∷◌, ◌++◌, length, codes, if◌then◌else◌, Option, Some, None}
+use Rattle.text_model.specs.Undo.{Undo}
+use Rattle.editor_model.specs.Values.{Reply, Answered, Refused, Nil, Int, Prim, Arg, Form, Do, Forms, Then}
+use Rattle.editor_model.specs.Arguments.{position_of}
+use Rattle.plain_machine.specs.State.{Program}
 use Rattle.plain_machine.specs.Lines.{shown_int, fault_words}
+use Rattle.plain_machine.specs.Run.{Reaches}
 use Rattle.ek_call.specs.Faults.{fault_of}
+use Rattle.kernel_top.specs.Plain.{Content, buffer_with, at_top, reply_said}
 use Rattle.kernel_top.specs.declared.answer.Answer.{Answer}
 use Rattle.kernel_top.specs.declared.answer.Answer.TheVariants as answer
 
@@ -16,3 +21,24 @@ abbrev pub answer_words : Answer → List ℕ
 answer_words answer.Nil = codes "= nil"
 answer_words (answer.Int i) = codes "= " ++ shown_int i
 answer_words (answer.Fault f) = codes "! " ++ fault_words (fault_of f)
+
+-- the form of a call with these arguments
+abbrev pub called : Prim → List Arg → Form
+called prim args = Do (record { prim = prim; args = args })
+
+-- From this content the machine comes to that one by a form, and answers so: whatever the program, the undo records
+-- and the forms behind it.
+abbrev pub ComesTo : Form → (old new : Content) → Answer → Type 0
+ComesTo f old new a =
+    (program : Program) (u : Undo) (fs : Forms) → (v : Undo) ×
+    Reaches program 16 (at_top (buffer_with old u) (Then f fs)) [] (reply_said program (buffer_with old u) (replied a)) (at_top (buffer_with new v) fs)
+
+-- the place of a position, which counts from 1; whatever lies before the text has place 0
+abbrev pub place_of : ℤ → ℕ
+place_of i = position_of (Some i) - 1
+
+abbrev pub is_within : Content → ℤ → Bool
+is_within c i = nat_le 1 (position_of (Some i)) && nat_le (position_of (Some i)) (length c.text + 1)
+
+abbrev pub place_within : Content → ℤ → Option ℕ
+place_within c i = if is_within c i then Some (place_of i) else None

@@ -125,6 +125,7 @@ impl CoreText {
     /// Puts the characters of a piece in at point, which goes behind them. A refusal leaves the text as it was.
     pub fn insert(&mut self, piece: &Piece) -> Mem<()>
         requires room { length self.old.text + length piece.now ≤ longest_text }
+        ensures inside { self.old.point ≤ length self.old.text }
         ensures ok { OnOk result (self.new ≡ inserted (characters piece.now) self.old) }
         ensures err { OnErr result (self.new ≡ self.old) }
     {
@@ -141,7 +142,8 @@ impl CoreText {
     pub fn delete(&mut self, from: usize, to: usize)
         requires order { from ≤ to }
         requires within { to ≤ length self.old.text }
-        ensures { self.new ≡ deleted from to self.old }
+        ensures inside { self.old.point ≤ length self.old.text }
+        ensures exact { self.new ≡ deleted from to self.old }
     {
         put_behind(&mut self.text, from, to);
         let left = self.text.len() - (to - from);

@@ -2,5 +2,6 @@
 #![tactic(auto)]
 
 mod answer;
+mod apply;
 mod core_text;
 mod print;

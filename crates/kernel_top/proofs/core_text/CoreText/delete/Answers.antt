@@ -5,8 +5,8 @@ use Rattle.kernel_top.proofs.Rotating.{part_out}
 use Rattle.kernel_top.proofs.Contents.{same_content}
 use Rattle.kernel_top.proofs.core_text.CoreText.delete.Goals as goal
 
-pub returns : goal.returns
-returns c =
+pub returns-clause-exact : goal.returns-clause-exact
+returns-clause-exact c =
     let xs = c.self.inside.text.items in
     let from = c.args.from in
     let to = c.args.to in

@@ -1,0 +1,12 @@
+use Rattle.std.proofs.Common.{◌≡◌, ap, sym, ◌∙◌, rules, subst, length, SFits, w64}
+use Rattle.std.proofs.lemmas.Int.{to_z-of_z}
+use Rattle.ek_call.specs.Meaning.{arg_of}
+use Rattle.kernel_top.proofs.Coming.{came_gone}
+use Rattle.kernel_top.proofs.apply.goto_char.Goals as goal
+
+pub returns : goal.returns
+returns c =
+    let fits : SFits w64 c.in-Some.position = search rules in
+    let same = to_z-of_z w64 c.in-Some.position fits in
+    let gone = came_gone c.args.core.now (arg_of c.args.arg.now) c.in-Some.position c.in-Some.ensures.some in
+    rw (same, c.goto.ensures, c.clipped-place.ensures.exact, same) gone

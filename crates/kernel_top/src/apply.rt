@@ -1,0 +1,115 @@
+//! The three calls of the first path.
+ghost use Rattle.std.specs.Prelude.{◌≡◌, ◌≤◌, ◌+◌, ℤ, List, [], ◌∷◌, length, IfSome, IfNone, IfOk, OnErr};
+ghost use Rattle.text_model.specs.Characters.{Ch as Character};
+ghost use Rattle.text_model.specs.Properties.{Cell, bare};
+ghost use Rattle.text_model.specs.Places.{clip};
+ghost use Rattle.editor_model.specs.Limits.{longest_text};
+ghost use Rattle.editor_model.specs.Values.{Const, Int as number, Str as string, Insert, GotoChar, DeleteRegion};
+ghost use Rattle.ek_call.specs.Meaning.{arg_of};
+ghost use Rattle.kernel_top.specs.Answers.{called, ComesTo, place_of, place_within};
+
+use crate::answer::Answer;
+use crate::core_text::{CoreText, LONGEST_TEXT};
+use ek_call::{Arg, Fault};
+use ek_types::{Mem, Piece};
+
+fn string(arg: &Arg) -> Option<&Piece>
+    ensures some { IfSome result (λ piece. arg_of arg.now ≡ Const (string piece.now)) }
+    ensures none { IfNone result ((piece : List Cell) → arg_of arg.now ≡ Const (string piece) → ⊥) }
+{
+    match arg {
+        Arg::Const(value) => value.string(),
+        Arg::Name(_) => None,
+    }
+}
+
+fn integer(arg: &Arg) -> Option<i64>
+    ensures some { IfSome result (λ i. arg_of arg.now ≡ Const (number i)) }
+    ensures none { IfNone result ((i : ℤ) → arg_of arg.now ≡ Const (number i) → ⊥) }
+{
+    match arg {
+        Arg::Const(value) => value.integer(),
+        Arg::Name(_) => None,
+    }
+}
+
+/// The place of a position in the text. Positions count from 1.
+fn place(core: &CoreText, position: i64) -> Option<usize>
+    ensures { result ≡ place_within core.now position }
+{
+    if 1 <= position {
+        let place = (position - 1) as u64 as usize;
+        if place <= core.len() {
+            return Some(place);
+        }
+    }
+    None
+}
+
+/// The place of a position, or the nearer end of the text.
+fn clipped(core: &CoreText, position: i64) -> usize
+    ensures exact { result ≡ clip 0 (length core.now.text) (place_of position) }
+    ensures within { result ≤ length core.now.text }
+{
+    if position <= 1 {
+        return 0;
+    }
+    let place = (position - 1) as u64 as usize;
+    place.min(core.len())
+}
+
+/// Puts a string in at point.
+pub fn insert(core: &mut CoreText, arg: &Arg) -> Mem<Answer>
+    requires { (text : List Character) × (arg_of arg.now ≡ Const (string (bare text))) }
+    ensures ok { IfOk result (λ answer. ComesTo (called Insert (arg_of arg.now ∷ [])) core.old core.new answer) }
+    ensures err { OnErr result (core.new ≡ core.old) }
+{
+    let Some(piece) = string(arg) else {
+        unreachable!()
+    };
+    if piece.is_empty() {
+        return Ok(Answer::Nil);
+    }
+    if piece.len() > LONGEST_TEXT - core.len() {
+        return Ok(Answer::Fault(Fault::BufferFull));
+    }
+    core.insert(piece)?;
+    Ok(Answer::Nil)
+}
+
+/// Puts point at a position, or at the nearer end of the text.
+pub fn goto_char(core: &mut CoreText, arg: &Arg) -> Answer
+    requires { (i : ℤ) × (arg_of arg.now ≡ Const (number i)) }
+    ensures { ComesTo (called GotoChar (arg_of arg.now ∷ [])) core.old core.new result }
+{
+    let Some(position) = integer(arg) else {
+        unreachable!()
+    };
+    let place = clipped(core, position);
+    core.goto(place);
+    Answer::Int(position)
+}
+
+/// Takes the part between two positions out, which come in either order.
+pub fn delete_region(core: &mut CoreText, first: &Arg, second: &Arg) -> Answer
+    requires first { (i : ℤ) × (arg_of first.now ≡ Const (number i)) }
+    requires second { (i : ℤ) × (arg_of second.now ≡ Const (number i)) }
+    ensures { ComesTo (called DeleteRegion (arg_of first.now ∷ arg_of second.now ∷ [])) core.old core.new result }
+{
+    let Some(a) = integer(first) else {
+        unreachable!()
+    };
+    let Some(b) = integer(second) else {
+        unreachable!()
+    };
+    let Some(start) = place(core, a) else {
+        return Answer::Fault(Fault::ArgsOutOfRange);
+    };
+    let Some(end) = place(core, b) else {
+        return Answer::Fault(Fault::ArgsOutOfRange);
+    };
+    if start != end {
+        core.delete(start.min(end), start.max(end));
+    }
+    Answer::Nil
+}
