@@ -1,0 +1,5 @@
+pub mod Binding
+pub mod Fronts
+pub mod Lexing
+pub mod Spelled
+pub mod Constants
