@@ -3,3 +3,5 @@ pub mod Fronts
 pub mod Lexing
 pub mod Spelled
 pub mod Constants
+pub mod Forms
+pub mod Finding
