@@ -5,3 +5,4 @@ pub mod Spelled
 pub mod Constants
 pub mod Forms
 pub mod Finding
+pub mod Scripts

@@ -1,9 +1,10 @@
 -- Reading from left to right: what stands at the front of some bytes, and what follows it.
-use Rattle.std.specs.Prelude.{ℕ, ◌+◌, ◌-◌, List, [], ◌∷◌, length, take, drop, map, codes, Bool, ◌&&◌, ◌||◌, not, ◌==◌, nat_le, if◌then◌else◌, ℤ, pos, neg_ℤ, Option, Some, None}
+use Rattle.std.specs.Prelude.{◌≡◌, ℕ, ◌+◌, ◌-◌, List, [], ◌∷◌, length, take, drop, map, codes, Bool, ◌&&◌, ◌||◌, not, ◌==◌, nat_le, if◌then◌else◌, ℤ, pos, neg_ℤ, Option, Some, None}
 use Rattle.std.specs.List.{prefix_len}
 use Rattle.std.specs.Str.{bytes_eq}
 use Rattle.text_model.specs.Characters.{Scalar}
-use Rattle.editor_model.specs.Values.{Prim, Insert, GotoChar, DeleteRegion, Value, Int, Str, plain, Call, Form, Do}
+use Rattle.editor_model.specs.Values.{Prim, Insert, GotoChar, DeleteRegion, Value, Int, Str, plain, Form, Forms, Do, NoForms, Then, Script}
+use Rattle.plain_machine.specs.Symbols.{first_symbols}
 use Rattle.plain_machine.specs.Words.{is_blank, is_word_byte, begins_with, are_digits, digits_value}
 use Rattle.script_read.specs.GrammarSoFar.{call_on}
 
@@ -87,3 +88,12 @@ call_at name bytes =
 -- the first form, and what follows it
 unfoldable pub form_at : List ℕ → Option (Form × List ℕ)
 form_at bytes = behind (codes "(") bytes >>= (λ inner. call_at (word_at inner).0 (word_at inner).1)
+
+-- the bytes are these forms, one behind the other
+abbrev pub Reads : Forms → List ℕ → Type 0
+Reads NoForms bytes = skipped bytes ≡ []
+Reads (Then f fs) bytes = (rest : List ℕ) × (form_at bytes ≡ Some (f, rest)) × Reads fs rest
+
+-- the script of these forms
+abbrev pub script_with : Forms → Script
+script_with forms = record { symbols = first_symbols; handlers = []; forms = forms }
