@@ -16,7 +16,7 @@ use Rattle.script_read.specs.GrammarSoFar.{call_on, IsCallSoFar, IsTopSoFar, is_
 use Rattle.script_read.specs.Reading.{◌>>=◌, word_at, behind, inside_of, number_of, string_at, number_at, text_of, closed, insert_at, goto_at, delete_at, call_at, form_at}
 use Rattle.script_read.proofs.Spelled.{AreSpelled, first_is_read}
 use Rattle.script_read.proofs.Lexing.{Lexeme, parenthesis, unquoted}
-use Rattle.script_read.proofs.Constants.{Quotes, quotes_of_string, quotes_lexeme, inside_of-quoted, number_is_read, number_lexeme}
+use Rattle.script_read.proofs.Literals.{Quotes, quotes_of_string, quotes_lexeme, inside_of-quoted, number_is_read, number_lexeme}
 use Rattle.script_read.proofs.Forms.{bytes_same}
 
 -- WORDS

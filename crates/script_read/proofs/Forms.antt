@@ -19,7 +19,7 @@ use Rattle.script_read.specs.Reading.{◌>>=◌, word_at, behind, inside_of, num
 use Rattle.script_read.proofs.Binding.{bind_some, bind_beside}
 use Rattle.script_read.proofs.Spelled.{AreSpelled, read_is_first}
 use Rattle.script_read.proofs.Lexing.{word_stands}
-use Rattle.script_read.proofs.Constants.{Quotes, quotes_from, string_from, quoted_so_far, number_from, number_so_far}
+use Rattle.script_read.proofs.Literals.{Quotes, quotes_from, string_from, quoted_so_far, number_from, number_so_far}
 
 -- A WORD
 pub same_bytes : (a b : List ℕ) → bytes_eq a b ≡ true → a ≡ b

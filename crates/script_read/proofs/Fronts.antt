@@ -1,9 +1,9 @@
 -- The longest front of a list whose items pass a test.
-use Rattle.std.proofs.Common.{◌≡◌, ℕ, zero, suc, ◌+◌, List, [], ◌∷◌, ◌++◌, Bool, true, false, cond, ◌&&◌, not, length, take, drop, refl, sym, ap, ◌∙◌, arith}
+use Rattle.std.proofs.Common.{◌≡◌, ℕ, zero, suc, ◌+◌, ◌-◌, ◌≤◌, List, [], ◌∷◌, ◌++◌, Bool, true, false, cond, ◌&&◌, not, length, take, drop, length-drop, refl, sym, ap, ◌∙◌, arith}
 use Rattle.std.specs.List.{prefix_len, list_all}
 use Rattle.std.proofs.Math.Numerals.{one-add}
 use Rattle.std.proofs.Math.Seq.{take-append_seam, drop-append_seam}
-use Rattle.std.proofs.lemmas.Bool.{and_parts, and_from}
+use Rattle.std.proofs.lemmas.Bool.{and_parts, and_from, false≢true}
 use Rattle.plain_machine.specs.Words.{begins_with, ends_with}
 
 no_front : (p : ℕ → Bool) (rest : List ℕ) → begins_with p rest ≡ false → prefix_len p rest ≡ 0
@@ -42,3 +42,11 @@ last_passes p x (y ∷ ys) all = last_passes p y ys (and_parts (p x) (list_all p
 -- a list that is cut where its first part ends
 pub cut_at : (n : ℕ) (front rest : List ℕ) → n ≡ length front → ◌≡◌ {A = List ℕ × List ℕ} (take n (front ++ rest), drop n (front ++ rest)) (front, rest)
 cut_at n front rest e = rw (e, take-append_seam, drop-append_seam)
+
+-- where a byte is found behind some others, they are not all
+pub begins_within : (p : ℕ → Bool) (n : ℕ) (xs : List ℕ) → begins_with p (drop n xs) ≡ true → n + 1 ≤ length xs
+begins_within p n xs found = by_rest (drop n xs) found (length-drop n xs)
+  where
+    by_rest : (rest : List ℕ) → begins_with p rest ≡ true → length rest ≡ length xs - n → n + 1 ≤ length xs
+    by_rest [] found e = absurd (false≢true found)
+    by_rest (c ∷ rest) found e = omega arith

@@ -2,7 +2,8 @@ pub mod Binding
 pub mod Fronts
 pub mod Lexing
 pub mod Spelled
-pub mod Constants
+pub mod Literals
 pub mod Forms
 pub mod Finding
 pub mod Scripts
+pub mod Digits
