@@ -3,7 +3,8 @@ pub mod Fronts
 pub mod Lexing
 pub mod Spelled
 pub mod Literals
-pub mod Forms
-pub mod Finding
+pub mod Soundness
+pub mod Completeness
 pub mod Scripts
 pub mod Digits
+pub mod Progress

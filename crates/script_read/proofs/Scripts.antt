@@ -14,9 +14,9 @@ use Rattle.script_read.specs.Reading.{skipped, behind, split_word, word_at, call
 use Rattle.script_read.proofs.Fronts.{front_passes}
 use Rattle.script_read.proofs.Lexing.{skipped_blanks}
 use Rattle.script_read.proofs.Spelled.{AreSpelled, spelled_from_words, words_from_spelled}
-use Rattle.script_read.proofs.Forms.{ReadForm, behind_is, form_read, names-append}
+use Rattle.script_read.proofs.Soundness.{ReadForm, behind_is, form_read, names-append}
 use Rattle.script_read.proofs.Binding.{bind_some}
-use Rattle.script_read.proofs.Finding.{FoundTop, form_found}
+use Rattle.script_read.proofs.Completeness.{FoundTop, form_found}
 
 -- BLANKS ALONE
 all_skipped : (bytes : List ℕ) → list_all is_blank bytes ≡ true → skipped bytes ≡ []
@@ -160,7 +160,7 @@ script_is_read bytes script s =
     }
 
 -- ONE SCRIPT
-nothing_read : (bytes rest : List ℕ) (f : Form) → skipped bytes ≡ [] → form_at bytes ≡ Some (f, rest) → ⊥
+pub nothing_read : (bytes rest : List ℕ) (f : Form) → skipped bytes ≡ [] → form_at bytes ≡ Some (f, rest) → ⊥
 unfolding form_at
 nothing_read bytes rest f none e =
     let (inner, h, k) = bind_some (behind (codes "(") bytes) (λ inner. call_at (word_at inner).0 (word_at inner).1) (f, rest) e in

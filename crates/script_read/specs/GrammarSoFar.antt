@@ -48,3 +48,7 @@ pub record IsScriptSoFar (bytes : List ℕ) (script : Script) : Type 0 where
   pub no_comment : HasNoComment of_machine.words bytes of_machine.written
   pub words_so_far : IsTrue (list_all is_word_so_far of_machine.words)
   pub calls_so_far : AreTopsSoFar of_machine.tops
+
+-- the bytes are no script of the grammar so far
+abbrev pub IsNoScript : List ℕ → Type 0
+IsNoScript bytes = (script : Script) → IsScriptSoFar bytes script → ⊥

@@ -2,4 +2,8 @@
 #![tactic(auto)]
 
 mod constants;
+mod forms;
+mod reader;
 mod words;
+
+pub use reader::{LONGEST_SCRIPT, ScriptFault, read};

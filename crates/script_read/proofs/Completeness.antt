@@ -17,7 +17,7 @@ use Rattle.script_read.specs.Reading.{◌>>=◌, word_at, behind, inside_of, num
 use Rattle.script_read.proofs.Spelled.{AreSpelled, first_is_read}
 use Rattle.script_read.proofs.Lexing.{Lexeme, parenthesis, unquoted}
 use Rattle.script_read.proofs.Literals.{Quotes, quotes_of_string, quotes_lexeme, inside_of-quoted, number_is_read, number_lexeme}
-use Rattle.script_read.proofs.Forms.{bytes_same}
+use Rattle.script_read.proofs.Soundness.{bytes_same}
 
 -- WORDS
 behind_read : (word bytes rest : List ℕ) → word_at bytes ≡ (word, rest) → behind word bytes ≡ Some rest

@@ -1,7 +1,7 @@
 -- A form that is read is one of the grammar so far.
-use Rattle.std.proofs.Common.{◌≡◌, ℕ, List, [], ◌∷◌, ◌++◌, Bool, true, false, ◌&&◌, length, map, refl, sym, ap, ◌∙◌, subst, append_assoc, Some, None, ℤ, inl, inr}
+use Rattle.std.proofs.Common.{◌≡◌, ℕ, ◌+◌, ◌<◌, ◌≤◌, List, [], ◌∷◌, ◌++◌, Bool, true, false, ◌&&◌, length, length-append, length-drop, arith, map, refl, sym, ap, ◌∙◌, subst, append_assoc, Some, None, ℤ, inl, inr}
 use Rattle.std.specs.Prelude.{Option, if◌then◌else◌, codes}
-use Rattle.std.specs.List.{list_all}
+use Rattle.std.specs.List.{list_all, prefix_len}
 use Rattle.std.specs.Str.{bytes_eq}
 use Rattle.std.proofs.lemmas.Slice.Eq.{bytes_eq-Decides}
 use Rattle.std.proofs.lemmas.Bool.{and_from}
@@ -11,14 +11,14 @@ use Rattle.text_model.specs.Characters.{Scalar}
 use Rattle.editor_model.specs.Values.{Value, Int, Str, Prim, Insert, GotoChar, DeleteRegion, Const, Do, Form}
 use Rattle.editor_model.specs.Prims.{word}
 use Rattle.plain_machine.specs.Natives.{takes}
-use Rattle.plain_machine.specs.Words.{Word, Plain, Named, names, opening, closing, IsInt}
+use Rattle.plain_machine.specs.Words.{Word, Plain, Named, is_blank, names, opening, closing, IsInt}
 use Rattle.plain_machine.specs.Atoms.{bare, AreArgs}
 use Rattle.plain_machine.specs.Grammar.{IsForm, Run}
 use Rattle.script_read.specs.GrammarSoFar.{call_on, IsCallSoFar, IsTopSoFar, is_word_so_far}
-use Rattle.script_read.specs.Reading.{◌>>=◌, word_at, behind, inside_of, number_of, string_at, number_at, text_of, closed, insert_at, goto_at, delete_at, call_at, form_at}
+use Rattle.script_read.specs.Reading.{◌>>=◌, skipped, word_length, word_at, behind, inside_of, number_of, string_at, number_at, text_of, closed, insert_at, goto_at, delete_at, call_at, form_at}
 use Rattle.script_read.proofs.Binding.{bind_some, bind_beside}
 use Rattle.script_read.proofs.Spelled.{AreSpelled, read_is_first}
-use Rattle.script_read.proofs.Lexing.{word_stands}
+use Rattle.script_read.proofs.Lexing.{Stands, word_stands}
 use Rattle.script_read.proofs.Literals.{Quotes, quotes_from, string_from, quoted_so_far, number_from, number_so_far}
 
 -- A WORD
@@ -35,12 +35,24 @@ taken_if a word b rest false e h = cc
 pub behind_is : (word bytes rest : List ℕ) → behind word bytes ≡ Some rest → word_at bytes ≡ (word, rest)
 behind_is word bytes rest h = taken_if (word_at bytes).0 word (word_at bytes).1 rest (bytes_eq (word_at bytes).0 word) refl h
 
+-- what follows a word is no longer than the bytes, and shorter where the word is not empty
+word_no_longer : (bytes : List ℕ) → length (word_at bytes).1 ≤ length bytes
+word_no_longer bytes = omega (arith, length-drop (word_length (skipped bytes)) (skipped bytes), length-drop (prefix_len is_blank bytes) bytes)
+
+word_shorter : (c : ℕ) (cs rest bytes : List ℕ) → word_at bytes ≡ (c ∷ cs, rest) → length rest < length bytes
+word_shorter c cs rest bytes e =
+    let s = word_stands (c ∷ cs) rest bytes e (λ empty. cc) in
+    let n : length bytes ≡ length s.blanks + (length (c ∷ cs) + length rest) =
+        ap length s.stands ∙ length-append s.blanks ((c ∷ cs) ++ rest) ∙ ap (λ k. length s.blanks + k) (length-append (c ∷ cs) rest) in
+    omega (arith, n)
+
 -- a word that is read, of which something is known
 record ReadWord (Known : List ℕ → Type 0) (bytes rest : List ℕ) : Type 0 where
   word : List ℕ
   read : word_at bytes ≡ (word, rest)
   full : word ≡ [] → ⊥
   known : Known word
+  shorter : length rest ≤ length bytes
 
 empty_string : (word text : List ℕ) → inside_of word ≡ Some text → word ≡ [] → ⊥
 empty_string [] text e same = cc
@@ -59,6 +71,7 @@ string_word bytes text rest h =
       read = ap (λ r. ((word_at bytes).0, r)) same;
       full = full;
       known = quotes_from (word_at bytes).0 text (word_stands (word_at bytes).0 (word_at bytes).1 bytes refl full).lexeme found;
+      shorter = rw same at (word_no_longer bytes);
     }
 
 number_word : (bytes rest : List ℕ) (i : ℤ) → number_at bytes ≡ Some (i, rest) → ReadWord (λ word. IsInt word i) bytes rest
@@ -69,6 +82,7 @@ number_word bytes rest i h =
       read = ap (λ r. ((word_at bytes).0, r)) same;
       full = empty_number (word_at bytes).0 i found;
       known = number_from (word_at bytes).0 i found;
+      shorter = rw same at (word_no_longer bytes);
     }
 
 -- THE ARGUMENTS OF A CALL
@@ -83,19 +97,21 @@ pub record ReadCall (prim : Prim) (f : Form) (bytes rest : List ℕ) : Type 0 wh
   pub no_names : names args ≡ []
   pub call_so_far : IsCallSoFar (call_on prim constants)
   pub spelled : (more : List Word) → AreSpelled more rest → AreSpelled (args ++ (closing ∷ more)) bytes
+  pub shorter : length rest ≤ length bytes
 
-closed_is : (prim : Prim) (constants : List Value) (bytes rest : List ℕ) (f : Form) → closed prim constants bytes ≡ Some (f, rest) → (f ≡ Do (call_on prim constants)) × ((more : List Word) → AreSpelled more rest → AreSpelled (closing ∷ more) bytes)
+closed_is : (prim : Prim) (constants : List Value) (bytes rest : List ℕ) (f : Form) → closed prim constants bytes ≡ Some (f, rest) →
+    (f ≡ Do (call_on prim constants)) × ((more : List Word) → AreSpelled more rest → AreSpelled (closing ∷ more) bytes) × (length rest ≤ length bytes)
 closed_is prim constants bytes rest f h =
     let (after, e, same) = bind_some (behind (codes ")") bytes) (λ rest. Some (Do (call_on prim constants), rest)) (f, rest) h in
     let both = same_Some (Do (call_on prim constants), after) (f, rest) same in
     let read : word_at bytes ≡ (codes ")", rest) = behind_is (codes ")") bytes after e ∙ ap (λ r. (codes ")", r)) (ap (λ p. p.1) both) in
-    (sym (ap (λ p. p.0) both), λ more others. read_is_first (codes ")") rest more bytes read (λ empty. cc) others)
+    (sym (ap (λ p. p.0) both), λ more others. read_is_first (codes ")") rest more bytes read (λ empty. cc) others, rw (ap (λ p. p.1) read) at (word_no_longer bytes))
 
 insert_read : (bytes rest : List ℕ) (f : Form) → insert_at bytes ≡ Some (f, rest) → ReadCall Insert f bytes rest
 insert_read bytes rest f h =
     let (s, e, k) = bind_some (string_at bytes) (λ s. closed Insert (text_of s.0 ∷ []) s.1) (f, rest) h in
     let w = string_word bytes s.0 s.1 e in
-    let (is, after) = closed_is Insert (text_of s.0 ∷ []) s.1 rest f k in
+    let (is, after, less) = closed_is Insert (text_of s.0 ∷ []) s.1 rest f k in
     record {
       constants = text_of s.0 ∷ [];
       args = Plain w.word ∷ [];
@@ -106,13 +122,14 @@ insert_read bytes rest f h =
       no_names = refl;
       call_so_far = inl (bare (map Scalar s.0), refl);
       spelled = λ more others. read_is_first w.word s.1 (closing ∷ more) bytes w.read w.full (after more others);
+      shorter = omega (arith, less, w.shorter);
     }
 
 goto_read : (bytes rest : List ℕ) (f : Form) → goto_at bytes ≡ Some (f, rest) → ReadCall GotoChar f bytes rest
 goto_read bytes rest f h =
     let (n, e, k) = bind_some (number_at bytes) (λ n. closed GotoChar (Int n.0 ∷ []) n.1) (f, rest) h in
     let w = number_word bytes n.1 n.0 e in
-    let (is, after) = closed_is GotoChar (Int n.0 ∷ []) n.1 rest f k in
+    let (is, after, less) = closed_is GotoChar (Int n.0 ∷ []) n.1 rest f k in
     record {
       constants = Int n.0 ∷ [];
       args = Plain w.word ∷ [];
@@ -123,6 +140,7 @@ goto_read bytes rest f h =
       no_names = refl;
       call_so_far = inr (inl (n.0, refl));
       spelled = λ more others. read_is_first w.word n.1 (closing ∷ more) bytes w.read w.full (after more others);
+      shorter = omega (arith, less, w.shorter);
     }
 
 delete_read : (bytes rest : List ℕ) (f : Form) → delete_at bytes ≡ Some (f, rest) → ReadCall DeleteRegion f bytes rest
@@ -131,7 +149,7 @@ delete_read bytes rest f h =
     let (m, e', k') = bind_some (number_at n.1) (λ to. closed DeleteRegion (Int n.0 ∷ Int to.0 ∷ []) to.1) (f, rest) k in
     let w = number_word bytes n.1 n.0 e in
     let w' = number_word n.1 m.1 m.0 e' in
-    let (is, after) = closed_is DeleteRegion (Int n.0 ∷ Int m.0 ∷ []) m.1 rest f k' in
+    let (is, after, less) = closed_is DeleteRegion (Int n.0 ∷ Int m.0 ∷ []) m.1 rest f k' in
     record {
       constants = Int n.0 ∷ Int m.0 ∷ [];
       args = Plain w.word ∷ Plain w'.word ∷ [];
@@ -142,6 +160,7 @@ delete_read bytes rest f h =
       no_names = refl;
       call_so_far = inr (inr (n.0, m.0, refl));
       spelled = λ more others. read_is_first w.word n.1 (Plain w'.word ∷ closing ∷ more) bytes w.read w.full (read_is_first w'.word m.1 (closing ∷ more) n.1 w'.read w'.full (after more others));
+      shorter = omega (arith, less, w.shorter, w'.shorter);
     }
 
 -- THE FORM
@@ -173,6 +192,7 @@ pub record ReadForm (f : Form) (bytes rest : List ℕ) : Type 0 where
   pub no_names : names words ≡ []
   pub top_so_far : IsTopSoFar (Run f)
   pub spelled : (more : List Word) → AreSpelled more rest → AreSpelled (words ++ more) bytes
+  pub shorter : length rest < length bytes
 
 pub names-append : (first second : List Word) → names (first ++ second) ≡ names first ++ names second
 names-append [] second = refl
@@ -192,6 +212,7 @@ form_of_call f name bytes inner after rest opens begins n =
           rw (append_assoc c.args (closing ∷ []) more)
           (read_is_first (codes "(") inner (Plain (word n.prim) ∷ (c.args ++ (closing ∷ more))) bytes opens (λ e. cc)
           (read_is_first (word n.prim) after (c.args ++ (closing ∷ more)) inner (begins ∙ ap (λ w. (w, after)) n.named) n.full (c.spelled more others)));
+      shorter = let name_less : length after ≤ length inner = rw (ap (λ p. p.1) begins) at (word_no_longer inner) in omega (arith, c.shorter, name_less, word_shorter 40 [] inner bytes opens);
     }
 
 pub form_read : (bytes rest : List ℕ) (f : Form) → form_at bytes ≡ Some (f, rest) → ReadForm f bytes rest
