@@ -145,7 +145,7 @@ call_found symbols c words more bytes is (inr (inr (i, j, e))) so_far spelled =
     let (w, others, one, number, rest_args) = number_arg symbols i (Const (Int j) ∷ []) args are_args in
     let (w', none, two, other_number, ended) = number_arg symbols j [] others rest_args in
     let words_are : words ≡ opening ∷ Plain (codes "delete-region") ∷ Plain w ∷ Plain w' ∷ closing ∷ [] =
-        are ∙ ap (λ l. opening ∷ Plain (codes "delete-region") ∷ (l ++ closing ∷ [])) (one ∙ ap (λ l. Plain w ∷ l) (two ∙ ap (λ l. Plain w' ∷ l) ended)) in
+    are ∙ ap (λ l. opening ∷ Plain (codes "delete-region") ∷ (l ++ closing ∷ [])) (one ∙ ap (λ l. Plain w ∷ l) (two ∙ ap (λ l. Plain w' ∷ l) ended)) in
     rw (e, words_are) (record {
       found = found_form DeleteRegion (Do (call_on DeleteRegion (Int i ∷ Int j ∷ []))) (Plain w ∷ Plain w' ∷ closing ∷ more) more bytes (unquoted 100 (codes "elete-region") refl refl) (rw words_are at spelled) (found_delete w w' i j more number other_number);
       no_names = refl;

@@ -1,5 +1,5 @@
 -- What is read is a script of the grammar so far, and each of those is read.
-use Rattle.std.proofs.Common.{◌≡◌, ℕ, ◌≤◌, List, [], ◌∷◌, ◌++◌, Bool, true, false, ◌&&◌, length, map, take, drop, refl, sym, ap, ◌∙◌, arith, append-nil, append_assoc, take-append-drop, Some, None, inl, inr}
+use Rattle.std.proofs.Common.{◌≡◌, ℕ, ◌<◌, ◌≤◌, List, [], ◌∷◌, ◌++◌, Bool, true, false, ◌&&◌, length, map, take, drop, refl, sym, ap, ◌∙◌, arith, append-nil, append_assoc, take-append-drop, Some, None, inl, inr}
 use Rattle.std.specs.Prelude.{IsTrue, codes}
 use Rattle.std.specs.List.{prefix_len, list_all}
 use Rattle.std.proofs.lemmas.Bool.{and_parts, and_from}
@@ -9,7 +9,7 @@ use Rattle.editor_model.specs.Values.{Call, Form, Forms, Do, Setq, In, WhenEq, N
 use Rattle.plain_machine.specs.Symbols.{first_symbols, with_names}
 use Rattle.plain_machine.specs.Words.{Word, names, is_blank}
 use Rattle.plain_machine.specs.Grammar.{Top, Run, Handler, AreTops, handlers_of, forms_of, depth, names_of_form, registers, KeepsLimits, AllKeepLimits, IsScript, longest_script}
-use Rattle.script_read.specs.GrammarSoFar.{is_word_so_far, HasNoComment, IsCallSoFar, IsTopSoFar, AreTopsSoFar, IsScriptSoFar}
+use Rattle.script_read.specs.GrammarSoFar.{is_word_so_far, HasNoComment, IsCallSoFar, IsTopSoFar, AreTopsSoFar, IsScriptSoFar, IsNoScript}
 use Rattle.script_read.specs.Reading.{skipped, behind, split_word, word_at, call_at, form_at, Reads, script_with}
 use Rattle.script_read.proofs.Fronts.{front_passes}
 use Rattle.script_read.proofs.Lexing.{skipped_blanks}
@@ -185,3 +185,12 @@ one_script bytes first second s t =
     let r = script_is_read bytes first s in
     let q = script_is_read bytes second t in
     r.is_with ∙ ap script_with (reads_once first.forms second.forms bytes r.reads q.reads) ∙ sym q.is_with
+
+-- NO SCRIPT
+pub no_script : (bytes : List ℕ) → ((forms : Forms) → Reads forms bytes → ⊥) → IsNoScript bytes
+no_script bytes none script s = none script.forms (script_is_read bytes script s).reads
+
+-- the script that is made of forms that were read
+pub whole_script : (bytes : List ℕ) (symbols : List (List ℕ)) (handlers : List HandlerDef) (forms : Forms) → length bytes ≤ longest_script → symbols ≡ first_symbols → handlers ≡ [] → Reads forms bytes →
+    IsScriptSoFar bytes (record { symbols = symbols; handlers = handlers; forms = forms })
+whole_script bytes symbols handlers forms short e f reads = rw (e, f) (read_is_script forms bytes short reads)

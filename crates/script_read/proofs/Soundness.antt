@@ -43,7 +43,7 @@ word_shorter : (c : ℕ) (cs rest bytes : List ℕ) → word_at bytes ≡ (c ∷
 word_shorter c cs rest bytes e =
     let s = word_stands (c ∷ cs) rest bytes e (λ empty. cc) in
     let n : length bytes ≡ length s.blanks + (length (c ∷ cs) + length rest) =
-        ap length s.stands ∙ length-append s.blanks ((c ∷ cs) ++ rest) ∙ ap (λ k. length s.blanks + k) (length-append (c ∷ cs) rest) in
+    ap length s.stands ∙ length-append s.blanks ((c ∷ cs) ++ rest) ∙ ap (λ k. length s.blanks + k) (length-append (c ∷ cs) rest) in
     omega (arith, n)
 
 -- a word that is read, of which something is known

@@ -5,12 +5,12 @@ ghost use Rattle.editor_model.specs.Values.{Do, Insert, GotoChar, DeleteRegion};
 ghost use Rattle.ek_call.specs.Meaning.{view, form_of};
 ghost use Rattle.ek_call.specs.Primitives.{prim_of};
 ghost use Rattle.script_read.specs.GrammarSoFar.{call_on};
-ghost use Rattle.script_read.specs.Reading.{insert_at, goto_at, delete_at, call_at, form_at};
+ghost use Rattle.script_read.specs.Reading.{text_of, insert_at, goto_at, delete_at, call_at, form_at};
 
 use crate::constants::{number, string};
 use crate::words::{expect, word};
 use ek_call::{Arg, Call, Form, Prim, Value};
-use ek_types::{Ch, Chars, ListOf, Mem};
+use ek_types::{Ch, Chars, ListOf, Mem, Piece};
 use std::alloc::Global;
 
 fn call_on_one(alloc: Global, prim: Prim, value: Value) -> Mem<Form>
@@ -42,6 +42,14 @@ fn characters(alloc: Global, text: &[u8]) -> Mem<Chars>
     Ok(chars)
 }
 
+/// A string of these characters, without properties.
+fn string_value(alloc: Global, text: &[u8]) -> Mem<Value>
+    ensures { IfOk result (λ v. view v ≡ text_of text.now) }
+{
+    let chars = characters(alloc, text)?;
+    Ok(Value::Str(Piece::plain(alloc, chars)))
+}
+
 fn insert(alloc: Global, bytes: &[u8]) -> Mem<Option<(Form, &[u8])>>
     ensures { IfOk result (λ o. option_map (λ f. (form_of f.0, f.1.now)) o ≡ insert_at bytes.now) }
 {
@@ -51,7 +59,7 @@ fn insert(alloc: Global, bytes: &[u8]) -> Mem<Option<(Form, &[u8])>>
     let Some(rest) = expect(b")", behind) else {
         return Ok(None);
     };
-    let form = call_on_one(alloc, Prim::Insert, Value::Str(characters(alloc, text)?))?;
+    let form = call_on_one(alloc, Prim::Insert, string_value(alloc, text)?)?;
     Ok(Some((form, rest)))
 }
 

@@ -1,5 +1,5 @@
 //! Scripts.
-ghost use Rattle.std.specs.Prelude.{◌≡◌, ◌↔◌, ℕ, [], map, IfOk, IsTrue, MatchResult, Err};
+ghost use Rattle.std.specs.Prelude.{◌≡◌, ◌↔◌, ℕ, [], map, IfOk, IfSome, IfNone, IsTrue, MatchResult, Err};
 ghost use Rattle.editor_model.specs.Values.{Script as Meant, Forms as Meaning};
 ghost use Rattle.ek_types.specs.Listing.{items_of};
 ghost use Rattle.ek_call.specs.Meaning.{form_of, joined, script_of};
@@ -9,7 +9,7 @@ ghost use Rattle.script_read.specs.Reading.{skipped, Reads};
 use crate::forms::form;
 use crate::words::skip;
 use ek_call::{Forms, Script};
-use ek_types::{ListOf, NoMemory, Symbols};
+use ek_types::{ListOf, Mem, NoMemory, Symbols};
 use std::alloc::Global;
 
 /// How many bytes a script may have.
@@ -40,21 +40,21 @@ fn at_end(bytes: &[u8]) -> bool
     skip(bytes).is_empty()
 }
 
-/// The forms that the bytes are.
-fn forms(alloc: Global, bytes: &[u8]) -> Result<Forms, ScriptFault>
-    ensures ok { IfOk result (λ forms. Reads (joined (map form_of (items_of forms))) bytes.now) }
-    ensures line { (n : ℕ) → result ≡ Err (ScriptFault.Line n) → (n ≡ 0) × ((forms : Meaning) → Reads forms bytes.now → ⊥) }
+/// The forms that the bytes are, and `None` where they are none.
+fn forms(alloc: Global, bytes: &[u8]) -> Mem<Option<Forms>>
+    ensures some { IfOk result (λ o. IfSome o (λ forms. Reads (joined (map form_of (items_of forms))) bytes.now)) }
+    ensures none { IfOk result (λ o. IfNone o ((forms : Meaning) → Reads forms bytes.now → ⊥)) }
 {
     let mut read = ListOf::new(alloc);
     let mut rest = bytes;
     while !at_end(rest) {
         let Some((next, behind)) = form(alloc, rest)? else {
-            return Err(ScriptFault::Line(0));
+            return Ok(None);
         };
         read.push(next)?;
         rest = behind;
     }
-    Ok(read)
+    Ok(Some(read))
 }
 
 /// The script that the bytes are. What is no script of the grammar so far, or has more than `LONGEST_SCRIPT` bytes, is
@@ -67,7 +67,9 @@ pub fn read(alloc: Global, bytes: &[u8]) -> Result<Script, ScriptFault>
     if bytes.len() > LONGEST_SCRIPT {
         return Err(ScriptFault::Line(0));
     }
-    let forms = forms(alloc, bytes)?;
+    let Some(forms) = forms(alloc, bytes)? else {
+        return Err(ScriptFault::Line(0));
+    };
     let symbols = Symbols::new(alloc)?;
     Ok(Script {
         symbols,
@@ -75,3 +77,6 @@ pub fn read(alloc: Global, bytes: &[u8]) -> Result<Script, ScriptFault>
         forms,
     })
 }
+
+#[cfg(test)]
+mod tests;

@@ -68,7 +68,11 @@ fn string_len(bytes: &[u8]) -> usize
     ensures within { result ≤ length bytes.now + 1 }
 {
     let inside = text_len(bytes);
-    if first_is(b'"', bytes.split_at(inside).1) { inside + 2 } else { 0 }
+    if first_is(b'"', bytes.split_at(inside).1) {
+        inside + 2
+    } else {
+        0
+    }
 }
 
 /// How long the first word is, and 0 where no word stands first.
