@@ -3,7 +3,9 @@
 
 mod constants;
 mod forms;
+mod laws;
 mod reader;
 mod words;
 
+pub use laws::scripts_are_determined;
 pub use reader::{LONGEST_SCRIPT, ScriptFault, read};
