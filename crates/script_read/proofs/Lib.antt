@@ -1,0 +1,10 @@
+pub mod Binding
+pub mod Fronts
+pub mod Lexing
+pub mod Spelled
+pub mod Literals
+pub mod Soundness
+pub mod Completeness
+pub mod Scripts
+pub mod Digits
+pub mod Progress

@@ -1,0 +1,2 @@
+pub mod GrammarSoFar
+pub mod Reading

@@ -1,0 +1,91 @@
+//! Strings and numbers.
+ghost use Rattle.std.specs.Prelude.{◌≡◌, ◌<◌, ◌≤◌, ◌^◌, true, length, option_map, IfSome};
+ghost use Rattle.std.specs.List.{list_all};
+ghost use Rattle.plain_machine.specs.Words.{is_digit, are_digits, digits_value};
+ghost use Rattle.script_read.specs.Reading.{inside_of, digits_of, number_of, string_at, number_at};
+
+use crate::words::word;
+
+/// What stands between the quotes of a string.
+fn inside(word: &[u8]) -> Option<&[u8]>
+    ensures { option_map (λ text. text.now) result ≡ inside_of word.now }
+{
+    match word {
+        [b'"', rest @ ..] => Some(rest.split_at(rest.len().saturating_sub(1)).0),
+        _ => None,
+    }
+}
+
+/// The inside of a string, and what follows the string.
+pub fn string(bytes: &[u8]) -> Option<(&[u8], &[u8])>
+    ensures { option_map (λ s. (s.0.now, s.1.now)) result ≡ string_at bytes.now }
+{
+    let (first, rest) = word(bytes);
+    match inside(first) {
+        Some(text) => Some((text, rest)),
+        None => None,
+    }
+}
+
+fn digit(c: u8) -> bool
+    ensures { result ≡ is_digit c }
+{
+    b'0' <= c && c <= b'9'
+}
+
+fn value(digits: &[u8]) -> u64
+    requires all { list_all is_digit digits.now ≡ true }
+    requires few { length digits.now ≤ 18 }
+    ensures exact { result ≡ digits_value 0 digits.now }
+    ensures small { result < 10 ^ 18 }
+{
+    let mut n = 0u64;
+    for d in digits {
+        n = 10 * n + u64::from(*d - b'0');
+    }
+    n
+}
+
+fn all_digits(bytes: &[u8]) -> bool
+    ensures { result ≡ list_all is_digit bytes.now }
+{
+    bytes.iter().all(|c| digit(*c))
+}
+
+/// The value of 1 to 18 digits.
+fn natural(word: &[u8]) -> Option<u64>
+    ensures exact { result ≡ digits_of word.now }
+    ensures small { IfSome result (λ n. n < 10 ^ 18) }
+{
+    if all_digits(word) && 1 <= word.len() && word.len() <= 18 {
+        Some(value(word))
+    } else {
+        None
+    }
+}
+
+fn integer(word: &[u8]) -> Option<i64>
+    ensures { result ≡ number_of word.now }
+{
+    match word {
+        [b'-', digits @ ..] => match natural(digits) {
+            Some(n) => Some(-(n as i64)),
+            None => None,
+        },
+        _ => match natural(word) {
+            Some(n) => Some(n as i64),
+            None => None,
+        },
+    }
+}
+
+/// A number, and what follows it.
+pub fn number(bytes: &[u8]) -> Option<(i64, &[u8])>
+    ensures { option_map (λ n. (n.0, n.1.now)) result ≡ number_at bytes.now }
+{
+    let (first, rest) = word(bytes);
+    match integer(first) {
+        Some(n) => Some((n, rest)),
+        None => None,
+    }
+}
