@@ -1,0 +1,4 @@
+pub mod Hosts
+pub mod Logged
+pub mod Meaning
+pub mod Recorded

@@ -1,0 +1,56 @@
+//! Answers as exchanges tell them.
+ghost use Rattle.std.specs.Prelude.{◌≡◌, ◌≤◌, [], length};
+ghost use Rattle.ek_types.specs.Listing.{items_of, spare_of};
+ghost use Rattle.host_link.specs.Meaning.{answer_of};
+ghost use Rattle.host_link.specs.Hosts.{Fits, got_answer, ended_answer, send_answer, kill_answer};
+
+use crate::asking::{Answer, ByteList, fill};
+use crate::host::{Ended, Got, KillAnswer, SendAnswer};
+
+/// The answer to a read, with its bytes in the room that was set aside for them.
+pub(crate) fn answer_to_read(got: Got, into: &[u8], room: ByteList) -> Answer
+    requires fits { Fits (length into.now) got }
+    requires empty { items_of room ≡ [] }
+    requires spare { length into.now ≤ spare_of room }
+    ensures { answer_of result ≡ got_answer into.now got }
+{
+    match got {
+        Got::Bytes(n) => {
+            let mut bytes = room;
+            fill(&mut bytes, &into[..n]);
+            Answer::Bytes(bytes)
+        }
+        Got::Nothing => Answer::Nothing,
+        Got::End => Answer::End,
+        Got::Failed => Answer::Failed,
+    }
+}
+
+pub(crate) fn answer_to_end(ended: Ended) -> Answer
+    ensures { answer_of result ≡ ended_answer ended }
+{
+    match ended {
+        Ended::Code(code) => Answer::Code(code),
+        Ended::Signal => Answer::Signal,
+        Ended::Running => Answer::Running,
+        Ended::Failed => Answer::Failed,
+    }
+}
+
+pub(crate) fn answer_to_send(sent: SendAnswer) -> Answer
+    ensures { answer_of result ≡ send_answer sent }
+{
+    match sent {
+        SendAnswer::Sent => Answer::Sent,
+        SendAnswer::Broken => Answer::Broken,
+    }
+}
+
+pub(crate) fn answer_to_kill(killed: KillAnswer) -> Answer
+    ensures { answer_of result ≡ kill_answer killed }
+{
+    match killed {
+        KillAnswer::Killed => Answer::Killed,
+        KillAnswer::Failed => Answer::Failed,
+    }
+}

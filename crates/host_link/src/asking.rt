@@ -1,0 +1,152 @@
+//! Exchanges: questions to the host with their answers.
+ghost use Rattle.std.specs.Prelude.{◌≡◌, ◌≤◌, length, ◌++◌, IfOk, map};
+ghost use Rattle.std.specs.Prelude.{string_bytes};
+ghost use Rattle.ek_types.specs.Listing.{items_of, spare_of};
+ghost use Rattle.host_link.specs.Meaning.{ask_of, answer_of, exchange_of, words_of};
+
+use ek_types::{Copied, ListOf, Mem};
+use std::alloc::Global;
+
+/// Bytes that are sent, read or name a program.
+pub type ByteList = ListOf<u8>;
+
+/// The arguments of a program.
+pub type WordList = ListOf<ByteList>;
+
+/// Answers in the order in which they are given.
+pub type Answers = ListOf<Answer>;
+
+/// The exchanges of a run in their order.
+pub type Exchanges = ListOf<Exchange>;
+
+/// What is asked of a host. Children are named by their numbers.
+#[derive(Drop)]
+pub enum Ask {
+    /// Start a program with these arguments.
+    Spawn(ByteList, WordList),
+    Read(u32),
+    End(u32),
+    Send(u32, ByteList),
+    Close(u32),
+    Kill(u32),
+}
+
+/// What a host answers.
+#[derive(Drop)]
+pub enum Answer {
+    Started(u32),
+    Refused,
+    Bytes(ByteList),
+    Nothing,
+    End,
+    Code(i32),
+    Signal,
+    Running,
+    Sent,
+    Broken,
+    Closed,
+    Killed,
+    Failed,
+}
+
+/// One question and its answer.
+#[derive(Drop)]
+pub struct Exchange {
+    pub ask: Ask,
+    pub answer: Answer,
+}
+
+impl Copied for Ask {
+    ghost use Rattle.plain_machine.specs.Exchanges.{Ask as Meant};
+
+    ghost Seen = { Meant };
+
+    ghost seen = { ask_of };
+
+    fn copy(&self) -> Mem<Ask> {
+        match self {
+            Ask::Spawn(program, args) => {
+                let program = program.copy()?;
+                Ok(Ask::Spawn(program, args.copy()?))
+            }
+            Ask::Read(child) => Ok(Ask::Read(*child)),
+            Ask::End(child) => Ok(Ask::End(*child)),
+            Ask::Send(child, bytes) => Ok(Ask::Send(*child, bytes.copy()?)),
+            Ask::Close(child) => Ok(Ask::Close(*child)),
+            Ask::Kill(child) => Ok(Ask::Kill(*child)),
+        }
+    }
+}
+
+impl Copied for Answer {
+    ghost use Rattle.plain_machine.specs.Exchanges.{Answer as Meant};
+
+    ghost Seen = { Meant };
+
+    ghost seen = { answer_of };
+
+    fn copy(&self) -> Mem<Answer> {
+        match self {
+            Answer::Started(child) => Ok(Answer::Started(*child)),
+            Answer::Refused => Ok(Answer::Refused),
+            Answer::Bytes(bytes) => Ok(Answer::Bytes(bytes.copy()?)),
+            Answer::Nothing => Ok(Answer::Nothing),
+            Answer::End => Ok(Answer::End),
+            Answer::Code(code) => Ok(Answer::Code(*code)),
+            Answer::Signal => Ok(Answer::Signal),
+            Answer::Running => Ok(Answer::Running),
+            Answer::Sent => Ok(Answer::Sent),
+            Answer::Broken => Ok(Answer::Broken),
+            Answer::Closed => Ok(Answer::Closed),
+            Answer::Killed => Ok(Answer::Killed),
+            Answer::Failed => Ok(Answer::Failed),
+        }
+    }
+}
+
+impl Copied for Exchange {
+    ghost use Rattle.plain_machine.specs.Exchanges.{Exchange as Meant};
+
+    ghost Seen = { Meant };
+
+    ghost seen = { exchange_of };
+
+    fn copy(&self) -> Mem<Exchange> {
+        let ask = self.ask.copy()?;
+        Ok(Exchange {
+            ask,
+            answer: self.answer.copy()?,
+        })
+    }
+}
+
+/// Puts bytes behind those of a list, with no memory taken.
+pub(crate) fn fill(list: &mut ByteList, bytes: &[u8])
+    requires { length bytes.now ≤ spare_of list.old }
+    ensures { items_of list.new ≡ items_of list.old ++ bytes.now }
+{
+    for i in 0..bytes.len() {
+        list.push_spare(bytes[i]);
+    }
+}
+
+/// A list of these bytes.
+pub(crate) fn list_of(alloc: Global, bytes: &[u8]) -> Mem<ByteList>
+    ensures { IfOk result (λ list. items_of list ≡ bytes.now) }
+{
+    let mut list = ListOf::new(alloc);
+    list.reserve(bytes.len())?;
+    fill(&mut list, bytes);
+    Ok(list)
+}
+
+/// The list of the bytes of these words.
+pub(crate) fn words(alloc: Global, args: &[String]) -> Mem<WordList>
+    ensures { IfOk result (λ list. words_of list ≡ map string_bytes args.now) }
+{
+    let mut list = ListOf::new(alloc);
+    for i in 0..args.len() {
+        list.push(list_of(alloc, args[i].as_bytes())?)?;
+    }
+    Ok(list)
+}

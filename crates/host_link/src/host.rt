@@ -1,0 +1,96 @@
+//! The trait of a host: what the kernel asks of the outside.
+ghost use Rattle.std.specs.Prelude.{◌≡◌, ◌+◌, ◌-◌, ◌<◌, ◌≤◌, ◌^◌, length, map, false, true, Some, IfOk, slice_get, slice_set, string_bytes};
+ghost use Rattle.std.specs.Option.{option_map};
+ghost use Rattle.plain_machine.specs.Exchanges.{Spawn, Read, AskEnd, Send, Close, Kill, Closed};
+ghost use Rattle.host_link.specs.Meaning.{exchanges_of};
+ghost use Rattle.host_link.specs.Hosts.{HostState, Asked, Exchanged, Fits, IsNumbered, after_spawn, spawned_answer, got_answer, ended_answer, send_answer, kill_answer};
+
+use crate::asking::Exchanges;
+use ek_types::Mem;
+
+/// The answer to a spawn: the number of the child, or no child.
+#[derive(Clone, Copy, Debug, PartialEq, Eq)]
+pub enum Spawned {
+    Started(u32),
+    Refused,
+}
+
+/// The answer to a read of a child's output.
+#[derive(Clone, Copy, Debug, PartialEq, Eq)]
+pub enum Got {
+    /// So many bytes stand at the front of the room given, at least one.
+    Bytes(usize),
+    Nothing,
+    End,
+    Failed,
+}
+
+/// The answer to the question how a child has ended.
+#[derive(Clone, Copy, Debug, PartialEq, Eq)]
+pub enum Ended {
+    Code(i32),
+    Signal,
+    Running,
+    Failed,
+}
+
+/// The answer to bytes that are sent.
+#[derive(Clone, Copy, Debug, PartialEq, Eq)]
+pub enum SendAnswer {
+    Sent,
+    Broken,
+}
+
+/// The answer to a kill.
+#[derive(Clone, Copy, Debug, PartialEq, Eq)]
+pub enum KillAnswer {
+    Killed,
+    Failed,
+}
+
+/// The outside of a run. Children are numbered from 0 in the order in which they are started.
+///
+/// Each call but `told` is one exchange. `NoMemory` comes before anything was asked and leaves the host as it was.
+/// `Refused`, `Failed` and `Broken` come only where the count of faults rose in that call; the count never falls and
+/// stays at 2^64 - 1 once it stands there. `Nothing` and `Running` are the host's word.
+pub trait Host {
+    /// The exchanges, where the host tells them, the count of faults, and which children were asked Kill.
+    ghost state: { Self → HostState };
+
+    /// Starts a program. A child that is started has the next number.
+    fn spawn(&mut self, program: &str, args: &[String]) -> Mem<Spawned>
+        requires { length (state self.old).kills < 2 ^ 32 - 1 }
+        ensures asked { Asked (state self.old) (state self.new) (after_spawn (state self.old).kills) (Spawn program.now (map string_bytes args.now)) spawned_answer result }
+        ensures number { IfOk result (IsNumbered (length (state self.old).kills)) };
+
+    /// Takes bytes of a child's output to the front of `into`.
+    fn read(&mut self, child: u32, into: &mut [u8]) -> Mem<Got>
+        requires there { child < length (state self.old).kills }
+        requires room { 0 < length into.old }
+        ensures asked { Asked (state self.old) (state self.new) (λ _. (state self.old).kills) (Read child) (got_answer into.new) result }
+        ensures fits { IfOk result (Fits (length into.new)) };
+
+    /// Asks how a child has ended.
+    fn end(&mut self, child: u32) -> Mem<Ended>
+        requires { child < length (state self.old).kills }
+        ensures { Asked (state self.old) (state self.new) (λ _. (state self.old).kills) (AskEnd child) ended_answer result };
+
+    /// Sends bytes to a child's input.
+    fn send(&mut self, child: u32, bytes: &[u8]) -> Mem<SendAnswer>
+        requires { child < length (state self.old).kills }
+        ensures { Asked (state self.old) (state self.new) (λ _. (state self.old).kills) (Send child bytes.now) send_answer result };
+
+    /// Closes a child's input.
+    fn close(&mut self, child: u32) -> Mem<()>
+        requires { child < length (state self.old).kills }
+        ensures { Asked (state self.old) (state self.new) (λ _. (state self.old).kills) (Close child) (λ _. Closed) result };
+
+    /// The exchanges so far, exactly where the host tells.
+    fn told(&self) -> Option<&Exchanges>
+        ensures { option_map (λ list. exchanges_of list.now) result ≡ (state self.now).told };
+
+    /// Asks a child to be killed, which is asked at most once of each child. It takes no memory.
+    fn kill(&mut self, child: u32) -> KillAnswer
+        requires { slice_get (state self.old).kills child ≡ Some false }
+        ensures { Exchanged (state self.old) (state self.new) (slice_set (state self.old).kills child true) (Kill child) (kill_answer result) };
+}
