@@ -128,7 +128,8 @@ insert_found c word inside words more bytes e are q spelled = rw (e, are) (recor
 })
 
 call_found : (symbols : List (List ℕ)) (c : Call) (words more : List Word) (bytes : List ℕ) → IsCall symbols c words → IsCallSoFar c → list_all is_word_so_far words ≡ true → AreSpelled (words ++ more) bytes → FoundTop (Do c) words more bytes
-call_found symbols c words more bytes is (inl (text, e)) so_far spelled =
+call_found symbols c words more bytes is (inl (written, e)) so_far spelled =
+    let text = bare written in
     let (args, are, are_args) = call_words symbols (call_on Insert (Str text ∷ [])) words (rw e at is) in
     let (w, inside, one, q, characters) = string_arg symbols text args are_args (args_so_far (codes "insert") args (rw are at so_far)) in
     insert_found c w inside words more bytes (e ∙ ap (λ t. call_on Insert (Str t ∷ [])) characters) (are ∙ ap (λ l. opening ∷ Plain (codes "insert") ∷ (l ++ closing ∷ [])) one) q spelled

@@ -120,7 +120,7 @@ insert_read bytes rest f h =
       are_args = λ symbols. (Plain w.word ∷ [], [], refl, inl (map Scalar s.0, refl, (w.word, refl, string_from w.word s.0 w.known)), refl);
       args_so_far = and_from (is_word_so_far (Plain w.word)) true (quoted_so_far w.word s.0 w.known) refl;
       no_names = refl;
-      call_so_far = inl (bare (map Scalar s.0), refl);
+      call_so_far = inl (map Scalar s.0, refl);
       spelled = λ more others. read_is_first w.word s.1 (closing ∷ more) bytes w.read w.full (after more others);
       shorter = omega (arith, less, w.shorter);
     }

@@ -2,8 +2,8 @@
 -- and nothing but calls of insert, goto-char and delete-region on constants.
 use Rattle.std.specs.Prelude.{◌≡◌, ◌⊎◌, ℕ, ℤ, Bool, ◌&&◌, not, ◌==◌, nat_le, IsTrue, List, [], ◌∷◌, map}
 use Rattle.std.specs.List.{list_all}
-use Rattle.text_model.specs.Properties.{Cell}
-use Rattle.editor_model.specs.Values.{Value, Int, Str, Prim, Insert, GotoChar, DeleteRegion, Call, Const, Do, Script}
+use Rattle.text_model.specs.Characters.{Ch}
+use Rattle.editor_model.specs.Values.{Value, Int, plain, Prim, Insert, GotoChar, DeleteRegion, Call, Const, Do, Script}
 use Rattle.plain_machine.specs.Symbols.{same_word}
 use Rattle.plain_machine.specs.Words.{Word, spelled, hash, is_blank, AreWords}
 use Rattle.plain_machine.specs.Grammar.{Top, Run, IsScript}
@@ -29,7 +29,7 @@ call_on prim constants = record { prim = prim; args = map Const constants }
 
 abbrev pub IsCallSoFar : Call → Type 0
 IsCallSoFar c =
-    ((text : List Cell) × (c ≡ call_on Insert (Str text ∷ []))) ⊎
+    ((text : List Ch) × (c ≡ call_on Insert (plain text ∷ []))) ⊎
     ((position : ℤ) × (c ≡ call_on GotoChar (Int position ∷ []))) ⊎
     ((from to : ℤ) × (c ≡ call_on DeleteRegion (Int from ∷ Int to ∷ [])))
 
