@@ -3,5 +3,9 @@ pub mod Coming
 pub mod Contents
 pub mod Dumped
 pub mod Gathering
+pub mod Outcomes
 pub mod Prepared
 pub mod Rotating
+pub mod Scripts
+pub mod SoFar
+pub mod Taking

@@ -1,2 +1,4 @@
 pub mod Answers
+pub mod Forms
+pub mod Outcomes
 pub mod Plain

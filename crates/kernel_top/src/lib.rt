@@ -1,7 +1,13 @@
-//! The top call.
+//! The top call: a script is read from a source and run, and its lines are written to a sink.
 #![tactic(auto)]
 
 mod answer;
 mod apply;
 mod core_text;
+mod forms;
 mod print;
+mod status;
+mod top;
+
+pub use status::Status;
+pub use top::run;

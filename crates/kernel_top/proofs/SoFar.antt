@@ -1,0 +1,82 @@
+-- The calls and forms of the grammar so far.
+use Rattle.std.proofs.Common.{◌≡◌, ℕ, zero, suc, ◌+◌, List, [], ◌∷◌, map, Some, slice_get, option_map, inl, inr, refl, ap, sym, ◌∙◌}
+use Rattle.std.specs.Prelude.{ℤ}
+use Rattle.std.proofs.lemmas.Option.{slice_get-map}
+use Rattle.text_model.specs.Characters.{Ch}
+use Rattle.text_model.specs.Properties.{bare}
+use Rattle.editor_model.specs.Values.{Prim, Insert, GotoChar, DeleteRegion, Int, Str, Const, Forms, Do} 
+use Rattle.editor_model.specs.Values as model
+use Rattle.ek_types.specs.Listing.{items_of}
+use Rattle.plain_machine.specs.Grammar.{Top, Run, Handler, forms_of}
+use Rattle.script_read.specs.GrammarSoFar.{IsCallSoFar, call_on, AreTopsSoFar, IsScriptSoFar}
+use Rattle.ek_call.specs.Meaning.{arg_of, call_of, form_of, joined}
+use Rattle.ek_call.specs.Primitives.{prim_of}
+use Rattle.ek_call.specs.declared.call.Arg.{Arg}
+use Rattle.ek_call.specs.declared.call.Call.{Call}
+use Rattle.ek_call.specs.declared.form.Form.{Form}
+use Rattle.ek_call.specs.declared.primitive.Primitive.TheVariants as written
+use Rattle.kernel_top.specs.Answers.{called}
+use Rattle.kernel_top.specs.Forms.{IsFormSoFar, AreFormsSoFar}
+
+-- an argument of a call whose arguments are known
+arg_at : (call : Call) (i : ℕ) (arg : Arg) → slice_get (items_of call.args) i ≡ Some arg → slice_get (call_of call).args i ≡ Some (arg_of arg)
+arg_at call i arg h = slice_get-map arg_of (items_of call.args) i ∙ ap (option_map arg_of) h
+
+same_some : {X : Type 0} (x y : X) → Some x ≡ Some y → x ≡ y
+same_some x y e = cc
+
+module _ (call : Call) where
+  pub record OnString (arg : Arg) : Type 0 where
+    pub text : (text : List Ch) × (arg_of arg ≡ Const (Str (bare text)))
+    pub whole : Do (call_of call) ≡ called Insert (arg_of arg ∷ [])
+
+  pub record OnInteger (arg : Arg) : Type 0 where
+    pub integer : (i : ℤ) × (arg_of arg ≡ Const (Int i))
+    pub whole : Do (call_of call) ≡ called GotoChar (arg_of arg ∷ [])
+
+  pub record OnRegion (first second : Arg) : Type 0 where
+    pub from : (i : ℤ) × (arg_of first ≡ Const (Int i))
+    pub to : (i : ℤ) × (arg_of second ≡ Const (Int i))
+    pub whole : Do (call_of call) ≡ called DeleteRegion (arg_of first ∷ arg_of second ∷ [])
+
+  prim_is : (prim : _) (c : model.Call) → call.prim ≡ prim → call_of call ≡ c → prim_of prim ≡ c.prim
+  prim_is prim c p e = sym (ap prim_of p) ∙ ap (λ c. c.prim) e
+
+  pub on_string : (arg : Arg) → IsCallSoFar (call_of call) → call.prim ≡ written.Insert → slice_get (items_of call.args) 0 ≡ Some arg → OnString arg
+  on_string arg (inl (text, e)) p h =
+      let is : arg_of arg ≡ Const (Str (bare text)) = same_some (arg_of arg) (Const (Str (bare text))) (sym (arg_at call 0 arg h) ∙ ap (λ c. slice_get c.args 0) e) in
+      record { text = (text, is); whole = ap Do e ∙ ap (λ a. called Insert (a ∷ [])) (sym is) }
+  on_string arg (inr (inl (i, e))) p h = absurd (let no = prim_is written.Insert (call_on GotoChar (Int i ∷ [])) p e in cc)
+  on_string arg (inr (inr (i, j, e))) p h = absurd (let no = prim_is written.Insert (call_on DeleteRegion (Int i ∷ Int j ∷ [])) p e in cc)
+
+  pub on_integer : (arg : Arg) → IsCallSoFar (call_of call) → call.prim ≡ written.GotoChar → slice_get (items_of call.args) 0 ≡ Some arg → OnInteger arg
+  on_integer arg (inl (text, e)) p h = absurd (let no = prim_is written.GotoChar (call_on Insert (Str (bare text) ∷ [])) p e in cc)
+  on_integer arg (inr (inl (i, e))) p h =
+      let is : arg_of arg ≡ Const (Int i) = same_some (arg_of arg) (Const (Int i)) (sym (arg_at call 0 arg h) ∙ ap (λ c. slice_get c.args 0) e) in
+      record { integer = (i, is); whole = ap Do e ∙ ap (λ a. called GotoChar (a ∷ [])) (sym is) }
+  on_integer arg (inr (inr (i, j, e))) p h = absurd (let no = prim_is written.GotoChar (call_on DeleteRegion (Int i ∷ Int j ∷ [])) p e in cc)
+
+  pub on_region : (first second : Arg) → IsCallSoFar (call_of call) → call.prim ≡ written.DeleteRegion → slice_get (items_of call.args) 0 ≡ Some first → slice_get (items_of call.args) 1 ≡ Some second → OnRegion first second
+  on_region first second (inl (text, e)) p h k = absurd (let no = prim_is written.DeleteRegion (call_on Insert (Str (bare text) ∷ [])) p e in cc)
+  on_region first second (inr (inl (i, e))) p h k = absurd (let no = prim_is written.DeleteRegion (call_on GotoChar (Int i ∷ [])) p e in cc)
+  on_region first second (inr (inr (i, j, e))) p h k =
+      let is : arg_of first ≡ Const (Int i) = same_some (arg_of first) (Const (Int i)) (sym (arg_at call 0 first h) ∙ ap (λ c. slice_get c.args 0) e) in
+      let too : arg_of second ≡ Const (Int j) = same_some (arg_of second) (Const (Int j)) (sym (arg_at call 1 second k) ∙ ap (λ c. slice_get c.args 1) e) in
+      record { from = (i, is); to = (j, too); whole = ap Do e ∙ ap (λ a. called DeleteRegion (a ∷ Const (Int j) ∷ [])) (sym is) ∙ ap (λ a. called DeleteRegion (arg_of first ∷ a ∷ [])) (sym too) }
+
+pub form_at : (forms : List Form) (i : ℕ) (f : Form) → AreFormsSoFar (joined (map form_of forms)) → slice_get forms i ≡ Some f → IsFormSoFar (form_of f)
+form_at [] i f are h = cc
+form_at (x ∷ forms) zero f are h = let same : x ≡ f = cc in rw (← same) are.0
+form_at (x ∷ forms) (suc i) f are h = form_at forms i f are.1 h
+
+pub mapped_at : {X Y : Type 0} (f : X → Y) (xs : List X) (i : ℕ) (x : X) → slice_get xs i ≡ Some x → slice_get (map f xs) i ≡ Some (f x)
+mapped_at f xs i x h = slice_get-map f xs i ∙ ap (option_map f) h
+
+-- the forms of a script of the grammar so far
+tops_are_forms : (tops : List Top) → AreTopsSoFar tops → AreFormsSoFar (forms_of tops)
+tops_are_forms [] are = tt
+tops_are_forms (Run f ∷ tops) are = (are.0, tops_are_forms tops are.1)
+tops_are_forms (Handler d ∷ tops) are = absurd are.0
+
+pub forms_so_far : (bytes : List ℕ) (script : model.Script) → IsScriptSoFar bytes script → AreFormsSoFar script.forms
+forms_so_far bytes script is = rw is.of_machine.forms_are (tops_are_forms is.of_machine.tops is.calls_so_far)

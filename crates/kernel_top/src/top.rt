@@ -1,0 +1,127 @@
+//! The top call.
+ghost use Rattle.std.specs.Prelude.{◌≡◌, ◌<◌, ◌≤◌, ◌↔◌, ◌⊎◌, ◌+◌, ℕ, List, [], ◌∷◌, codes, length, Err, IfOk, IfErr, map, string_bytes, true, Some, IsTrue};
+ghost use Rattle.std.specs.Io.KnownBytes.{Consumes, Appends};
+ghost use Rattle.editor_model.specs.Values.{Script as Meant};
+ghost use Rattle.plain_machine.specs.Grammar.{longest_script};
+ghost use Rattle.ek_types.specs.Io.{HasCause, Rose};
+ghost use Rattle.script_read.specs.GrammarSoFar.{IsScriptSoFar};
+ghost use Rattle.kernel_top.specs.Outcomes.{IsRun, HasEnded, Outcome};
+
+use crate::forms::{Stop, run_script};
+use crate::status::Status;
+use ek_types::{Sink, Source, Took};
+use script_read::{LONGEST_SCRIPT, ScriptFault, read};
+use std::alloc::Global;
+
+/// Why the bytes of the source weren't had.
+#[derive(Clone, Copy, Debug, PartialEq, Eq)]
+enum Refused {
+    Failed,
+    TooLong,
+    NoMemory,
+}
+
+const PIECE: usize = 4096;
+
+fn is_run(words: &[String]) -> bool
+    ensures { (result ≡ true) ↔ IsRun (map string_bytes words.now) }
+{
+    match words {
+        [word] => word.as_str() == "run",
+        _ => false,
+    }
+}
+
+/// All the bytes of the source. No more than one byte behind the longest script is asked for.
+fn read_all<S: Source>(alloc: Global, source: &mut S) -> Result<Vec<u8>, Refused>
+    ensures all { IfOk result (λ all. Consumes (S.state source.old).left (S.state source.new).left all.items
+        × HasEnded (S.state source.old).left (S.state source.new).left × (length all.items ≤ longest_script)) }
+    ensures some { IfErr result (λ refused. (read : List ℕ) × Consumes (S.state source.old).left (S.state source.new).left read
+        × (length read ≤ longest_script + 1) × (refused ≡ Refused.TooLong → longest_script < length read)) }
+    ensures cause { HasCause (S.state source.old).faults (S.state source.new).faults (result ≡ Err Refused.Failed) }
+{
+    let mut all = Vec::new(alloc);
+    let mut piece = [0u8; PIECE];
+    while all.len() <= LONGEST_SCRIPT {
+        let room = PIECE.min(LONGEST_SCRIPT + 1 - all.len());
+        match source.read(&mut piece[..room]) {
+            Took::Bytes(n) => {
+                let Ok(()) = all.extend_from_slice(&piece[..n]) else {
+                    return Err(Refused::NoMemory);
+                };
+            }
+            Took::End => return Ok(all),
+            Took::Failed => return Err(Refused::Failed),
+        }
+    }
+    Err(Refused::TooLong)
+}
+
+/// Reads the script that the bytes are, and runs it.
+fn run_bytes<K: Sink>(alloc: Global, bytes: &[u8], sink: &mut K) -> Status
+    ensures outcome { (written : List ℕ) × Appends (K.state sink.old).held (K.state sink.new).held written
+        × Outcome result (codes "run" ∷ []) bytes.now written [] (Unit {0}) (Rose (K.state sink.old).faults (K.state sink.new).faults → ⊥) }
+    ensures no_read { result ≡ Status.ReadFault → ⊥ }
+    ensures write_fault { HasCause (K.state sink.old).faults (K.state sink.new).faults (result ≡ Status.WriteFault) }
+{
+    match read(alloc, bytes) {
+        Ok(script) => match run_script(alloc, &script, sink) {
+            Ok(()) => Status::Done,
+            Err(Stop::WriteFault) => Status::WriteFault,
+            Err(Stop::NoMemory) => Status::NoMemory,
+        },
+        Err(ScriptFault::Line(line)) => Status::Script(line),
+        Err(ScriptFault::NoMemory) => Status::NoMemory,
+    }
+}
+
+fn run_words<S: Source, K: Sink>(
+    alloc: Global,
+    words: &[String],
+    source: &mut S,
+    sink: &mut K,
+) -> Status
+    ensures outcome { (read written : List ℕ) × Consumes (S.state source.old).left (S.state source.new).left read × (length read ≤ longest_script + 1)
+        × Appends (K.state sink.old).held (K.state sink.new).held written
+        × Outcome result (map string_bytes words.now) read written []
+            (HasEnded (S.state source.old).left (S.state source.new).left) (Rose (K.state sink.old).faults (K.state sink.new).faults → ⊥) }
+    ensures untouched { result ≡ Status.Usage → (S.state source.new ≡ S.state source.old) × (K.state sink.new ≡ K.state sink.old) }
+    ensures read_fault { HasCause (S.state source.old).faults (S.state source.new).faults (result ≡ Status.ReadFault) }
+    ensures write_fault { HasCause (K.state sink.old).faults (K.state sink.new).faults (result ≡ Status.WriteFault) }
+{
+    if !is_run(words) {
+        return Status::Usage;
+    }
+    match read_all(alloc, source) {
+        Ok(bytes) => run_bytes(alloc, bytes.as_slice(), sink),
+        Err(Refused::Failed) => Status::ReadFault,
+        Err(Refused::TooLong) => Status::Script(0),
+        Err(Refused::NoMemory) => Status::NoMemory,
+    }
+}
+
+/// Reads the script that the source holds, runs it, and writes its lines and the dump to the sink. The words are those
+/// behind the program's name; only `run` alone is known.
+///
+/// The status says what was read and written, as `outcome` has it: for `Done` the lines are those of the plain machine's
+/// whole run on the script. No more than one byte behind the longest script, of 1,048,576 bytes, is asked of the source.
+pub fn run<S: Source, K: Sink>(
+    alloc: Global,
+    words: &[String],
+    source: &mut S,
+    sink: &mut K,
+) -> Status
+    ensures outcome { (read written : List ℕ) × Consumes (S.state source.old).left (S.state source.new).left read × (length read ≤ longest_script + 1)
+        × Appends (K.state sink.old).held (K.state sink.new).held written
+        × Outcome result (map string_bytes words.now) read written []
+            (HasEnded (S.state source.old).left (S.state source.new).left) (Rose (K.state sink.old).faults (K.state sink.new).faults → ⊥) }
+    ensures untouched { result ≡ Status.Usage → (S.state source.new ≡ S.state source.old) × (K.state sink.new ≡ K.state sink.old) }
+    ensures read_fault { HasCause (S.state source.old).faults (S.state source.new).faults (result ≡ Status.ReadFault) }
+    ensures write_fault { HasCause (K.state sink.old).faults (K.state sink.new).faults (result ≡ Status.WriteFault) }
+    ensures complete { (bytes : List ℕ) (script : Meant) → IsRun (map string_bytes words.now)
+        → (S.state source.old).left ≡ Some bytes → IsScriptSoFar bytes script
+        → (Rose (S.state source.old).faults (S.state source.new).faults → ⊥) → (Rose (K.state sink.old).faults (K.state sink.new).faults → ⊥)
+        → (result ≡ Status.Done) ⊎ (result ≡ Status.NoMemory) }
+{
+    run_words(alloc, words, source, sink)
+}
