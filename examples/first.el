@@ -1,0 +1,1 @@
+(insert "hello")(goto-char 2)(delete-region 2 3)

@@ -1,0 +1,6 @@
+(insert "Dear Bob,")
+(goto-char 6)
+(delete-region 6 9)
+(insert "Ada")
+(goto-char 1)
+(insert "> ")
