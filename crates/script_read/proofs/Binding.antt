@@ -1,5 +1,5 @@
 -- What stands behind an answer that was found.
-use Rattle.std.proofs.Common.{◌≡◌, ℕ, List, Bool, true, false, Some, None, refl, ap}
+use Rattle.std.proofs.Common.{◌≡◌, Bool, true, false, Some, None, refl, ap}
 use Rattle.std.proofs.lemmas.Option.{same_Some}
 use Rattle.std.specs.Prelude.{Option, if◌then◌else◌}
 use Rattle.script_read.specs.Reading.{◌>>=◌}

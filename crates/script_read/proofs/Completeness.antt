@@ -1,11 +1,11 @@
 -- A form of the grammar so far is read.
-use Rattle.std.proofs.Common.{◌≡◌, ℕ, List, [], ◌∷◌, ◌++◌, Bool, true, false, ◌&&◌, not, length, map, refl, sym, ap, ◌∙◌, subst, append_assoc, append-nil, Some, None, ℤ, inl, inr}
-use Rattle.std.specs.Prelude.{Option, if◌then◌else◌, codes}
+use Rattle.std.proofs.Common.{◌≡◌, ℕ, List, [], ◌∷◌, ◌++◌, true, map, refl, ap, ◌∙◌, Some, None, ℤ, inl, inr}
+use Rattle.std.specs.Prelude.{if◌then◌else◌, codes}
 use Rattle.std.specs.List.{list_all}
 use Rattle.std.specs.Str.{bytes_eq}
 use Rattle.std.proofs.lemmas.Bool.{and_parts, false≢true}
 use Rattle.std.proofs.lemmas.List.Folds.{list_all-append}
-use Rattle.text_model.specs.Characters.{Ch, Scalar}
+use Rattle.text_model.specs.Characters.{Scalar}
 use Rattle.text_model.specs.Properties.{Cell}
 use Rattle.editor_model.specs.Values.{Value, Int, Str, Prim, Insert, GotoChar, DeleteRegion, Arg, Const, Call, Do, Setq, In, WhenEq, Form}
 use Rattle.editor_model.specs.Prims.{word}
@@ -13,7 +13,7 @@ use Rattle.plain_machine.specs.Words.{Word, Plain, names, opening, closing, IsIn
 use Rattle.plain_machine.specs.Atoms.{bare, AreArgs}
 use Rattle.plain_machine.specs.Grammar.{IsForm, IsCall, Run}
 use Rattle.script_read.specs.GrammarSoFar.{call_on, IsCallSoFar, IsTopSoFar, is_word_so_far}
-use Rattle.script_read.specs.Reading.{◌>>=◌, word_at, behind, inside_of, number_of, string_at, number_at, text_of, closed, insert_at, goto_at, delete_at, call_at, form_at}
+use Rattle.script_read.specs.Reading.{◌>>=◌, word_at, behind, inside_of, number_of, string_at, number_at, text_of, closed, call_at, form_at}
 use Rattle.script_read.proofs.Spelled.{AreSpelled, first_is_read}
 use Rattle.script_read.proofs.Lexing.{Lexeme, parenthesis, unquoted}
 use Rattle.script_read.proofs.Literals.{Quotes, quotes_of_string, quotes_lexeme, inside_of-quoted, number_is_read, number_lexeme}

@@ -1,14 +1,11 @@
 -- The first word is read exactly where it stands.
-use Rattle.std.proofs.Common.{◌≡◌, ℕ, zero, suc, ◌+◌, List, [], ◌∷◌, ◌++◌, Bool, true, false, cond, ◌&&◌, ◌||◌, not, ◌==◌, length, take, drop, refl, sym, ap, ◌∙◌, subst, arith, append_assoc, length-append, take-append-drop, add-one, add-suc}
-use Rattle.std.specs.Prelude.{IsTrue, if◌then◌else◌}
+use Rattle.std.proofs.Common.{◌≡◌, ℕ, List, [], ◌∷◌, ◌++◌, Bool, true, false, ◌&&◌, ◌||◌, not, ◌==◌, length, take, drop, refl, sym, ap, ◌∙◌, subst, arith, append_assoc, length-append, take-append-drop, add-suc}
 use Rattle.std.specs.List.{prefix_len, list_all}
-use Rattle.std.proofs.Math.Numerals.{one-add}
 use Rattle.std.proofs.Math.Seq.{drop-append_seam}
-use Rattle.std.proofs.lemmas.Bool.{and_parts, and_from, eqb-true, false≢true}
+use Rattle.std.proofs.lemmas.Bool.{and_parts, eqb-true}
 use Rattle.std.proofs.lemmas.Bool.Decides.{nat_tests}
-use Rattle.std.proofs.lemmas.List.Folds.{length-prefix_len}
-use Rattle.plain_machine.specs.Words.{Plain, is_blank, is_word_byte, is_letter, is_digit, is_glued, begins_with, ends_with, EndsThere}
-use Rattle.script_read.specs.Reading.{skipped, is_text_byte, string_length, word_length, split_word, word_at}
+use Rattle.plain_machine.specs.Words.{Plain, is_blank, is_word_byte, is_glued, begins_with, ends_with, EndsThere}
+use Rattle.script_read.specs.Reading.{skipped, is_text_byte, word_length, split_word, word_at}
 use Rattle.script_read.proofs.Fronts.{prefix_len-append_stop, front_passes, rest_stops, last_passes, cut_at}
 
 -- the words of the grammar so far

@@ -1,18 +1,18 @@
 -- Strings and numbers.
-use Rattle.std.proofs.Common.{◌≡◌, ℕ, zero, suc, ◌+◌, ◌-◌, List, [], ◌∷◌, ◌++◌, Bool, true, false, ◌&&◌, ◌||◌, not, ◌==◌, length, take, drop, map, refl, sym, ap, ◌∙◌, arith, append-nil, length-append, Some, None, ℤ, pos, neg_ℤ, inl, inr}
-use Rattle.std.specs.Prelude.{IsTrue, codes}
+use Rattle.std.proofs.Common.{◌≡◌, ℕ, ◌-◌, List, [], ◌∷◌, ◌++◌, Bool, true, false, ◌||◌, not, ◌==◌, length, map, refl, sym, ap, ◌∙◌, arith, append-nil, length-append, Some, None, ℤ, pos, neg_ℤ, inl, inr}
+use Rattle.std.specs.Prelude.{codes}
 use Rattle.std.specs.List.{list_all}
 use Rattle.std.proofs.Math.Seq.{take-append_seam}
 use Rattle.std.proofs.lemmas.Bool.{and_parts, and_from, eqb-true, false≢true}
 use Rattle.std.proofs.lemmas.Bool.Decides.{nat_tests}
 use Rattle.std.proofs.lemmas.List.Folds.{list_all-append}
 use Rattle.std.proofs.lemmas.Option.{same_Some}
-use Rattle.text_model.specs.Characters.{Ch, Scalar, Raw}
+use Rattle.text_model.specs.Characters.{Ch, Scalar}
 use Rattle.text_model.specs.Decoding.{Whole, within, range, front, against, against_any, characters_after, tail_after, all_characters}
 use Rattle.plain_machine.specs.Symbols.{same_word}
 use Rattle.plain_machine.specs.Words.{Plain, is_digit, are_digits, digits_value, IsInt, is_word_byte, is_plain_byte, IsInside, nothing, escaped, octal, IsString, StartsAnew}
 use Rattle.script_read.specs.GrammarSoFar.{is_byte_so_far, is_word_so_far}
-use Rattle.script_read.specs.Reading.{◌>>=◌, is_text_byte, inside_of, digits_of, number_of}
+use Rattle.script_read.specs.Reading.{is_text_byte, inside_of, digits_of, number_of}
 use Rattle.script_read.proofs.Binding.{bind_some}
 use Rattle.script_read.proofs.Lexing.{Lexeme, parenthesis, quoted, unquoted}
 

@@ -1,22 +1,22 @@
 -- What is read is a script of the grammar so far, and each of those is read.
-use Rattle.std.proofs.Common.{◌≡◌, ℕ, ◌<◌, ◌≤◌, List, [], ◌∷◌, ◌++◌, Bool, true, false, ◌&&◌, length, map, take, drop, refl, sym, ap, ◌∙◌, arith, append-nil, append_assoc, take-append-drop, Some, None, inl, inr}
-use Rattle.std.specs.Prelude.{IsTrue, codes}
+use Rattle.std.proofs.Common.{◌≡◌, ℕ, ◌≤◌, List, [], ◌∷◌, ◌++◌, true, length, take, refl, sym, ap, ◌∙◌, arith, append-nil, take-append-drop, Some, inl, inr}
+use Rattle.std.specs.Prelude.{codes}
 use Rattle.std.specs.List.{prefix_len, list_all}
-use Rattle.std.proofs.lemmas.Bool.{and_parts, and_from}
+use Rattle.std.proofs.lemmas.Bool.{and_parts}
 use Rattle.std.proofs.lemmas.Option.{same_Some}
 use Rattle.std.proofs.lemmas.List.Folds.{list_all-append}
 use Rattle.editor_model.specs.Values.{Call, Form, Forms, Do, Setq, In, WhenEq, NoForms, Then, HandlerDef, Script}
 use Rattle.plain_machine.specs.Symbols.{first_symbols, with_names}
 use Rattle.plain_machine.specs.Words.{Word, names, is_blank}
-use Rattle.plain_machine.specs.Grammar.{Top, Run, Handler, AreTops, handlers_of, forms_of, depth, names_of_form, registers, KeepsLimits, AllKeepLimits, IsScript, longest_script}
-use Rattle.script_read.specs.GrammarSoFar.{is_word_so_far, HasNoComment, IsCallSoFar, IsTopSoFar, AreTopsSoFar, IsScriptSoFar, IsNoScript}
+use Rattle.plain_machine.specs.Grammar.{Top, Run, Handler, AreTops, handlers_of, forms_of, names_of_form, registers, AllKeepLimits, longest_script}
+use Rattle.script_read.specs.GrammarSoFar.{is_word_so_far, IsCallSoFar, AreTopsSoFar, IsScriptSoFar, IsNoScript}
 use Rattle.script_read.specs.Reading.{skipped, behind, split_word, word_at, call_at, form_at, Reads, script_with}
 use Rattle.script_read.proofs.Fronts.{front_passes}
 use Rattle.script_read.proofs.Lexing.{skipped_blanks}
 use Rattle.script_read.proofs.Spelled.{AreSpelled, spelled_from_words, words_from_spelled}
-use Rattle.script_read.proofs.Soundness.{ReadForm, behind_is, form_read, names-append}
+use Rattle.script_read.proofs.Soundness.{behind_is, form_read, names-append}
 use Rattle.script_read.proofs.Binding.{bind_some}
-use Rattle.script_read.proofs.Completeness.{FoundTop, form_found}
+use Rattle.script_read.proofs.Completeness.{form_found}
 
 -- BLANKS ALONE
 all_skipped : (bytes : List ℕ) → list_all is_blank bytes ≡ true → skipped bytes ≡ []

@@ -1,6 +1,6 @@
 -- A form that is read is one of the grammar so far.
-use Rattle.std.proofs.Common.{◌≡◌, ℕ, ◌+◌, ◌<◌, ◌≤◌, List, [], ◌∷◌, ◌++◌, Bool, true, false, ◌&&◌, length, length-append, length-drop, arith, map, refl, sym, ap, ◌∙◌, subst, append_assoc, Some, None, ℤ, inl, inr}
-use Rattle.std.specs.Prelude.{Option, if◌then◌else◌, codes}
+use Rattle.std.proofs.Common.{◌≡◌, ℕ, ◌+◌, ◌<◌, ◌≤◌, List, [], ◌∷◌, ◌++◌, Bool, true, false, ◌&&◌, length, length-append, length-drop, arith, map, refl, sym, ap, ◌∙◌, append_assoc, Some, None, ℤ, inl, inr}
+use Rattle.std.specs.Prelude.{if◌then◌else◌, codes}
 use Rattle.std.specs.List.{list_all, prefix_len}
 use Rattle.std.specs.Str.{bytes_eq}
 use Rattle.std.proofs.lemmas.Slice.Eq.{bytes_eq-Decides}
@@ -8,7 +8,7 @@ use Rattle.std.proofs.lemmas.Bool.{and_from}
 use Rattle.std.proofs.lemmas.Option.{same_Some}
 use Rattle.std.proofs.lemmas.List.Folds.{list_all-append}
 use Rattle.text_model.specs.Characters.{Scalar}
-use Rattle.editor_model.specs.Values.{Value, Int, Str, Prim, Insert, GotoChar, DeleteRegion, Const, Do, Form}
+use Rattle.editor_model.specs.Values.{Value, Int, Prim, Insert, GotoChar, DeleteRegion, Do, Form}
 use Rattle.editor_model.specs.Prims.{word}
 use Rattle.plain_machine.specs.Natives.{takes}
 use Rattle.plain_machine.specs.Words.{Word, Plain, Named, is_blank, names, opening, closing, IsInt}
@@ -18,7 +18,7 @@ use Rattle.script_read.specs.GrammarSoFar.{call_on, IsCallSoFar, IsTopSoFar, is_
 use Rattle.script_read.specs.Reading.{◌>>=◌, skipped, word_length, word_at, behind, inside_of, number_of, string_at, number_at, text_of, closed, insert_at, goto_at, delete_at, call_at, form_at}
 use Rattle.script_read.proofs.Binding.{bind_some, bind_beside}
 use Rattle.script_read.proofs.Spelled.{AreSpelled, read_is_first}
-use Rattle.script_read.proofs.Lexing.{Stands, word_stands}
+use Rattle.script_read.proofs.Lexing.{word_stands}
 use Rattle.script_read.proofs.Literals.{Quotes, quotes_from, string_from, quoted_so_far, number_from, number_so_far}
 
 -- A WORD

@@ -1,12 +1,11 @@
 -- Words with blanks between them, where no comment stands.
-use Rattle.std.proofs.Common.{◌≡◌, ℕ, List, [], ◌∷◌, ◌++◌, Bool, true, false, ◌&&◌, refl, sym, ap, ◌∙◌, inl}
-use Rattle.std.specs.Prelude.{IsTrue}
+use Rattle.std.proofs.Common.{◌≡◌, ℕ, List, [], ◌∷◌, ◌++◌, true, inl}
 use Rattle.std.specs.List.{list_all}
 use Rattle.std.proofs.lemmas.Bool.{and_parts}
-use Rattle.plain_machine.specs.Words.{Word, Plain, Named, spelled, is_blank, IsBlanks, none, blank, EndsThere, AreWords}
+use Rattle.plain_machine.specs.Words.{Word, Plain, spelled, is_blank, IsBlanks, none, blank, EndsThere, AreWords}
 use Rattle.script_read.specs.GrammarSoFar.{HasNoComment}
 use Rattle.script_read.specs.Reading.{word_at}
-use Rattle.script_read.proofs.Lexing.{Lexeme, Stands, word_there, word_stands}
+use Rattle.script_read.proofs.Lexing.{Lexeme, word_there, word_stands}
 
 -- the bytes are these words, with blanks round them and no comment
 abbrev pub AreSpelled : List Word → List ℕ → Type 0

@@ -3,7 +3,7 @@ use Rattle.std.specs.Prelude.{◌≡◌, ℕ, ◌+◌, ◌-◌, List, [], ◌∷
 use Rattle.std.specs.List.{prefix_len}
 use Rattle.std.specs.Str.{bytes_eq}
 use Rattle.text_model.specs.Characters.{Scalar}
-use Rattle.editor_model.specs.Values.{Prim, Insert, GotoChar, DeleteRegion, Value, Int, Str, plain, Form, Forms, Do, NoForms, Then, Script}
+use Rattle.editor_model.specs.Values.{Prim, Insert, GotoChar, DeleteRegion, Value, Int, plain, Form, Forms, Do, NoForms, Then, Script}
 use Rattle.plain_machine.specs.Symbols.{first_symbols}
 use Rattle.plain_machine.specs.Words.{is_blank, is_word_byte, begins_with, are_digits, digits_value}
 use Rattle.script_read.specs.GrammarSoFar.{call_on}

@@ -1,4 +1,4 @@
-use Rattle.std.proofs.Common.{◌≡◌, ◌<◌, ◌≤◌, ◌+◌, ◌*◌, ◌^◌, arith, rules, ap, ◌∙◌, sym, drop}
+use Rattle.std.proofs.Common.{arith, ◌∙◌, sym}
 use Rattle.std.proofs.lemmas.List.{at_drop_more, at_drop_all}
 use Rattle.plain_machine.specs.Words.{digits_value}
 use Rattle.script_read.proofs.Digits.{below_18_digits, one_more_digit, digit_at}

@@ -1,10 +1,10 @@
-use Rattle.std.proofs.Common.{◌≡◌, ◌∷◌, [], ◌++◌, map, sym, ap, ◌∙◌}
+use Rattle.std.proofs.Common.{◌∷◌, [], map, sym}
 use Rattle.std.proofs.lemmas.Bool.{both_ways}
 use Rattle.std.proofs.lemmas.List.{map-append}
 use Rattle.ek_types.specs.Listing.{items_of}
 use Rattle.ek_call.specs.Meaning.{form_of}
 use Rattle.script_read.proofs.Soundness.{form_read}
-use Rattle.script_read.proofs.Progress.{ReadSoFar, one_more, all_read, none_read}
+use Rattle.script_read.proofs.Progress.{one_more, all_read, none_read}
 use Rattle.script_read.proofs.reader.forms.Goals as goal
 
 pub returns-in_default-clause-none : goal.returns-in_default-clause-none

@@ -1,9 +1,6 @@
-use Rattle.std.proofs.Common.{◌≡◌, ℕ, List, map, ap}
-use Rattle.std.specs.Prelude.{IfNone}
-use Rattle.editor_model.specs.Values.{Forms}
+use Rattle.std.proofs.Common.{map, ap, arith}
 use Rattle.ek_types.specs.Listing.{items_of}
 use Rattle.ek_call.specs.Meaning.{form_of, joined, handler_of, script_of}
-use Rattle.script_read.specs.Reading.{Reads}
 use Rattle.script_read.proofs.Scripts.{whole_script, one_script, no_script}
 use Rattle.script_read.proofs.reader.read.Goals as goal
 
@@ -17,7 +14,7 @@ pub returns-clause-script : goal.returns-clause-script
 returns-clause-script c =
     let reads = rw c.in-Some.is at c.in_ok-forms.ensures.some in
     whole_script c.args.bytes.now c.in_ok-symbols.symbols (map handler_of (items_of c.new-2.result)) (joined (map form_of (items_of c.in-Some.forms)))
-    c.if-bytes-gt-LONGEST_SCRIPT.false c.in_ok-symbols.ensures (ap (map handler_of) c.new-2.ensures) reads
+    (omega arith) c.in_ok-symbols.ensures (ap (map handler_of) c.new-2.ensures) reads
 
 pub returns-clause-found : goal.returns-clause-found
 returns-clause-found c meant s = one_script c.args.bytes.now (script_of (record { symbols = c.in_ok-symbols.symbols; handlers = c.new-2.result; forms = c.in-Some.forms })) meant (returns-clause-script c) s
