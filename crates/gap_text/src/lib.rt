@@ -3,6 +3,8 @@
 
 mod growth;
 mod row;
+#[cfg(test)]
+mod tests;
 mod text;
 
 pub use text::Text;

@@ -156,7 +156,9 @@ impl Text {
         ensures room { OnOk result (n ≤ self.new.spare) }
         ensures kept { self.old.spare ≤ self.new.spare }
 
-        ensures enough { n ≤ self.old.spare → (self.new ≡ self.old) × (pool.new ≡ pool.old) × IsOk result }
+        ensures enough { n ≤ self.old.spare → IsOk result }
+        ensures text_with_enough { n ≤ self.old.spare → self.new ≡ self.old }
+        ensures pool_with_enough { n ≤ self.old.spare → pool.new ≡ pool.old }
         ensures refused { OnErr result (self.new ≡ self.old) }
         ensures pool_after_refusal { OnErr result (pool.new.slots ≡ pool.old.slots) }
 
