@@ -1,0 +1,115 @@
+#!/bin/sh
+# How the time of insertions grows with their number: at a place that moves along, at one that wanders by up to 20, and
+# at random places. A text of a gap takes the distance between two insertions, so twice as many take twice as long at
+# the first two, and four times as long at random places. The same is done by `emacs -Q --batch` where it is installed.
+#
+#     bench/gap_text.sh [COUNT ..]        (200000 and 400000 if none is given)
+set -eu
+
+top=$(cd "$(dirname "$0")/.." && pwd)
+counts=${*:-200000 400000}
+work=$(mktemp -d "${TMPDIR:-/tmp}/gap_text_bench.XXXXXX")
+trap 'rm -rf "$work"' EXIT
+
+mkdir -p "$work/crates/bench_texts/src"
+for crate in text_model ek_types text_pool gap_text; do
+    mkdir "$work/crates/$crate"
+    for part in src specs proofs; do
+        if [ -d "$top/crates/$crate/$part" ]; then
+            cp -R "$top/crates/$crate/$part" "$work/crates/$crate/"
+        fi
+    done
+    grep "^$crate:" "$top/crates.txt" >> "$work/crates.txt"
+done
+echo 'bench_texts: ek_types text_pool gap_text' >> "$work/crates.txt"
+
+cat > "$work/crates/bench_texts/src/main.rt" <<'PROGRAM'
+//! Insertions into a text, one character at a time.
+#![tactic(auto)]
+
+use ek_types::{Ch, Chars};
+use gap_text::Text;
+use std::{env, io};
+use std::time::Instant;
+use text_pool::Pool;
+
+#[derive(Clone, Copy)]
+enum Way {
+    Along,
+    Wandering,
+    Random,
+}
+
+fn next(seed: u64) -> u64 {
+    seed.wrapping_mul(6364136223846793005).wrapping_add(1442695040888963407)
+}
+
+fn insertions(rt: &HostRuntime, way: Way, count: usize) -> io::Result<()> {
+    let mut pool = Pool::new(rt.alloc());
+    let mut text = Text::new(rt.alloc());
+    let mut one = Chars::new(rt.alloc());
+    if one.push(Ch::Scalar('x')).is_err() {
+        text.release(&mut pool);
+        return Ok(());
+    }
+    let mut seed = 1;
+    let mut place = 0;
+    let start = Instant::now(rt);
+    for len in 0..count {
+        seed = next(seed);
+        let chance = (seed >> 33) as usize;
+        place = match way {
+            Way::Along => len,
+            Way::Wandering => (place + chance % 41).saturating_sub(20).min(len),
+            Way::Random => chance % (len + 1),
+        };
+        if text.reserve(&mut pool, 1).is_err() {
+            break;
+        }
+        text.insert(&mut pool, place, &one);
+    }
+    let name = match way {
+        Way::Along => "along",
+        Way::Wandering => "wandering",
+        Way::Random => "random",
+    };
+    let blocks = pool.live();
+    text.release(&mut pool);
+    let time = start?.elapsed(rt)?.as_millis();
+    println!(rt; "gap_text {name} {count}: {time} ms, {blocks} blocks")
+}
+
+fn main(rt: HostRuntime) -> io::Result<()> {
+    for word in env::args(&rt)? {
+        if let Ok(count) = word.parse::<usize>() {
+            insertions(&rt, Way::Along, count)?;
+            insertions(&rt, Way::Wandering, count)?;
+            insertions(&rt, Way::Random, count)?;
+        }
+    }
+    Ok(())
+}
+PROGRAM
+
+(cd "$work/crates/bench_texts" && rt try --seconds 3600 -- $counts)
+
+if command -v emacs > /dev/null; then
+    for way in along wandering random; do
+        for count in $counts; do
+            emacs -Q --batch --eval "
+(with-temp-buffer
+  (buffer-disable-undo)
+  (random \"1\")
+  (let ((place 0) (start (float-time)))
+    (dotimes (len $count)
+      (setq place (cond ((string= \"$way\" \"along\") len)
+                        ((string= \"$way\" \"random\") (random (1+ len)))
+                        (t (max 0 (min len (+ place (- (random 41) 20)))))))
+      (goto-char (1+ place))
+      (insert \"x\"))
+    (princ (format \"emacs $way $count: %d ms\\n\" (* 1000 (- (float-time) start))))))"
+        done
+    done
+else
+    echo "emacs is not installed here"
+fi

@@ -1,0 +1,113 @@
+-- The cells of a list of blocks as one row.
+use Rattle.std.proofs.Common.{◌/◌, ◌%◌, ⊎_elim, ◌≡◌, ◌≢◌, ℕ, zero, suc, ◌+◌, ◌-◌, ◌*◌, ◌<◌, List, [], ◌∷◌, ◌++◌, length, get_or, set, flat_map, refl, sym, ap, ◌∙◌, subst, arith, unwrap_or, IsSomeAnd, Option, Some, None}
+use Rattle.std.proofs.lemmas.List.{length-append, get_or_append_left, get_or-append_right, set-append_left, set-append_right}
+use Rattle.text_pool.specs.Pool.{Pooled, cells_at, cells, IsLive, live, SameOthers}
+use Rattle.std.proofs.lemmas.Bool.{cases_eq}
+use Rattle.gap_text.specs.Blocks.{cells_of, Absent, Distinct, AllLive, SameOutside, Apart}
+
+length_found : (o : Option (List ℕ)) → IsSomeAnd o (λ found. length found ≡ 256) → length (unwrap_or o []) ≡ 256
+length_found None h = absurd h
+length_found (Some found) h = h
+
+pub length_live : (pool : Pooled) (block : ℕ) → IsLive pool block → length (cells pool block) ≡ 256
+length_live pool block h = length_found (cells_at pool block) h
+
+pub live_at : (pool : Pooled) (blocks : List ℕ) (q d : ℕ) → AllLive pool blocks → q < length blocks → IsLive pool (get_or blocks q d)
+live_at pool [] q d h l = absurd (omega arith)
+live_at pool (block ∷ blocks) zero d h l = h.0
+live_at pool (block ∷ blocks) (suc q) d h l = live_at pool blocks q d h.1 (omega arith)
+
+pub length_row : (pool : Pooled) (blocks : List ℕ) → AllLive pool blocks → length (cells_of pool blocks) ≡ 256 * length blocks
+length_row pool [] h = refl
+length_row pool (block ∷ blocks) h =
+    omega (arith, length-append (cells pool block) (cells_of pool blocks), length_live pool block h.0, length_row pool blocks h.1)
+
+-- the cell at a place is one of the block that has this place
+pub get_or-row : (pool : Pooled) (blocks : List ℕ) (q r place d : ℕ) → AllLive pool blocks → q < length blocks → r < 256 → place ≡ 256 * q + r
+    → get_or (cells_of pool blocks) place 0 ≡ get_or (cells pool (get_or blocks q d)) r 0
+get_or-row pool [] q r place d h l k e = absurd (omega arith)
+get_or-row pool (block ∷ blocks) zero r place d h l k e =
+    let same : place ≡ r = omega arith in
+    let full : length (cells pool block) ≡ 256 = length_live pool block h.0 in
+    rw same (get_or_append_left (cells pool block) (cells_of pool blocks) 0 r (omega arith))
+get_or-row pool (block ∷ blocks) (suc q) r place d h l k e =
+    let full : length (cells pool block) ≡ 256 = length_live pool block h.0 in
+    get_or-append_right (cells pool block) (cells_of pool blocks) 256 place 0 full (omega arith)
+    ∙ get_or-row pool blocks q r (place - 256) d h.1 (omega arith) k (omega arith)
+
+pub absent_at : (number : ℕ) (blocks : List ℕ) (q d : ℕ) → Absent number blocks → q < length blocks → number ≢ get_or blocks q d
+absent_at number [] q d a l = absurd (omega arith)
+absent_at number (block ∷ blocks) zero d a l = a.0
+absent_at number (block ∷ blocks) (suc q) d a l = absent_at number blocks q d a.1 (omega arith)
+
+-- a function of blocks that are apart from the changed ones
+pub flat_map_same : (f g : ℕ → List ℕ) (blocks : List ℕ) (number : ℕ) → Absent number blocks → ((other : ℕ) → other ≢ number → g other ≡ f other) → flat_map g blocks ≡ flat_map f blocks
+flat_map_same f g [] number a same = refl
+flat_map_same f g (block ∷ blocks) number a same =
+    rw (same block (λ e. a.0 (sym e)), flat_map_same f g blocks number a.1 same) refl
+
+-- a cell of one block is set in the row
+pub set-row : (f g : ℕ → List ℕ) (blocks : List ℕ) (q r place d value : ℕ) → Distinct blocks → q < length blocks → r < 256 → place ≡ 256 * q + r
+    → ((k : ℕ) → k < length blocks → length (f (get_or blocks k d)) ≡ 256)
+    → g (get_or blocks q d) ≡ set (f (get_or blocks q d)) r value → ((other : ℕ) → other ≢ get_or blocks q d → g other ≡ f other)
+    → flat_map g blocks ≡ set (flat_map f blocks) place value
+set-row f g [] q r place d value n l k e full here same = absurd (omega arith)
+set-row f g (block ∷ blocks) zero r place d value n l k e full here same =
+    let at : place ≡ r = omega arith in
+    let whole : length (f block) ≡ 256 = full 0 (omega arith) in
+    let left : set (f block ++ flat_map f blocks) r value ≡ set (f block) r value ++ flat_map f blocks = set-append_left (f block) (flat_map f blocks) r value (omega arith) in
+    rw (at, left, here, flat_map_same f g blocks block n.0 same) refl
+set-row f g (block ∷ blocks) (suc q) r place d value n l k e full here same =
+    let whole : length (f block) ≡ 256 = full 0 (omega arith) in
+    let right : set (f block ++ flat_map f blocks) place value ≡ f block ++ set (flat_map f blocks) (place - 256) value = set-append_right (f block) (flat_map f blocks) 256 place value whole (omega arith) in
+    let rest : flat_map g blocks ≡ set (flat_map f blocks) (place - 256) value =
+    set-row f g blocks q r (place - 256) d value n.1 (omega arith) k (omega arith) (λ j h. full (suc j) (omega arith)) here same in
+    rw (same block (absent_at block blocks q d n.0 (omega arith)), right, rest) refl
+
+-- blocks that don't change have the same cells
+pub same_cells : (old new : Pooled) (blocks changed : List ℕ) → SameOutside changed old new → Apart blocks changed → cells_of new blocks ≡ cells_of old blocks
+same_cells old new [] changed s a = refl
+same_cells old new (block ∷ blocks) changed s a =
+    rw (s block a.0, same_cells old new blocks changed s a.1) refl
+
+-- THE BLOCK THAT HAS A PLACE
+pub record Holds (blocks : List ℕ) (place block : ℕ) : Type 0 where
+  pub is : block ≡ get_or blocks (place / 256) block
+  pub range : place < 256 * length blocks
+
+pub block_live : (pool : Pooled) (blocks : List ℕ) (place block : ℕ) → Holds blocks place block → AllLive pool blocks → IsLive pool block
+block_live pool blocks place block h live =
+    let range : place < 256 * length blocks = h.range in
+    subst (IsLive pool) (sym h.is) (live_at pool blocks (place / 256) block live (omega arith))
+
+pub read_row : (pool : Pooled) (blocks : List ℕ) (place block : ℕ) → Holds blocks place block → AllLive pool blocks
+    → get_or (cells_of pool blocks) place 0 ≡ get_or (cells pool block) (place % 256) 0
+read_row pool blocks place block h live =
+    let range : place < 256 * length blocks = h.range in
+    get_or-row pool blocks (place / 256) (place % 256) place block live (omega arith) (omega arith) (omega arith)
+    ∙ ap (λ b. get_or (cells pool b) (place % 256) 0) (sym h.is)
+
+pub absent_differs : (blocks : List ℕ) (place block number : ℕ) → Holds blocks place block → Absent number blocks → number ≢ block
+absent_differs blocks place block number h a e =
+    let range : place < 256 * length blocks = h.range in
+    absent_at number blocks (place / 256) block a (omega arith) (e ∙ h.is)
+
+same_full : (pool : Pooled) (blocks : List ℕ) (d k : ℕ) → AllLive pool blocks → k < length blocks → length (cells pool (get_or blocks k d)) ≡ 256
+same_full pool blocks d k live l = length_live pool (get_or blocks k d) (live_at pool blocks k d live l)
+
+pub write_row : (old new : Pooled) (blocks : List ℕ) (place block value : ℕ) → Holds blocks place block → AllLive old blocks → Distinct blocks
+    → cells new block ≡ set (cells old block) (place % 256) value → SameOthers old new block
+    → cells_of new blocks ≡ set (cells_of old blocks) place value
+write_row old new blocks place block value h live distinct here same =
+    let range : place < 256 * length blocks = h.range in
+    set-row (cells old) (cells new) blocks (place / 256) (place % 256) place block value distinct (omega arith) (omega arith) (omega arith)
+    (λ k l. same_full old blocks block k live l)
+    (subst (λ b. cells new b ≡ set (cells old b) (place % 256) value) h.is here)
+    (λ other ne. ap (λ o. unwrap_or o []) (same other (λ e. ne (e ∙ h.is))))
+
+pub live_after : (old new : Pooled) (blocks : List ℕ) (block : ℕ) → IsLive new block → SameOthers old new block → AllLive old blocks → AllLive new blocks
+live_after old new [] block here same live = tt
+live_after old new (b ∷ blocks) block here same live = (
+  ⊎_elim (λ e. subst (IsLive new) (sym e) here) (λ ne. rw (same b ne) live.0) (cases_eq b block),
+  live_after old new blocks block here same live.1,
+)

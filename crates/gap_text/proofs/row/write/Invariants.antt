@@ -1,0 +1,5 @@
+use Rattle.gap_text.proofs.Moves.{Writing}
+use Rattle.gap_text.proofs.row.write.Given as goal
+
+abbrev pub invariant-loop-i : goal.invariant-loop-i
+invariant-loop-i l = Writing l.blocks l.fn.pool l.pool l.place l.text.items l.i

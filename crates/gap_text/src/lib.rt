@@ -1,0 +1,10 @@
+//! Texts in blocks of a pool, with a gap among their cells.
+#![tactic(auto)]
+
+mod growth;
+mod row;
+#[cfg(test)]
+mod tests;
+mod text;
+
+pub use text::Text;

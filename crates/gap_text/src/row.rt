@@ -1,0 +1,92 @@
+//! The cells of a list of blocks as one row, counted from 0, and the gap in it.
+ghost use Rattle.std.specs.Prelude.{◌≡◌, ℕ, ◌+◌, ◌*◌, ◌<◌, ◌≤◌, ◌++◌, length, take, drop, map, slice_index, slice_set};
+ghost use Rattle.text_model.specs.Characters.{code};
+ghost use Rattle.ek_types.specs.Seen.{AreCharacters};
+ghost use Rattle.gap_text.specs.Blocks.{cells_of, IsRow, AllLive, ChangesCellsOf};
+ghost use Rattle.gap_text.specs.Text.{without_gap};
+
+use ek_types::Chars;
+use text_pool::{Block, CELLS, Pool};
+
+/// What the cell at a place holds.
+pub(crate) fn cell_at(blocks: &[Block], pool: &Pool, place: usize) -> u32
+    requires live { AllLive pool.now blocks.now }
+    requires range { place < 256 * length blocks.now }
+    ensures { result ≡ slice_index (cells_of pool.now blocks.now) place }
+{
+    pool.cell(&blocks[place / CELLS], place % CELLS)
+}
+
+/// Sets the cell at a place, and no other.
+pub(crate) fn set_cell_at(blocks: &[Block], pool: &mut Pool, place: usize, value: u32)
+    requires row { IsRow pool.old blocks.now }
+    requires range { place < 256 * length blocks.now }
+    ensures cells { cells_of pool.new blocks.now ≡ slice_set (cells_of pool.old blocks.now) place value }
+    ensures row { IsRow pool.new blocks.now }
+    ensures pool { ChangesCellsOf blocks.now pool.old pool.new }
+{
+    pool.set_cell(&blocks[place / CELLS], place % CELLS, value);
+}
+
+/// Moves a gap of `spare` cells from the place `gap` to the place `to`, on its left. Each cell between goes behind it.
+fn move_left(blocks: &[Block], pool: &mut Pool, gap: usize, spare: usize, to: usize)
+    requires row { IsRow pool.old blocks.now }
+    requires left { to ≤ gap }
+    requires fits { gap + spare ≤ 256 * length blocks.now }
+    ensures kept { without_gap to spare (cells_of pool.new blocks.now) ≡ without_gap gap spare (cells_of pool.old blocks.now) }
+    ensures row { IsRow pool.new blocks.now }
+    ensures pool { ChangesCellsOf blocks.now pool.old pool.new }
+{
+    let mut place = gap;
+    while place > to {
+        place -= 1;
+        let value = cell_at(blocks, pool, place);
+        set_cell_at(blocks, pool, place + spare, value);
+    }
+}
+
+/// Moves a gap of `spare` cells from the place `gap` to the place `to`, on its right. Each cell between goes before it.
+fn move_right(blocks: &[Block], pool: &mut Pool, gap: usize, spare: usize, to: usize)
+    requires row { IsRow pool.old blocks.now }
+    requires right { gap ≤ to }
+    requires fits { to + spare ≤ 256 * length blocks.now }
+    ensures kept { without_gap to spare (cells_of pool.new blocks.now) ≡ without_gap gap spare (cells_of pool.old blocks.now) }
+    ensures row { IsRow pool.new blocks.now }
+    ensures pool { ChangesCellsOf blocks.now pool.old pool.new }
+{
+    for place in gap..to {
+        let value = cell_at(blocks, pool, place + spare);
+        set_cell_at(blocks, pool, place, value);
+    }
+}
+
+/// Moves a gap of `spare` cells from the place `gap` to the place `to`, by as many cells as lie between.
+pub(crate) fn move_gap(blocks: &[Block], pool: &mut Pool, gap: usize, spare: usize, to: usize)
+    requires row { IsRow pool.old blocks.now }
+    requires from_fits { gap + spare ≤ 256 * length blocks.now }
+    requires to_fits { to + spare ≤ 256 * length blocks.now }
+    ensures kept { without_gap to spare (cells_of pool.new blocks.now) ≡ without_gap gap spare (cells_of pool.old blocks.now) }
+    ensures row { IsRow pool.new blocks.now }
+    ensures pool { ChangesCellsOf blocks.now pool.old pool.new }
+{
+    if to < gap {
+        move_left(blocks, pool, gap, spare, to)
+    } else {
+        move_right(blocks, pool, gap, spare, to)
+    }
+}
+
+/// Writes the codes of a text to the cells from `place` on.
+pub(crate) fn write(blocks: &[Block], pool: &mut Pool, place: usize, text: &Chars)
+    requires row { IsRow pool.old blocks.now }
+    requires fits { place + length text.now.items ≤ 256 * length blocks.now }
+    ensures written { take (place + length text.now.items) (cells_of pool.new blocks.now) ≡ take place (cells_of pool.old blocks.now) ++ map code text.now.items }
+    ensures behind { (k : ℕ) → place + length text.now.items ≤ k → drop k (cells_of pool.new blocks.now) ≡ drop k (cells_of pool.old blocks.now) }
+    ensures characters { AreCharacters text.now.items }
+    ensures row { IsRow pool.new blocks.now }
+    ensures pool { ChangesCellsOf blocks.now pool.old pool.new }
+{
+    for i in 0..text.len() {
+        set_cell_at(blocks, pool, place + i, text.at(i).code());
+    }
+}

@@ -1,0 +1,199 @@
+//! The pool, and the blocks that it lends out.
+ghost use Rattle.std.specs.Prelude.{◌≡◌, ◌≢◌, ◌↔◌, ℕ, ◌+◌, ◌<◌, [], length, max, Some, None, OnOk, OnErr, IsOk, IsNone, IfNone, IfSome, OnSome, option_map, slice_index, slice_set};
+ghost use Rattle.slab.specs.Slab.{HasRoomFor};
+ghost use Rattle.text_pool.specs.Pool.{Pooled, cells_at, cells, IsLive, live, SameOthers};
+
+use slab::Slab;
+use std::alloc::Global;
+use std::marker::Model;
+
+/// How many cells a block has.
+pub const CELLS: usize = 256;
+
+/// Memory was wanting in the pool, which stays as it was.
+#[derive(Clone, Copy, Debug, PartialEq, Eq)]
+pub struct PoolMemory;
+
+/// A block of a pool, seen as its number. It can't be dropped: it has to be given back.
+pub struct Block {
+    number: usize,
+}
+
+impl Model for Block {
+    ghost Value = { ℕ };
+
+    ghost view = { λ block. block.number };
+}
+
+/// Blocks of 256 cells under numbers that the pool picks, and a spare: how many more can be taken with no memory.
+#[derive(Drop)]
+pub struct Pool {
+    blocks: Slab<[u32; CELLS]>,
+    // The slab may have room for more.
+    spare: usize,
+}
+
+impl Model for Pool {
+    ghost Value = { Pooled };
+
+    ghost view = { λ pool. record { slots = pool.blocks.slots; spare = pool.spare } };
+
+    ghost invariant = { λ pool. HasRoomFor pool.blocks pool.spare };
+}
+
+impl Pool {
+    /// A pool with no block and no spare, which takes no memory yet.
+    pub fn new(alloc: Global) -> Pool
+        ensures empty { result.slots ≡ [] }
+        ensures spare { result.spare ≡ 0 }
+    {
+        Pool {
+            blocks: Slab::new(alloc),
+            spare: 0,
+        }
+    }
+
+    /// Makes the spare at least `blocks`. A refusal leaves the pool as it was.
+    pub fn reserve(&mut self, blocks: usize) -> Result<(), PoolMemory>
+        ensures slots { self.new.slots ≡ self.old.slots }
+        ensures ok { OnOk result (self.new.spare ≡ max self.old.spare blocks) }
+        ensures err { OnErr result (self.new ≡ self.old) }
+        ensures err_only_where_needed { OnErr result (self.old.spare < blocks) }
+    {
+        if blocks <= self.spare {
+            return Ok(());
+        }
+        match self.blocks.reserve(blocks) {
+            Ok(()) => {
+                self.spare = blocks;
+                Ok(())
+            }
+            Err(_) => Err(PoolMemory),
+        }
+    }
+
+    /// A block that nobody else has, where the spare isn't 0. What its cells hold is left open.
+    pub fn take(&mut self) -> Option<Block>
+        ensures none { IsNone result ↔ (self.old.spare ≡ 0) }
+        ensures unchanged { IfNone result (self.new ≡ self.old) }
+
+        ensures was_not_live { IfSome result (λ block. cells_at self.old block ≡ None) }
+        ensures is_live { IfSome result (λ block. IsLive self.new block) }
+        ensures others { IfSome result (λ block. SameOthers self.old self.new block) }
+        ensures spare { OnSome result (self.new.spare + 1 ≡ self.old.spare) }
+        ensures count { OnSome result (live self.new ≡ live self.old + 1) }
+    {
+        if self.spare == 0 {
+            return None;
+        }
+        self.spare -= 1;
+        let number = self.blocks.insert_reserved([0; CELLS]);
+        Some(Block { number })
+    }
+
+    /// Takes a block back.
+    pub fn give(&mut self, block: Block)
+        requires { IsLive self.old block }
+        ensures gone { cells_at self.new block ≡ None }
+        ensures others { SameOthers self.old self.new block }
+        ensures spare { self.new.spare ≡ self.old.spare + 1 }
+        ensures count { live self.new + 1 ≡ live self.old }
+    {
+        let Block { number } = block;
+        let _cells = self.blocks.remove(number);
+        let capacity = self.blocks.capacity();
+        prove!(self.spare < capacity);
+        self.spare += 1;
+    }
+
+    /// How many blocks `take` can give before it answers `None`.
+    pub fn spare(&self) -> usize
+        ensures { result ≡ self.now.spare }
+    {
+        self.spare
+    }
+
+    /// How many blocks were taken and not given back.
+    pub fn live(&self) -> usize
+        ensures { result ≡ live self.now }
+    {
+        self.blocks.len()
+    }
+
+    /// What was last set in cell `i` of the block, counted from 0.
+    pub fn cell(&self, block: &Block, i: usize) -> u32
+        requires live { IsLive self.now block.now }
+        requires range { i < 256 }
+        ensures { result ≡ slice_index (cells self.now block.now) i }
+    {
+        self.blocks[block.number][i]
+    }
+
+    /// Sets cell `i` of the block, counted from 0, and no other cell.
+    pub fn set_cell(&mut self, block: &Block, i: usize, value: u32)
+        requires live { IsLive self.old block.now }
+        requires range { i < 256 }
+        ensures cell { cells self.new block.now ≡ slice_set (cells self.old block.now) i value }
+        ensures is_live { IsLive self.new block.now }
+        ensures others { SameOthers self.old self.new block.now }
+        ensures spare { self.new.spare ≡ self.old.spare }
+        ensures count { live self.new ≡ live self.old }
+    {
+        let cells = self.blocks.get_mut(block.number).unwrap();
+        cells[i] = value;
+    }
+}
+
+#[cfg(test)]
+mod tests {
+    use super::*;
+    use std::test::Fail;
+
+    #[test]
+    fn two_reserved_blocks_are_taken_and_one_is_given_back(rt: HostRuntime) -> Result<(), Fail> {
+        let mut pool = Pool::new(rt.alloc());
+        pool.reserve(2)?;
+        let Some(first) = pool.take() else {
+            return Err(Fail::from("no first block"));
+        };
+        let Some(second) = pool.take() else {
+            pool.give(first);
+            return Err(Fail::from("no second block"));
+        };
+        if let Some(third) = pool.take() {
+            pool.give(third);
+            assert!(rt; false, "a third block");
+        }
+        pool.give(second);
+        assert_eq!(rt; pool.spare(), 1);
+        assert_eq!(rt; pool.live(), 1);
+        pool.give(first);
+        assert_eq!(rt; pool.spare(), 2);
+        assert_eq!(rt; pool.live(), 0);
+        Ok(())
+    }
+
+    #[test]
+    fn each_block_keeps_its_cells(rt: HostRuntime) -> Result<(), Fail> {
+        let mut pool = Pool::new(rt.alloc());
+        pool.reserve(2)?;
+        let Some(first) = pool.take() else {
+            return Err(Fail::from("no first block"));
+        };
+        let Some(second) = pool.take() else {
+            pool.give(first);
+            return Err(Fail::from("no second block"));
+        };
+        pool.set_cell(&first, 0, 10);
+        pool.set_cell(&first, 255, 11);
+        pool.set_cell(&second, 0, 20);
+        pool.set_cell(&second, 255, u32::MAX);
+        assert_eq!(rt; pool.cell(&first, 0), 10);
+        assert_eq!(rt; pool.cell(&first, 255), 11);
+        pool.give(first);
+        assert_eq!(rt; pool.cell(&second, 0), 20);
+        assert_eq!(rt; pool.cell(&second, 255), u32::MAX);
+        pool.give(second);
+        Ok(())
+    }
+}
