@@ -28,3 +28,4 @@ pub mod Spent
 pub mod Working
 pub mod Stepping
 pub mod Returning
+pub mod Refusing

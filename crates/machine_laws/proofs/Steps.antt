@@ -382,7 +382,7 @@ fit_runs s w p x h e =
     λ o e h. and_left (runs x.status) _ (subst (λ o. (is_eligible_one w p o) ≡ true) e h) in
     k (process s p) e h
 
-first_fit : (s : State) (w : Waiting) (asking : List ℕ) (p : ℕ) (more : List ℕ) → from_eligible s w asking ≡ p ∷ more → is_eligible s w p ≡ true
+pub first_fit : (s : State) (w : Waiting) (asking : List ℕ) (p : ℕ) (more : List ℕ) → from_eligible s w asking ≡ p ∷ more → is_eligible s w p ≡ true
 first_fit s w [] p more e = cc
 first_fit s w (q ∷ asking) p more e = go (is_eligible s w q) (first_fit s w asking p more) refl e
   where

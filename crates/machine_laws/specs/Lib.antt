@@ -3,3 +3,4 @@ pub mod Fits
 pub mod GoodEditor
 pub mod Laws
 pub mod GoodConfig
+pub mod Refusals
