@@ -13,7 +13,8 @@ use Rattle.plain_machine.specs.Lines.{OfFilter}
 use Rattle.plain_machine.specs.Items.{Item, Finish, WriteDump, Said, Config, Next, Goes, Asks, Enter, Ended}
 use Rattle.plain_machine.specs.Step.{step}
 use Rattle.plain_machine.specs.Run.{start}
-use Rattle.machine_laws.specs.Laws.{entered, heard, to_kill, KillsLeft, EntriesOfChildren, RanEntries, BrokenEntries}
+use Rattle.machine_laws.specs.Entries.{entered, heard, EntriesOfChildren, RanEntries, BrokenEntries}
+use Rattle.machine_laws.specs.Children.{to_kill, KillsLeft}
 use Rattle.plain_machine.specs.WholeRuns.{IsBetweenEntries}
 use Rattle.plain_machine.proofs.Composed.{over_runs}
 use Rattle.machine_laws.proofs.Keeping.{Core, core, cores}

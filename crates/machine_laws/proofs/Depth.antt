@@ -24,7 +24,7 @@ use Rattle.plain_machine.specs.Handling.{mark_of_process, second, sentinel_words
 use Rattle.plain_machine.specs.Waits.{ask_process, asked_more, read_answer, end_answer, drain, is_room, entry_of, counts, more_characters, exit_text, target_is_eligible, from_eligible, eligible, delete, kill_answer, ends, kill_at_end, finish, wait, ask_if, ask_next, delete_one, delete_running, hear, kill_live, wait_case, finish_one, finish_running}
 use Rattle.plain_machine.specs.Step.{step, item_step}
 use Rattle.plain_machine.specs.Run.{Reaches, start}
-use Rattle.machine_laws.specs.Laws.{Shallow}
+use Rattle.machine_laws.specs.Nesting.{Shallow}
 use Rattle.plain_machine.proofs.Composed.{over_runs}
 use Rattle.machine_laws.proofs.Weights.{behind}
 use Rattle.machine_laws.proofs.Falling.{live_same, restored_same, assigned_same, change_same, left_same, passes, holds}

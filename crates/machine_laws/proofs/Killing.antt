@@ -8,7 +8,7 @@ use Rattle.plain_machine.specs.State.{Program}
 use Rattle.plain_machine.specs.Items.{Said, Config, Next, Goes, Asks}
 use Rattle.plain_machine.specs.Step.{step}
 use Rattle.plain_machine.specs.Run.{start}
-use Rattle.machine_laws.specs.Laws.{KillsOnce}
+use Rattle.machine_laws.specs.Children.{KillsOnce}
 use Rattle.plain_machine.proofs.Composed.{over_runs}
 use Rattle.machine_laws.proofs.Keeping.{Core, cores}
 use Rattle.machine_laws.proofs.Moves.{Coming, Phase, phase, coming, Moves, rests, enters, spawns, hears, drains, dies, closes, passes, kills, dumps}

@@ -29,7 +29,7 @@ use Rattle.plain_machine.specs.Forms.{commit_change, at_kept, saved_of, after_co
 use Rattle.plain_machine.specs.Calls.{change_call}
 use Rattle.plain_machine.specs.Run.{Reaches, start}
 use Rattle.machine_laws.specs.GoodConfig.{GoodConfig, Well}
-use Rattle.machine_laws.specs.Laws.{Commits, PassesQuietly, Undoes, UndoReturns}
+use Rattle.machine_laws.specs.UndoneRuns.{Commits, PassesQuietly, Undoes, UndoReturns}
 use Rattle.plain_machine.proofs.Composed.{over_runs}
 use Rattle.machine_laws.proofs.Stepping.{StepWell, AnswerWell, step_well}
 

@@ -25,7 +25,7 @@ use Rattle.plain_machine.specs.Handling.{mark_of_process, second, sentinel_words
 use Rattle.plain_machine.specs.Waits.{asked_more, drain, is_room, ask_process, read_answer, end_answer, target_is_eligible, from_eligible, eligible, delete, kill_answer, ends, kill_at_end, finish, wait, ask_if, ask_next, delete_one, delete_running, finish_one, finish_running, hear, kill_live, wait_case}
 use Rattle.plain_machine.specs.Step.{step, item_step}
 use Rattle.plain_machine.specs.Run.{start}
-use Rattle.machine_laws.specs.Laws.{is_kill, FewExchanges}
+use Rattle.machine_laws.specs.Children.{is_kill, FewExchanges}
 use Rattle.plain_machine.proofs.Composed.{over_runs}
 use Rattle.machine_laws.proofs.Falling.{passes, holds}
 

@@ -7,7 +7,7 @@ use Rattle.plain_machine.specs.State.{Program}
 use Rattle.plain_machine.specs.Items.{Item, Config, Next, Step, Goes, Asks, Ended}
 use Rattle.plain_machine.specs.Step.{step}
 use Rattle.plain_machine.specs.Run.{IsCut, same_ask, met, taken, run}
-use Rattle.machine_laws.specs.Laws.{RunStops}
+use Rattle.machine_laws.specs.OneRun.{RunStops}
 use Rattle.machine_laws.proofs.Keeping.{core, cores, Keeps, step_keeps}
 use Rattle.machine_laws.proofs.Weights.{Below, first, weight}
 use Rattle.machine_laws.proofs.Falling.{Falls, item_falls}

@@ -12,7 +12,7 @@ use Rattle.text_model.proofs.Decodings.{open_law}
 use Rattle.plain_machine.specs.Exchanges.{Ask, Read, AskEnd, Answer, Bytes, End, Failed, Exchange}
 use Rattle.plain_machine.specs.Lines.{OfFilter, OfSentinel, Event, Entered}
 use Rattle.plain_machine.specs.Items.{Said}
-use Rattle.machine_laws.specs.Laws.{entered_text, entered, read_bytes, read, is_end, output_ended, is_entry, has_entry}
+use Rattle.machine_laws.specs.Entries.{entered_text, entered, read_bytes, read, is_end, output_ended, is_entry, has_entry}
 use Rattle.plain_machine.specs.Waits.{more_characters}
 use Rattle.machine_laws.proofs.Keeping.{Core}
 use Rattle.machine_laws.proofs.Moves.{IsQuiet, Silent, Coming, Nobody, Output, Sentinel, output_of, IsIdle, Idle, IsNew, fresh, EntryOf, IsLast, Moves, rests, enters, spawns, hears, drains, dies, Phase, closes, passes, kills, dumps}

@@ -11,7 +11,11 @@ ghost use Rattle.plain_machine.specs.Items.{Config};
 ghost use Rattle.plain_machine.specs.Run.{start};
 ghost use Rattle.text_model.specs.Undo.{boundary_at};
 ghost use Rattle.machine_laws.specs.Good.{Good, Passes};
-ghost use Rattle.machine_laws.specs.Laws.{Entries, EntriesOfChildren, Sentinels, EndsAfterOutput, KillsLeft, KillsOnce, FewExchanges, Shallow, SameDeeper, RunStops, UndoReturns, RanEntries, BrokenEntries};
+ghost use Rattle.machine_laws.specs.OneRun.{RunStops};
+ghost use Rattle.machine_laws.specs.Entries.{Entries, EntriesOfChildren, Sentinels, EndsAfterOutput, RanEntries, BrokenEntries};
+ghost use Rattle.machine_laws.specs.Children.{KillsLeft, KillsOnce, FewExchanges};
+ghost use Rattle.machine_laws.specs.Nesting.{Shallow, SameDeeper};
+ghost use Rattle.machine_laws.specs.UndoneRuns.{UndoReturns};
 
 /// Recording an insertion keeps what rewinding to a boundary gives.
 #[tactic(auto, using(crate::proofs::Undoing::inserted_out_law))]
