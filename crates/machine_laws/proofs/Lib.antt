@@ -30,3 +30,4 @@ pub mod Returning
 pub mod Refusing
 pub mod OneRun
 pub mod Boundaries
+pub mod Ended

@@ -25,11 +25,14 @@ module _ (program : Program) (bound : ℕ) where
     behind = rw append_assoc (λ i. sym q i ++ g.behind i);
     way = g.way;
   })
-  further first second q more said others c d (inr (e, g)) = inr (e, record {
-    further = g.further;
-    behind = rw append_assoc (λ i. q i ++ g.behind i);
-    way = g.way;
-  })
+  further first second q more said others c d (inr (e, g)) = inr (
+    e,
+    record {
+      further = g.further;
+      behind = rw append_assoc (λ i. q i ++ g.behind i);
+      way = g.way;
+    },
+  )
 
   -- what is known of the runs from the next configuration
   abbrev Hypothesis : Config → (exchanges more : List Exchange) → (said : List Said) → Config → Type 0

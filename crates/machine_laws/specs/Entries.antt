@@ -1,13 +1,14 @@
 -- Entries: what the filters and sentinels of a process are entered with, in every run.
-use Rattle.std.specs.Prelude.{◌≡◌, ℕ, Bool, true, false, ◌==◌, List, [], ◌∷◌, ◌++◌, map, flat_map, slice_get, if◌then◌else◌, Some}
+use Rattle.std.specs.Prelude.{◌≡◌, ◌⊎◌, ℕ, Bool, true, false, ◌==◌, List, [], ◌∷◌, ◌++◌, map, flat_map, slice_get, if◌then◌else◌, Some}
 use Rattle.std.specs.List.{list_any}
 use Rattle.text_model.specs.Characters.{Ch}
 use Rattle.text_model.specs.Decoding.{characters, all_characters}
 use Rattle.editor_model.specs.Values.{Script}
-use Rattle.plain_machine.specs.Exchanges.{Ask, Read, AskEnd, Answer, Bytes, End, Exchange, children_started}
+use Rattle.plain_machine.specs.Exchanges.{Ask, Read, AskEnd, Kill, Answer, Bytes, End, Exchange, children_started}
 use Rattle.plain_machine.specs.State.{Process, Program, process}
 use Rattle.plain_machine.specs.Lines.{OfFilter, OfSentinel, Event, Entered}
 use Rattle.plain_machine.specs.Items.{Said, Config}
+use Rattle.plain_machine.specs.Arguments.{runs}
 use Rattle.plain_machine.specs.Handling.{second}
 use Rattle.plain_machine.specs.WholeRuns.{IsBetweenEntries, Ran, BrokenOff}
 use Rattle.plain_machine.specs.Run.{Reaches}
@@ -75,6 +76,21 @@ abbrev pub EndsAfterOutput : Program → ℕ → Config → Type 0
 EndsAfterOutput program bound from =
     (before after : List Exchange) (x : Exchange) (said : List Said) (c : Config) (child : ℕ) → Reaches program bound from (before ++ x ∷ after) said c → x.ask ≡ AskEnd child →
     output_ended child before ≡ true
+
+-- whether the child was asked to be killed
+abbrev pub asks_kill : (child : ℕ) → Ask → Bool
+asks_kill child (Kill c) = c == child
+asks_kill child _ = false
+
+abbrev pub killed : (child : ℕ) → List Exchange → Bool
+killed child exchanges = list_any (λ x. asks_kill child x.ask) exchanges
+
+-- A process whose sentinel was entered runs no more: its child was killed, or a read of it was answered by its end before.
+abbrev pub SentinelsAfterOutput : Program → ℕ → Config → Type 0
+SentinelsAfterOutput program bound from =
+    (exchanges : List Exchange) (said : List Said) (c : Config) → Reaches program bound from exchanges said c →
+    (p : ℕ) (x : Process) → process c.state p ≡ Some x → has_entry true p said ≡ true →
+    (runs x.status ≡ false) × ((killed x.child exchanges ≡ true) ⊎ (output_ended x.child exchanges ≡ true))
 
 -- WHOLE RUNS
 -- Of a whole run, and of one that was broken off: what the filters were entered with is what was read, decoded.
