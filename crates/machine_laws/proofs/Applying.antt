@@ -23,16 +23,7 @@ use Rattle.editor_model.specs.UndoCalls.{with_undo}
 use Rattle.editor_model.specs.Table.{apply}
 use Rattle.machine_laws.specs.GoodEditor.{GoodEditor, Steady}
 use Rattle.machine_laws.proofs.Advancing.{advances_self, marks_only, site_advances, site_shapes, with_buffer_advances, renamed_advances, buffer_live, size_of}
-
--- TESTS
-pub refuse_ok : (f : Fault) (ok : Bool) → refuse f ok ≡ None → ok ≡ true
-refuse_ok f true h = refl
-refuse_ok f false h = cc
-
--- where no test refuses, none of them does
-pub no_fault : (t : Test) (ts : List Test) → first_fault (t ∷ ts) ≡ None → (t ≡ None) × (first_fault ts ≡ None)
-no_fault None ts h = (refl, h)
-no_fault (Some f) ts h = cc
+use Rattle.machine_laws.proofs.Tests.{refuse_ok, no_fault}
 
 -- STEADY STEPS
 pub steady_self : (e : Editor) → GoodEditor e → Steady e e

@@ -31,3 +31,4 @@ pub mod Refusing
 pub mod OneRun
 pub mod Boundaries
 pub mod Ended
+pub mod Tests

@@ -24,7 +24,7 @@ module _ (program : Program) (bound : ℕ) where
 
   same_count : (c : Config) (x : Next) → step program bound c ≡ Goes x → length x.config.state.processes ≡ length c.state.processes
   same_count c x e =
-      let k : cores x.config.state ≡ cores c.state = subst (λ t. Keeps c.state t) e (step_keeps program bound c) in
+      let k : cores x.config.state ≡ cores c.state = ap (λ k. k.0) (subst (λ t. Keeps c.state t) e (step_keeps program bound c)) in
       sym (length-map x.config.state.processes core) ∙ (ap length k ∙ length-map c.state.processes core)
 
   -- each step that asks nothing makes it lighter
