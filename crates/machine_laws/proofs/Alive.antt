@@ -20,8 +20,9 @@ use Rattle.plain_machine.proofs.Composed.{over_runs}
 use Rattle.machine_laws.proofs.Keeping.{Core, core, cores}
 use Rattle.machine_laws.proofs.Moves.{Coming, Phase, Working, Killing, Over, phase, coming, IsNew, fresh, IsLast, Still, Ends, Starts, Moves, rests, enters, spawns, hears, drains, dies, closes, passes, kills, dumps}
 use Rattle.machine_laws.proofs.Steps.{Made, goes_moves, asks_moves}
-use Rattle.machine_laws.proofs.Traced.{same_is, is_same, other_is, or_right, or_nil, get_more, Stands, within, behind, stands, Traced, Placed, here, away, placed, still_new}
+use Rattle.machine_laws.proofs.Traced.{Stands, within, behind, stands, Traced, Placed, here, away, placed, still_new}
 use Rattle.machine_laws.proofs.Heard.{entries, Carried, carried_more, carried_asking, carried_start}
+use Rattle.machine_laws.proofs.Basics.{get_below, get_more, is_same, none_above, or_nil, or_right, other_is, same_is}
 
 -- up to which process the kills are made
 abbrev pub upto : Phase → List Core → ℕ
@@ -48,16 +49,6 @@ children_set : (cs : List Core) (p : ℕ) (x x' : Core) → slice_get cs p ≡ S
 children_set [] p x x' e h = refl
 children_set (c ∷ cs) zero x x' e h = let q : c ≡ x = cc in ap (λ k. k ∷ map child_in cs) (h ∙ ap child_in (sym q))
 children_set (c ∷ cs) (suc p) x x' e h = ap (λ l. c.child ∷ l) (children_set cs p x x' e h)
-
-get_length : (cs : List Core) (p : ℕ) (x : Core) → slice_get cs p ≡ Some x → p < length cs
-get_length [] p x e = cc
-get_length (c ∷ cs) zero x e = omega arith
-get_length (c ∷ cs) (suc p) x e = let h : p < length cs = get_length cs p x e in omega arith
-
-none_length : (cs : List Core) (p : ℕ) → slice_get cs p ≡ None → length cs ≤ p
-none_length [] p e = omega arith
-none_length (c ∷ cs) zero e = cc
-none_length (c ∷ cs) (suc p) e = let h : length cs ≤ p = none_length cs p e in omega arith
 
 -- NUMBERS
 pub not_below : (p : ℕ) → nat_lt p 0 ≡ false
@@ -199,8 +190,8 @@ moves_alive xs ys said more cs ds e f g h t a (passes p x _ b d n q k dead r s) 
     at q y l false m = ap (λ b. not y.live || b) (sym (next_same q p (λ j. let o : true ≡ false = sym (is_same q p j) ∙ m in cc)))
 moves_alive xs ys said more cs ds e f g h t a (kills p x _ b d i q k live u r s) = rw (d, s) (kill_alive xs ys said cs e p x t (rw r at a) k u)
 moves_alive xs ys said more cs ds e f g h t a (Moves.ends p _ b d n q k r s) = rw (d, s) (with_none xs ys cs Over n (phase_alive xs cs (Killing p) Over (rw r at a) (λ q y l.
-    let u : q < length cs = get_length cs q y l in
-    let v : length cs ≤ p = none_length cs p k in
+    let u : q < length cs = get_below cs q y l in
+    let v : length cs ≤ p = none_above cs p k in
     ap (λ b. not y.live || b) (is_below q p (omega arith) ∙ sym (is_below q (length cs) u)))))
 moves_alive xs ys said more cs ds e f g h t a (dumps _ b d n q r s) = rw (d, s) (with_none xs ys cs Over n (rw r at a))
 

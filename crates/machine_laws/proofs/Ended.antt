@@ -14,9 +14,10 @@ use Rattle.machine_laws.specs.Entries.{has_entry, output_ended, is_end, asks_kil
 use Rattle.machine_laws.proofs.Keeping.{core, cores}
 use Rattle.machine_laws.proofs.Moves.{coming, phase}
 use Rattle.machine_laws.proofs.Steps.{get_cores}
-use Rattle.machine_laws.proofs.Traced.{same_is, HoldsAt, to_end}
+use Rattle.machine_laws.proofs.Traced.{HoldsAt, to_end}
 use Rattle.machine_laws.proofs.Alive.{Alive, Lives, lives_more, lives_asking, lives_start, upto}
 use Rattle.machine_laws.proofs.Heard.{ends_after_output}
+use Rattle.machine_laws.proofs.Basics.{or_right, same_is}
 
 -- an exchange by which a child goes: its end, or its kill
 by_exchange : (child : ℕ) (ask : Ask) (answer : Answer) → goes_by child ask answer ≡ true → (asks_kill child ask ≡ true) ⊎ (ask ≡ AskEnd child)
@@ -44,11 +45,7 @@ gone_by child (x ∷ xs) h = go (goes_by child x.ask x.answer) refl h (gone_by c
     here (inr k) = inr (record { before = []; after = xs; exchange = x; all = refl; asks = k })
 
     later : (killed child xs ≡ true) ⊎ AskedIn child xs → (killed child (x ∷ xs) ≡ true) ⊎ AskedIn child (x ∷ xs)
-    later (inl k) = inl (or_true (asks_kill child x.ask) (killed child xs) k)
-      where
-        or_true : (a b : Bool) → b ≡ true → (a || b) ≡ true
-        or_true true b h = refl
-        or_true false b h = h
+    later (inl k) = inl (or_right (asks_kill child x.ask) (killed child xs) k)
     later (inr k) = inr (record { before = x ∷ k.before; after = k.after; exchange = k.exchange; all = ap (λ l. x ∷ l) k.all; asks = k.asks })
 
     go : (v : Bool) → goes_by child x.ask x.answer ≡ v → (v || gone child xs) ≡ true → (gone child xs ≡ true → (killed child xs ≡ true) ⊎ AskedIn child xs) → (killed child (x ∷ xs) ≡ true) ⊎ AskedIn child (x ∷ xs)

@@ -26,6 +26,7 @@ use Rattle.plain_machine.specs.Waits.{ask_process, target_is_eligible, from_elig
 use Rattle.plain_machine.specs.Step.{item_step}
 use Rattle.machine_laws.proofs.Weights.{Below, first, AtMost, both, at_most_same, at_most_trans, below_at_most, forms_weight, bodies_weight, call_weight, enter_weight, item_weight, behind, IsSteady, Steady, weight, total, under, calmer, lighter}
 use Rattle.machine_laws.proofs.Tests.{refuse_ok, no_fault}
+use Rattle.machine_laws.proofs.Basics.{and_right, get_below}
 
 -- INHIBITION, WHERE IT STAYS
 pub live_same : (s : State) (b : ℕ) (t : State) → t.inhibited ≡ s.inhibited → (if_live s b t).inhibited ≡ s.inhibited
@@ -56,11 +57,6 @@ pub left_same : (s : State) (c : ℕ) → (left_state s c).inhibited ≡ s.inhib
 left_same s c = live_same (record s { depth = s.depth - 1; scopes = drop 1 s.scopes }) c _ refl
 
 -- NUMBERS
-get_below : {A : Type 0} (xs : List A) (p : ℕ) (x : A) → slice_get xs p ≡ Some x → p < length xs
-get_below [] p x e = cc
-get_below (y ∷ xs) zero x e = omega arith
-get_below (y ∷ xs) (suc p) x e = let h : p < length xs = get_below xs p x e in omega arith
-
 running_few : (s : State) (b : ℕ) → length (running_in s b) ≤ length s.processes
 running_few s b =
     let test : ℕ × Process → Bool = λ x. runs x.1.status && stands_in b x.1 in
@@ -79,10 +75,6 @@ left_more l h = grind arith
 
 at_most_of : (r : ℕ) → nat_le r 1000 ≡ true → r ≤ 1000
 at_most_of r h = grind arith
-
-pub and_right : (a b : Bool) → (a && b) ≡ true → b ≡ true
-and_right true b h = h
-and_right false b h = cc
 
 -- of tests that refuse nothing none refuses
 body_light : (m : ℕ) (defs : List HandlerDef) (name : ℕ) (d : HandlerDef) → handler_def defs name ≡ Some d → forms_weight m d.body ≤ bodies_weight m defs

@@ -13,8 +13,8 @@ use Rattle.plain_machine.proofs.Composed.{over_runs}
 use Rattle.machine_laws.proofs.Keeping.{Core, cores}
 use Rattle.machine_laws.proofs.Moves.{Coming, Phase, phase, coming, Moves, rests, enters, spawns, hears, drains, dies, closes, passes, kills, dumps}
 use Rattle.machine_laws.proofs.Steps.{Made, asks_moves}
-use Rattle.machine_laws.proofs.Traced.{same_is, is_same, or_nil}
 use Rattle.machine_laws.proofs.Alive.{Alive, Lives, lives_more, lives_asking, lives_start, child_in, not_below, upto}
+use Rattle.machine_laws.proofs.Basics.{is_same, or_nil, same_is}
 
 abbrev Fresh : List Exchange → ℕ → Type 0
 Fresh before child = ((n : ℕ) × (slice_get (children_started before) n ≡ Some child)) × (gone child before ≡ false)

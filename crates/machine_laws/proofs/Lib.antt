@@ -32,3 +32,4 @@ pub mod OneRun
 pub mod Boundaries
 pub mod Ended
 pub mod Tests
+pub mod Basics

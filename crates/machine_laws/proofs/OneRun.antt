@@ -8,12 +8,9 @@ use Rattle.plain_machine.specs.Items.{Said, Config, Next, Step, Goes, Asks, Ende
 use Rattle.plain_machine.specs.Step.{step}
 use Rattle.plain_machine.specs.Run.{Reaches, stays, goes, asks}
 use Rattle.machine_laws.specs.OneRun.{GoesOn, OneRun, OneEnd}
+use Rattle.machine_laws.proofs.Basics.{none_first}
 
 -- LISTS THAT ARE EMPTY
-none_first : {A : Type 0} (xs ys : List A) → [] ≡ xs ++ ys → (xs ≡ []) × (ys ≡ [])
-none_first [] ys e = (refl, sym e)
-none_first (x ∷ xs) ys e = cc
-
 module _ (program : Program) (bound : ℕ) where
   abbrev Beside : List Exchange → (said others : List Said) → Config → Config → Type 0
   Beside more said others c d = GoesOn program bound said others c d more ⊎ ((more ≡ []) × GoesOn program bound others said d c [])
@@ -42,7 +39,7 @@ module _ (program : Program) (bound : ℕ) where
   by_goes : (from c d : Config) (n : Next) (exchanges more all : List Exchange) (said others : List Said) → step program bound from ≡ Goes n → Reaches program bound n.config exchanges said c → Hypothesis n.config exchanges more said c →
       all ≡ exchanges ++ more → Reaches program bound from all others d → Beside more (n.said ++ said) others c d
   by_goes from c d n exchanges more all said others h r ih e stays =
-      let both : (exchanges ≡ []) × (more ≡ []) = none_first exchanges more e in
+      let both : (exchanges ≡ []) × (more ≡ []) = none_first exchanges more (sym e) in
       inr (both.1, record { further = n.said ++ said; behind = refl; way = subst (λ xs. Reaches program bound from xs (n.said ++ said) c) both.0 (goes h r) })
   by_goes from c d n exchanges more all said others h r ih e (goes {n = m} {said = rest} k t) =
       let q : Goes n ≡ Goes m = sym h ∙ k in

@@ -24,8 +24,8 @@ use Rattle.plain_machine.specs.Waits.{wait, wait_case, ask_process, ask_if, ask_
 use Rattle.plain_machine.specs.Step.{step, item_step}
 use Rattle.plain_machine.specs.Run.{Reaches, stays, goes, asks}
 use Rattle.machine_laws.specs.Refusals.{without_output, but_for_exchanges, SameButForExchanges, AnswersNext, IsOfCall, without_ends, RefusalsLeave}
-use Rattle.machine_laws.proofs.Advancing.{some_same, none_some}
 use Rattle.machine_laws.proofs.Steps.{first_fit}
+use Rattle.machine_laws.proofs.Basics.{none_first, none_some, some_same}
 
 -- WHERE A CALL STANDS
 -- an item that is a call, or waits, or kills
@@ -69,11 +69,6 @@ taken_stands s (Some m) n h e = subst (λ (n : Next). StandsAfter s n) (some_sam
 
 -- STATES
 -- a change of one process that leaves all but its output
-set_output : (xs : List Process) (p : ℕ) (x : Process) (f : Process → Process) → ((y : Process) → without_output (f y) ≡ without_output y) → slice_get xs p ≡ Some x → map without_output (slice_set xs p (f x)) ≡ map without_output xs
-set_output [] p x f h e = refl
-set_output (y ∷ xs) zero x f h e = let q : y ≡ x = cc in rw q (ap (λ z. z ∷ map without_output xs) (h x))
-set_output (y ∷ xs) (suc p) x f h e = ap (λ zs. without_output y ∷ zs) (set_output xs p x f h e)
-
 output_only : (p : ℕ) (f : Process → Process) (s t : State) → SameButForExchanges s t → ((x y : Process) → process t p ≡ Some x → without_output (f x) ≡ without_output x) → SameButForExchanges s (change_process p f t)
 output_only p f s t same h = go (process t p) refl
   where
@@ -354,10 +349,6 @@ module _ (s : State) where
   step_stands program bound c (answers r) = answers_stand program bound c.state c.work r
 
   -- EACH RUN
-  nothing_first : (xs ys : List Said) → xs ++ ys ≡ [] → (xs ≡ []) × (ys ≡ [])
-  nothing_first [] ys e = (refl, e)
-  nothing_first (x ∷ xs) ys e = absurd (says_something x (xs ++ ys) e)
-
   goes_stands : (program : Program) (bound : ℕ) (c : Config) (n : Next) → Stands s c → step program bound c ≡ Goes n → StandsAfter s n
   goes_stands program bound c n x h = let k : StepStands s (Goes n) = subst (λ t. StepStands s t) h (step_stands program bound c x) in k
 
@@ -367,10 +358,10 @@ module _ (s : State) where
   run_stands : (program : Program) (bound : ℕ) {c d : Config} {exchanges : List Exchange} {said : List Said} → Reaches program bound c exchanges said d → said ≡ [] → Stands s c → Stands s d
   run_stands program bound stays e x = x
   run_stands program bound (goes {c = c} {n = n} {said = said} h r) e x =
-      let both : (n.said ≡ []) × (said ≡ []) = nothing_first n.said said e in
+      let both : (n.said ≡ []) × (said ≡ []) = none_first n.said said e in
       run_stands program bound r both.1 (goes_stands program bound c n x h both.0)
   run_stands program bound (asks {c = c} {ask = ask} {answer = answer} {next = next} {n = n} {said = said} h k r) e x =
-      let both : (n.said ≡ []) × (said ≡ []) = nothing_first n.said said e in
+      let both : (n.said ≡ []) × (said ≡ []) = none_first n.said said e in
       run_stands program bound r both.1 (asks_stands program bound c ask next answer n x h k both.0)
 
   -- a call that stands before its refusal has changed nothing

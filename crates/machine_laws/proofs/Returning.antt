@@ -12,7 +12,7 @@ use Rattle.editor_model.specs.Values.{Script}
 use Rattle.editor_model.specs.Editor.{Editor, Live, live, buffer_at, new_editor}
 use Rattle.editor_model.specs.Table.{prepare}
 use Rattle.machine_laws.specs.GoodEditor.{GoodEditor}
-use Rattle.machine_laws.proofs.Advancing.{none_some, some_same, live_below, buffer_live}
+use Rattle.machine_laws.proofs.Advancing.{live_below, buffer_live}
 use Rattle.machine_laws.specs.Fits.{GoodSite}
 use Rattle.plain_machine.specs.Exchanges.{Exchange, Ask, Answer}
 use Rattle.plain_machine.specs.State.{State, Program}
@@ -32,6 +32,7 @@ use Rattle.machine_laws.specs.GoodConfig.{GoodConfig, Well}
 use Rattle.machine_laws.specs.UndoneRuns.{Commits, PassesQuietly, Undoes, UndoReturns}
 use Rattle.plain_machine.proofs.Composed.{over_runs}
 use Rattle.machine_laws.proofs.Stepping.{StepWell, AnswerWell, step_well}
+use Rattle.machine_laws.proofs.Basics.{none_some, some_same}
 
 -- GOOD CONFIGURATIONS
 well_good : (e : Editor) (d : Config) → Well e d → GoodConfig d

@@ -26,6 +26,7 @@ use Rattle.plain_machine.specs.Handling.{mark_of_process, second, sentinel_words
 use Rattle.plain_machine.specs.Waits.{ask_process, asked_more, read_answer, end_answer, drain, is_room, entry_of, counts, more_characters, ends, exit_text, is_eligible, target_is_eligible, from_eligible, eligible, delete, kill_answer, kill_at_end, finish, wait, ask_if, ask_next, delete_one, delete_running, hear, is_eligible_one, kill_live, wait_case, finish_one, finish_running}
 use Rattle.machine_laws.proofs.Keeping.{Core, core, cores, change_cores, step_keeps}
 use Rattle.machine_laws.proofs.Moves.{IsHook, Plain, AllPlain, Valid, Silent, Nobody, Output, coming, output_of, Working, phase, IsIdle, IsNew, IsLast, Still, Ends, Moves, rests, enters, spawns, hears, drains, dies, closes, passes, kills, dumps}
+use Rattle.machine_laws.proofs.Basics.{and_left, or_nil}
 
 -- what is to be shown of a step of an item that enters nobody
 abbrev Does : State → Step → Type 0
@@ -259,10 +260,6 @@ native_does program s i args past rest r = go (nat_lt (length past) 256) (progra
     go true (Some c) = callable_does s (Called i args past ∷ rest) (Rattle.plain_machine.specs.Natives.is_callable program s c) c.0 (map Rattle.plain_machine.specs.Natives.normal c.1) Fault.WrongType (tt, r)
 
 -- WAITS AND ENDS
-or_nil : (a : Bool) → (a || false) ≡ a
-or_nil true = refl
-or_nil false = refl
-
 coming_of_text : (text : List Ch) → text ≡ map (λ c. c.0) (text_of text)
 coming_of_text [] = refl
 coming_of_text (c ∷ text) = ap (λ cs. c ∷ cs) (coming_of_text text)
@@ -372,10 +369,6 @@ module _ (s : State) (target : Target) (rest : List Item) (r : AllPlain rest) wh
       go (Some x) e = by_status x e x.status refl
 
 -- who is asked runs
-and_left : (a b : Bool) → (a && b) ≡ true → a ≡ true
-and_left true b h = refl
-and_left false b h = cc
-
 fit_runs : (s : State) (w : Waiting) (p : ℕ) (x : Process) → is_eligible s w p ≡ true → process s p ≡ Some x → runs x.status ≡ true
 fit_runs s w p x h e =
     let k : (o : Option Process) → o ≡ Some x → (is_eligible_one w p o) ≡ true → runs x.status ≡ true =
