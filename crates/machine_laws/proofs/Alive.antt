@@ -3,7 +3,7 @@ use Rattle.std.proofs.Common.{◌≡◌, ℕ, zero, suc, ◌+◌, ◌<◌, ◌�
 use Rattle.std.proofs.lemmas.List.{append-nil, map-append, length-map}
 use Rattle.std.proofs.lemmas.List.Folds.{list_any-append}
 use Rattle.std.proofs.lemmas.Grind.{flat_map-append}
-use Rattle.std.specs.Prelude.{Option, Some, None, ◌==◌, not, ◌||◌, nat_lt, drop, filter, slice_get, slice_set, if◌then◌else◌}
+use Rattle.std.specs.Prelude.{Option, Some, ◌==◌, not, ◌||◌, nat_lt, drop, filter, slice_get, slice_set, if◌then◌else◌}
 use Rattle.text_model.specs.Properties.{insert_name}
 use Rattle.editor_model.specs.Values.{Script}
 use Rattle.plain_machine.specs.Exchanges.{Ask, Read, Answer, Started, End, Failed, Exchange, goes_by, gone, started_by, children_started, rising}

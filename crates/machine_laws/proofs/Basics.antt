@@ -1,6 +1,6 @@
 -- Truth values, numbers, options and lists, in general.
 use Rattle.std.proofs.Common.{◌≡◌, ℕ, zero, suc, ◌<◌, ◌≤◌, Bool, true, false, List, [], ◌∷◌, ◌++◌, length, refl, ap, arith}
-use Rattle.std.specs.Prelude.{Option, Some, None, ◌==◌, ◌&&◌, ◌||◌, slice_get, slice_set}
+use Rattle.std.specs.Prelude.{Some, None, ◌==◌, ◌&&◌, ◌||◌, slice_get, slice_set}
 
 -- TRUTH VALUES
 pub and_left : (a b : Bool) → (a && b) ≡ true → a ≡ true

@@ -1,9 +1,9 @@
 -- The law of one buffer, from what each change of it keeps.
-use Rattle.std.proofs.Common.{◌≡◌, ℕ, ◌≤◌, Bool, true, false, List, [], refl, sym, ◌∙◌, arith}
+use Rattle.std.proofs.Common.{◌≡◌, ℕ, Bool, true, false, [], refl, sym, ◌∙◌, arith}
 use Rattle.std.proofs.lemmas.Bool.{ltb-true, ltb-false, false≢true}
-use Rattle.std.specs.Prelude.{nat_lt, ◌<◌}
+use Rattle.std.specs.Prelude.{nat_lt}
 use Rattle.text_model.specs.Undo.{boundary_at, newer_than, with_boundary}
-use Rattle.text_model.specs.Commit.{Buffer, replaced, reset, undone_groups}
+use Rattle.text_model.specs.Commit.{Buffer}
 use Rattle.editor_model.specs.Editor.{empty_buffer}
 use Rattle.machine_laws.specs.Good.{Good, Passes}
 use Rattle.machine_laws.specs.Boundaries.{KeepsBoundaries, ReplacingKeeps, ResettingKeeps, UndoingKeeps, BoundaryKeeps, RecordingKeeps}

@@ -1,21 +1,19 @@
 -- A sentinel is entered once its child was killed, or the end of its output was read.
-use Rattle.std.proofs.Common.{◌≡◌, ◌⊎◌, inl, inr, ℕ, Bool, true, false, List, [], ◌∷◌, ◌++◌, refl, ap, sym, ◌∙◌, subst}
+use Rattle.std.proofs.Common.{◌≡◌, ◌⊎◌, inl, inr, ℕ, Bool, true, false, List, [], ◌∷◌, ◌++◌, refl, ap, sym, ◌∙◌}
 use Rattle.std.proofs.lemmas.List.Folds.{list_any-append}
-use Rattle.std.specs.Prelude.{Some, slice_get, not, ◌||◌, ◌==◌, nat_lt}
-use Rattle.std.specs.List.{list_any}
+use Rattle.std.specs.Prelude.{Some, slice_get, not, ◌||◌, nat_lt}
 use Rattle.editor_model.specs.Values.{Script}
-use Rattle.plain_machine.specs.Exchanges.{Exchange, Ask, Spawn, Read, AskEnd, Send, Close, Kill, Answer, Code, Signal, gone, goes_by}
-use Rattle.plain_machine.specs.State.{Process, Program, process}
-use Rattle.plain_machine.specs.Items.{Said, Config}
+use Rattle.plain_machine.specs.Exchanges.{Exchange, Ask, AskEnd, Kill, Answer, Code, Signal, gone, goes_by}
+use Rattle.plain_machine.specs.State.{Program}
 use Rattle.plain_machine.specs.Arguments.{runs}
 use Rattle.plain_machine.specs.Run.{start}
 use Rattle.plain_machine.proofs.Composed.{over_runs}
-use Rattle.machine_laws.specs.Entries.{has_entry, output_ended, is_end, asks_kill, killed, SentinelsAfterOutput}
+use Rattle.machine_laws.specs.Entries.{output_ended, is_end, asks_kill, killed, SentinelsAfterOutput}
 use Rattle.machine_laws.proofs.Keeping.{core, cores}
 use Rattle.machine_laws.proofs.Moves.{coming, phase}
 use Rattle.machine_laws.proofs.Steps.{get_cores}
 use Rattle.machine_laws.proofs.Traced.{HoldsAt, to_end}
-use Rattle.machine_laws.proofs.Alive.{Alive, Lives, lives_more, lives_asking, lives_start, upto}
+use Rattle.machine_laws.proofs.Alive.{Lives, lives_more, lives_asking, lives_start, upto}
 use Rattle.machine_laws.proofs.Heard.{ends_after_output}
 use Rattle.machine_laws.proofs.Basics.{or_right, same_is}
 

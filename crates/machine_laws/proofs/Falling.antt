@@ -3,7 +3,7 @@ use Rattle.std.proofs.Common.{◌≡◌, ℕ, zero, suc, ◌+◌, ◌-◌, ◌*�
 use Rattle.std.proofs.lemmas.List.{append-nil, length-append, length-map}
 use Rattle.std.proofs.lemmas.List.Sums.{length-filter, count_by-le-length}
 use Rattle.std.proofs.lemmas.List.FromFn.{length-enumerate_from}
-use Rattle.std.specs.Prelude.{pos, Option, Some, None, ◌==◌, ◌&&◌, nat_lt, nat_le, drop, filter, unwrap_or, slice_get, slice_set}
+use Rattle.std.specs.Prelude.{pos, Option, Some, None, ◌==◌, ◌&&◌, nat_lt, nat_le, drop, filter, unwrap_or, slice_set}
 use Rattle.std.specs.List.{enumerate_from}
 use Rattle.text_model.specs.Marks.{Saved, Excursion, Restriction, Pending}
 use Rattle.text_model.specs.Properties.{Cell}

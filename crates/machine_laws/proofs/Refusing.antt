@@ -1,26 +1,25 @@
 -- A call that is refused leaves the state as it was: where a call stands, step by step, until it is refused or answered.
-use Rattle.std.proofs.Common.{◌≡◌, ℕ, zero, suc, ◌+◌, Bool, true, false, List, [], ◌∷◌, ◌++◌, map, refl, ap, sym, ◌∙◌, subst}
-use Rattle.std.specs.Prelude.{Option, Some, None, drop, slice_get, slice_set}
+use Rattle.std.proofs.Common.{◌≡◌, ℕ, zero, suc, Bool, true, false, List, [], ◌∷◌, ◌++◌, map, refl, ap, sym, ◌∙◌, subst}
+use Rattle.std.specs.Prelude.{Option, Some, None, slice_get, slice_set}
 use Rattle.text_model.specs.Characters.{Ch}
-use Rattle.text_model.specs.Decoding.{characters, all_characters}
-use Rattle.text_model.specs.Marks.{Saved, Pending}
-use Rattle.editor_model.specs.Values.{Value, Nil, T, Int, Str, TheMarker, TheBuffer, Fault, WrongType, VoidVariable, ExchangesSpent, BrokenPipe, SpawnFailed, at_place, Reply, Answered, Prim, Form, Forms, Do, Setq, In, WhenEq, SetBuffer, GetBufferCreate, GenerateNewBuffer, RenameBuffer, SetBufferModifiedP, GotoChar, NarrowToRegion, Widen, MakeMarker, PointMarker, CopyMarker, SetMarker, SetMarkerInsertionType, MakeOverlay, OverlayPut, MoveOverlay, DeleteOverlay, UndoBoundary, UndoStart, BufferDisableUndo, BufferEnableUndo, StartProcess, KillBuffer, ProcessSendString, ProcessSendEof, AcceptProcessOutput}
-use Rattle.editor_model.specs.Editor.{Editor, is_live, killed, find}
+use Rattle.text_model.specs.Marks.{Pending}
+use Rattle.editor_model.specs.Values.{Value, Nil, Int, Str, TheMarker, TheBuffer, Fault, VoidVariable, ExchangesSpent, BrokenPipe, SpawnFailed, at_place, Reply, Answered, Prim, Do, Setq, SetBuffer, GetBufferCreate, GenerateNewBuffer, RenameBuffer, SetBufferModifiedP, GotoChar, NarrowToRegion, Widen, MakeMarker, PointMarker, CopyMarker, SetMarker, SetMarkerInsertionType, MakeOverlay, OverlayPut, MoveOverlay, DeleteOverlay, UndoBoundary, UndoStart, BufferDisableUndo, BufferEnableUndo, StartProcess, KillBuffer, ProcessSendString, ProcessSendEof, AcceptProcessOutput}
+use Rattle.editor_model.specs.Editor.{Editor, is_live, find}
 use Rattle.editor_model.specs.Arguments.{arg, string_of, buffer_of, name_of}
-use Rattle.editor_model.specs.Answers.{Test, first_fault, Applied, applied_of, Prepared, Changes, Quiet, Nothing, Barred, Change, Commit, Committed, Done, Failed}
+use Rattle.editor_model.specs.Answers.{first_fault, Applied, applied_of, Prepared, Changes, Quiet, Nothing, Barred, Change, Committed, Done, Failed}
 use Rattle.editor_model.specs.BufferCalls.{get_buffer_create, found_or_made}
 use Rattle.editor_model.specs.MarkerCalls.{copy_marker}
 use Rattle.editor_model.specs.Table.{query, apply, prepare, commit}
 use Rattle.editor_model.specs.Prims.{Manner, OnlyAsks, SetsState, ChangesText, ConcernsHandlers, manner_of}
-use Rattle.plain_machine.specs.Exchanges.{Exchange, Ask, Answer, Spawn, Read, AskEnd, Send, Close, Kill, Started, Bytes, Code, End, Signal, Running, Sent, Broken, Closed, Killed}
-use Rattle.plain_machine.specs.State.{State, Process, Status, Runs, Exited, Signalled, Lost, Program, hooks_of, process, change_process}
-use Rattle.plain_machine.specs.Lines.{Kind, OfBefore, OfAfter}
-use Rattle.plain_machine.specs.Items.{Item, Top, Body, DoForm, MakeCall, Leave, GiveAnswer, Refuse, MakeChange, Hooks, Calm, CommitChange, Enter, Native, Called, Exit, Wait, Delete, Finish, WriteDump, Target, Nowhere, ToName, ToNative, Waiting, Said, Config, Next, Step, Goes, Asks, Ended}
-use Rattle.plain_machine.specs.Calls.{silent, on, answered, unless, unless_fault, with_editor, set_call, change_call, call, call_by, process_call, process_effect, spawned, spawned_child, is_new_child, started, send, sent_answer, send_eof, closed_answer, waiting}
+use Rattle.plain_machine.specs.Exchanges.{Exchange, Ask, Answer, Started, Bytes, Code, End, Signal, Running, Sent, Broken, Closed, Killed}
+use Rattle.plain_machine.specs.State.{State, Process, Status, Runs, Program, hooks_of, process, change_process}
+use Rattle.plain_machine.specs.Lines.{Kind, OfBefore}
+use Rattle.plain_machine.specs.Items.{Item, DoForm, MakeCall, GiveAnswer, Refuse, MakeChange, Hooks, Calm, CommitChange, Enter, Exit, Wait, Delete, Target, Nowhere, ToName, ToNative, Waiting, Said, Config, Next, Step, Goes, Asks, Ended}
+use Rattle.plain_machine.specs.Calls.{answered, unless_fault, with_editor, change_call, call, call_by, process_effect, spawned, spawned_child, is_new_child, send, sent_answer, send_eof, closed_answer, waiting}
 use Rattle.plain_machine.specs.Refusals.{process_tests, may_ask, must_be_replaceable}
 use Rattle.plain_machine.specs.Arguments.{process_of, child_of, is_closed, encoded, running_in}
-use Rattle.plain_machine.specs.Forms.{call_with, evaluate, void, at_kept, saved_of, popped, after_commit, bracket, with_saved, make_change}
-use Rattle.plain_machine.specs.Waits.{wait, wait_case, ask_process, ask_if, ask_next, read_answer, hear, drain, end_answer, ends, exit_text, entry_of, more_characters, counts, asked_more, is_room, from_eligible, eligible, target_is_eligible, is_eligible, is_eligible_one, delete, delete_one, delete_running, kill_answer, kill_at_end, kill_live}
+use Rattle.plain_machine.specs.Forms.{call_with, evaluate, at_kept, saved_of, popped, after_commit, bracket, with_saved, make_change}
+use Rattle.plain_machine.specs.Waits.{wait, wait_case, ask_process, ask_if, ask_next, read_answer, hear, drain, end_answer, entry_of, asked_more, is_room, from_eligible, eligible, target_is_eligible, is_eligible, is_eligible_one, delete, delete_one, delete_running, kill_answer, kill_at_end, kill_live}
 use Rattle.plain_machine.specs.Step.{step, item_step}
 use Rattle.plain_machine.specs.Run.{Reaches, stays, goes, asks}
 use Rattle.machine_laws.specs.Refusals.{without_output, but_for_exchanges, SameButForExchanges, AnswersNext, IsOfCall, without_ends, RefusalsLeave}

@@ -2,16 +2,16 @@
 use Rattle.std.proofs.Common.{◌≡◌, ℕ, ◌+◌, ◌<◌, ◌≤◌, Bool, true, false, List, [], ◌∷◌, ◌++◌, length, refl, ap, sym, ◌∙◌, subst, arith}
 use Rattle.std.proofs.lemmas.List.{length-append}
 use Rattle.std.proofs.lemmas.List.Elements.{filter-append}
-use Rattle.std.specs.Prelude.{Option, Some, None, not, filter, slice_set, codes, if◌then◌else◌}
-use Rattle.editor_model.specs.Values.{Value, TheProcess, Script}
-use Rattle.plain_machine.specs.Exchanges.{Exchange, Ask, Spawn, Read, AskEnd, Send, Close, Kill, Answer, Started, Bytes, Code, End, Signal, Running, Sent, Broken, Closed, Killed}
-use Rattle.plain_machine.specs.State.{State, Program, Process, Status, Exited, Signalled, Lost, process, change_process}
+use Rattle.std.specs.Prelude.{Option, Some, None, not, filter, codes, if◌then◌else◌}
+use Rattle.editor_model.specs.Values.{Value, Script}
+use Rattle.plain_machine.specs.Exchanges.{Exchange, Ask, Answer, Started, Bytes, Code, End, Signal, Running, Sent, Broken, Closed, Killed}
+use Rattle.plain_machine.specs.State.{State, Program, Process, Exited, Signalled, Lost, change_process}
 use Rattle.plain_machine.specs.Lines.{KilledLast}
-use Rattle.plain_machine.specs.Items.{Item, Finish, Target, Waiting, Said, Config, Next, Step, Goes, Asks, Ended}
+use Rattle.plain_machine.specs.Items.{Item, Finish, Target, Waiting, Said, Config, Next, Goes, Asks}
 use Rattle.plain_machine.specs.Calls.{spawned, spawned_child, is_new_child, sent_answer, closed_answer, with_input_closed}
 use Rattle.plain_machine.specs.Refusals.{may_ask, most_exchanges}
 use Rattle.plain_machine.specs.Forms.{says}
-use Rattle.plain_machine.specs.Waits.{read_answer, hear, drain, end_answer, ends, kill_answer, asked_more, is_room}
+use Rattle.plain_machine.specs.Waits.{read_answer, hear, end_answer, ends, kill_answer, asked_more, is_room}
 use Rattle.plain_machine.specs.Step.{step}
 use Rattle.plain_machine.specs.Run.{start}
 use Rattle.plain_machine.proofs.Composed.{over_runs}

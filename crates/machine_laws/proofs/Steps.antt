@@ -1,7 +1,7 @@
 -- Each step of the machine is one of those moves.
 use Rattle.std.proofs.Common.{◌≡◌, ℕ, zero, suc, ◌+◌, Bool, true, false, List, [], ◌∷◌, ◌++◌, length, map, refl, ap, sym, ◌∙◌, subst, arith}
 use Rattle.std.proofs.lemmas.List.{map-append}
-use Rattle.std.specs.Prelude.{pos, Option, Some, None, ◌==◌, not, ◌&&◌, ◌||◌, nat_lt, drop, codes, slice_get, slice_set}
+use Rattle.std.specs.Prelude.{pos, Option, Some, None, ◌==◌, not, ◌||◌, nat_lt, drop, codes, slice_get, slice_set}
 use Rattle.std.specs.List.{list_any}
 use Rattle.text_model.specs.Characters.{Ch}
 use Rattle.text_model.specs.Decoding.{characters, all_characters}
