@@ -339,7 +339,7 @@ mapped f [] p c e = cc
 mapped f (y ∷ ps) zero c e = (y, refl, let k : f y ≡ c = cc in k)
 mapped f (y ∷ ps) (suc p) c e = mapped f ps p c e
 
-cores_children : (ps : List Process) → map child_in (map core ps) ≡ map (λ x. x.child) ps
+pub cores_children : (ps : List Process) → map child_in (map core ps) ≡ map (λ x. x.child) ps
 cores_children [] = refl
 cores_children (x ∷ ps) = ap (λ l. x.child ∷ l) (cores_children ps)
 

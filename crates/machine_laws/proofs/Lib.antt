@@ -33,3 +33,4 @@ pub mod Boundaries
 pub mod Ended
 pub mod Tests
 pub mod Basics
+pub mod Bounded

@@ -79,7 +79,7 @@ kill_counts s n _ h = tt
 
 -- each ask by its answer
 asking_counts : (s : State) (ask : Ask) (next : Answer → Option Next) (answer : Answer) → Asking s ask next → Counts (is_kill ask) s (next answer)
-asking_counts s ask next answer (spawns target rest name b words args m e f) = rw (e, f) (spawned_counts s target rest name b answer (may_is s m))
+asking_counts s ask next answer (spawns target rest name b words args m l e f) = rw (e, f) (spawned_counts s target rest name b answer (may_is s m))
 asking_counts s ask next answer (sends target rest child size bytes m e f) = rw (e, f) (sent_counts s target rest size answer (may_is s m))
 asking_counts s ask next answer (closes target rest child p m e f) = rw (e, f) (closed_counts s target rest p answer (may_is s m))
 asking_counts s ask next answer (reads w target rest p x m h d e f) = rw (e, f) (read_counts s w target rest p x answer (may_is s m))

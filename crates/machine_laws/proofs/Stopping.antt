@@ -22,7 +22,7 @@ module _ (program : Program) (bound : ℕ) where
   Count c (Asks ask next) = Unit {0}
   Count c Ended = Unit {0}
 
-  same_count : (c : Config) (x : Next) → step program bound c ≡ Goes x → length x.config.state.processes ≡ length c.state.processes
+  pub same_count : (c : Config) (x : Next) → step program bound c ≡ Goes x → length x.config.state.processes ≡ length c.state.processes
   same_count c x e =
       let k : cores x.config.state ≡ cores c.state = ap (λ k. k.0) (subst (λ t. Keeps c.state t) e (step_keeps program bound c)) in
       sym (length-map x.config.state.processes core) ∙ (ap length k ∙ length-map c.state.processes core)

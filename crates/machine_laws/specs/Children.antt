@@ -1,10 +1,10 @@
 -- Children: which of them live, which are killed, and how many exchanges are made, in every run.
-use Rattle.std.specs.Prelude.{◌≡◌, ◌≤◌, ℕ, Bool, true, false, List, [], ◌∷◌, ◌++◌, map, filter, drop, slice_get, Some, not, length}
+use Rattle.std.specs.Prelude.{◌≡◌, ◌≤◌, ◌+◌, ℕ, Bool, true, false, List, [], ◌∷◌, ◌++◌, map, filter, drop, slice_get, Some, not, length}
 use Rattle.plain_machine.specs.Exchanges.{Ask, Kill, Exchange, children_started, rising, gone, living}
 use Rattle.plain_machine.specs.State.{Process, Program}
 use Rattle.plain_machine.specs.Items.{Finish, WriteDump, Said, Config}
 use Rattle.plain_machine.specs.Arguments.{runs}
-use Rattle.plain_machine.specs.Refusals.{most_exchanges}
+use Rattle.plain_machine.specs.Refusals.{most_exchanges, most_processes}
 use Rattle.plain_machine.specs.Run.{Reaches}
 
 abbrev pub running_children : List Process → List ℕ
@@ -41,3 +41,8 @@ is_kill _ = false
 abbrev pub FewExchanges : Program → ℕ → Config → Type 0
 FewExchanges program bound from =
     (exchanges : List Exchange) (said : List Said) (c : Config) → Reaches program bound from exchanges said c → length (filter (λ x. not (is_kill x.ask)) exchanges) ≤ most_exchanges
+
+-- nor more than these and a kill of each of the processes that may be
+abbrev pub FewInAll : Program → ℕ → Config → Type 0
+FewInAll program bound from =
+    (exchanges : List Exchange) (said : List Said) (c : Config) → Reaches program bound from exchanges said c → length exchanges ≤ most_exchanges + most_processes
