@@ -39,10 +39,10 @@ pub record Alive (xs : List Exchange) (cs : List Core) (g : Phase) : Type 0 wher
   pub unknown : (c : ℕ) → IsNew c cs → gone c xs ≡ false
 
 -- LISTS
-started-append : (xs ys : List Exchange) → children_started (xs ++ ys) ≡ children_started xs ++ children_started ys
+pub started-append : (xs ys : List Exchange) → children_started (xs ++ ys) ≡ children_started xs ++ children_started ys
 started-append xs ys = flat_map-append (λ x. started_by x.answer) xs ys
 
-gone-append : (c : ℕ) (xs ys : List Exchange) → gone c (xs ++ ys) ≡ (gone c xs || gone c ys)
+pub gone-append : (c : ℕ) (xs ys : List Exchange) → gone c (xs ++ ys) ≡ (gone c xs || gone c ys)
 gone-append c xs ys = list_any-append (λ x. goes_by c x.ask x.answer) xs ys
 
 children_set : (cs : List Core) (p : ℕ) (x x' : Core) → slice_get cs p ≡ Some x → x'.child ≡ x.child → map child_in (slice_set cs p x') ≡ map child_in cs

@@ -15,13 +15,13 @@ use Rattle.plain_machine.specs.Waits.{read_answer, hear, end_answer, ends, kill_
 use Rattle.plain_machine.specs.Step.{step}
 use Rattle.plain_machine.specs.Run.{Reaches, start}
 use Rattle.plain_machine.proofs.Composed.{over_runs}
-use Rattle.machine_laws.specs.Children.{is_kill, KillsOnce, FewInAll}
+use Rattle.machine_laws.specs.Children.{is_kill, FewInAll}
 use Rattle.machine_laws.proofs.Basics.{set_length, same_is, is_same, or_right}
 use Rattle.machine_laws.proofs.Keeping.{core, cores, Asking, spawns, sends, closes, reads, asks_end, deletes, finishes, Keeps, step_keeps}
 use Rattle.machine_laws.proofs.Stopping.{same_count}
-use Rattle.machine_laws.proofs.Alive.{Lives, lives_more, lives_asking, lives_start, cores_children}
+use Rattle.machine_laws.proofs.Alive.{Lives, cores_children, started-append, gone-append}
 use Rattle.machine_laws.proofs.Spent.{few_exchanges}
-use Rattle.machine_laws.proofs.Killing.{kills_once}
+use Rattle.machine_laws.proofs.Killing.{Fresh, Fair, killed_fairly}
 
 -- PROCESSES
 -- where an answer is taken, there are no more processes than may be
@@ -127,3 +127,86 @@ filter_one_more f g more (d ∷ cs) (suc n) c e h k = go (f d) (g d) refl refl (
 
 kills : List Exchange → List Exchange
 kills xs = filter (λ x. is_kill x.ask) xs
+
+-- the children that are gone, of those that were started
+gone_children : List Exchange → List ℕ
+gone_children xs = filter (λ c. gone c xs) (children_started xs)
+
+still_gone : (seen : List Exchange) (x : Exchange) (c : ℕ) → gone c seen ≡ true → gone c (seen ++ x ∷ []) ≡ true
+still_gone seen x c h = gone-append c seen (x ∷ []) ∙ ap (λ b. b || gone c (x ∷ [])) h
+
+goes_now : (seen : List Exchange) (x : Exchange) (c : ℕ) → x.ask ≡ Kill c → gone c (seen ++ x ∷ []) ≡ true
+goes_now seen x c e =
+    let now : goes_by c x.ask x.answer ≡ true = rw e (is_same c c refl) in
+    gone-append c seen (x ∷ []) ∙ or_right (gone c seen) (gone c (x ∷ [])) (rw now refl)
+
+-- one more exchange: a kill adds a child to those that are gone
+one_kill : (seen : List Exchange) (x : Exchange) → ((c : ℕ) → x.ask ≡ Kill c → Fresh seen c) → length (kills (x ∷ [])) + length (gone_children seen) ≤ length (gone_children (seen ++ x ∷ []))
+unfolding gone_children kills
+one_kill seen x fresh = rw (started-append seen (x ∷ []), filter-append (λ c. gone c (seen ++ x ∷ [])) (children_started seen) (children_started (x ∷ [])), length-append) (by_ask x.ask refl)
+  where
+    now : ℕ → Bool
+    now c = gone c (seen ++ x ∷ [])
+
+    plain : is_kill x.ask ≡ false → length (if is_kill x.ask then x ∷ [] else []) + length (filter (λ c. gone c seen) (children_started seen)) ≤ length (filter (λ c. gone c (seen ++ x ∷ [])) (children_started seen)) + length (filter (λ c. gone c (seen ++ x ∷ [])) (children_started (x ∷ [])))
+    plain e =
+        let l : length (filter (λ c. gone c seen) (children_started seen)) ≤ length (filter (λ c. gone c (seen ++ x ∷ [])) (children_started seen)) = filter_more (λ c. gone c seen) (λ c. gone c (seen ++ x ∷ [])) (still_gone seen x) (children_started seen) in
+        rw e (omega arith)
+
+    by_ask : (ask : Ask) → x.ask ≡ ask → length (if is_kill x.ask then x ∷ [] else []) + length (filter (λ c. gone c seen) (children_started seen)) ≤ length (filter (λ c. gone c (seen ++ x ∷ [])) (children_started seen)) + length (filter (λ c. gone c (seen ++ x ∷ [])) (children_started (x ∷ [])))
+    by_ask (Kill c) e =
+        let f : Fresh seen c = fresh c e in
+        let l : length (filter (λ c. gone c seen) (children_started seen)) + 1 ≤ length (filter (λ c. gone c (seen ++ x ∷ [])) (children_started seen)) = filter_one_more (λ c. gone c seen) (λ c. gone c (seen ++ x ∷ [])) (still_gone seen x) (children_started seen) f.0.0 c f.0.1 f.1 (goes_now seen x c e) in
+        rw (ap is_kill e) (omega arith)
+    by_ask (Spawn program args) e = plain (ap is_kill e)
+    by_ask (Read c) e = plain (ap is_kill e)
+    by_ask (AskEnd c) e = plain (ap is_kill e)
+    by_ask (Send c bytes) e = plain (ap is_kill e)
+    by_ask (Close c) e = plain (ap is_kill e)
+
+kills_few : (seen xs : List Exchange) → Fair seen xs → length (kills xs) + length (gone_children seen) ≤ length (gone_children (seen ++ xs))
+kills_few seen [] h = rw append-nil (omega arith)
+kills_few seen (x ∷ xs) h =
+    let more : length (kills xs) + length (gone_children (seen ++ x ∷ [])) ≤ length (gone_children (seen ++ x ∷ xs)) = rw append_assoc at (kills_few (seen ++ x ∷ []) xs h.1) in
+    let one : length (kills (x ∷ [])) + length (gone_children seen) ≤ length (gone_children (seen ++ x ∷ [])) = one_kill seen x h.0 in
+    let both : length (kills (x ∷ xs)) ≡ length (kills (x ∷ [])) + length (kills xs) = parts x xs in
+    omega arith
+  where
+    parts : (x : Exchange) (xs : List Exchange) → length (kills (x ∷ xs)) ≡ length (kills (x ∷ [])) + length (kills xs)
+    unfolding kills
+    parts x xs = go (is_kill x.ask)
+      where
+        go : (v : Bool) → length (if v then x ∷ filter (λ x. is_kill x.ask) xs else filter (λ x. is_kill x.ask) xs) ≡ length (if v then x ∷ [] else []) + length (filter (λ x. is_kill x.ask) xs)
+        go true = omega arith
+        go false = omega arith
+
+-- IN ALL
+filter_below : (f : ℕ → Bool) (cs : List ℕ) → length (filter f cs) ≤ length cs
+filter_below f [] = omega arith
+filter_below f (c ∷ cs) = go (f c) (filter_below f cs)
+  where
+    go : (v : Bool) → length (filter f cs) ≤ length cs → length (if v then c ∷ filter f cs else filter f cs) ≤ length (c ∷ cs)
+    go true h = omega arith
+    go false h = omega arith
+
+parted : (xs : List Exchange) → length xs ≡ length (filter (λ x. not (is_kill x.ask)) xs) + length (kills xs)
+unfolding kills
+parted [] = refl
+parted (x ∷ xs) = go (is_kill x.ask) (parted xs)
+  where
+    go : (v : Bool) → length xs ≡ length (filter (λ x. not (is_kill x.ask)) xs) + length (filter (λ x. is_kill x.ask) xs) →
+        length (x ∷ xs) ≡ length (if not v then x ∷ filter (λ x. not (is_kill x.ask)) xs else filter (λ x. not (is_kill x.ask)) xs) + length (if v then x ∷ filter (λ x. is_kill x.ask) xs else filter (λ x. is_kill x.ask) xs)
+    go true h = omega arith
+    go false h = omega arith
+
+pub few_in_all : (program : Program) (bound : ℕ) (script : Script) → FewInAll program bound (start script)
+unfolding gone_children
+few_in_all program bound script xs said c r =
+    let i : Lives xs said c × Fair [] xs = killed_fairly program bound script xs said c r in
+    let a : length (kills xs) + 0 ≤ length (filter (λ c. gone c xs) (children_started xs)) = kills_few [] xs i.1 in
+    let b : length (filter (λ c. gone c xs) (children_started xs)) ≤ length (children_started xs) = filter_below (λ c. gone c xs) (children_started xs) in
+    let d : length (children_started xs) ≡ length c.state.processes = ap length i.0.1.children ∙ (ap length (cores_children c.state.processes) ∙ length-map c.state.processes (λ x. x.child)) in
+    let e : length c.state.processes ≤ most_processes = few_processes program bound script xs said c r in
+    let f : length (filter (λ x. not (is_kill x.ask)) xs) ≤ most_exchanges = few_exchanges program bound script xs said c r in
+    let g : length xs ≡ length (filter (λ x. not (is_kill x.ask)) xs) + length (kills xs) = parted xs in
+    omega arith

@@ -14,7 +14,7 @@ ghost use Rattle.plain_machine.specs.Items.{Config};
 ghost use Rattle.plain_machine.specs.Run.{start};
 ghost use Rattle.plain_machine.specs.State.{Program};
 ghost use Rattle.machine_laws.specs.Boundaries.{BoundaryKeeps, RecordingKeeps, ReplacingKeeps, ResettingKeeps, UndoingKeeps};
-ghost use Rattle.machine_laws.specs.Children.{FewExchanges, KillsLeft, KillsOnce};
+ghost use Rattle.machine_laws.specs.Children.{FewExchanges, FewInAll, KillsLeft, KillsOnce};
 ghost use Rattle.machine_laws.specs.Entries.{BrokenEntries, EndsAfterOutput, Entries, EntriesOfChildren, RanEntries, Sentinels, SentinelsAfterOutput};
 ghost use Rattle.machine_laws.specs.Good.{Good};
 ghost use Rattle.machine_laws.specs.Nesting.{SameDeeper, Shallow};
@@ -74,6 +74,11 @@ pub fn exchanges_stay_few()
     ensures { (program : Program) (bound : ℕ) (script : Script) → FewExchanges program bound (start script) }
 {}
 
+/// In all no more than 65,792 exchanges are made: the kills are no more than the processes that may be.
+pub fn exchanges_stay_few_in_all()
+    ensures { (program : Program) (bound : ℕ) (script : Script) → FewInAll program bound (start script) }
+{}
+
 /// A child that is asked to be killed was started, has not ended, and was not asked so before.
 pub fn kills_come_once()
     ensures { (program : Program) (bound : ℕ) (script : Script) → KillsOnce program bound (start script) }
@@ -100,7 +105,7 @@ pub fn filters_hear_what_children_wrote()
     ensures { (program : Program) (bound : ℕ) (script : Script) → EntriesOfChildren program bound (start script) }
 {}
 
-/// The same of a whole run, by the bytes that were written.
+/// The same of a whole run: of the entries whose lines it wrote.
 pub fn whole_runs_hear_all()
     ensures { (program : Program) (bound : ℕ) (script : Script) → RanEntries program bound script }
 {}
