@@ -125,11 +125,11 @@ filter_one_more f g more (d ∷ cs) (suc n) c e h k = go (f d) (g d) refl refl (
     go false true e k h = omega arith
     go false false e k h = h
 
-kills : List Exchange → List Exchange
+abbrev kills : List Exchange → List Exchange
 kills xs = filter (λ x. is_kill x.ask) xs
 
 -- the children that are gone, of those that were started
-gone_children : List Exchange → List ℕ
+abbrev gone_children : List Exchange → List ℕ
 gone_children xs = filter (λ c. gone c xs) (children_started xs)
 
 still_gone : (seen : List Exchange) (x : Exchange) (c : ℕ) → gone c seen ≡ true → gone c (seen ++ x ∷ []) ≡ true
@@ -142,7 +142,6 @@ goes_now seen x c e =
 
 -- one more exchange: a kill adds a child to those that are gone
 one_kill : (seen : List Exchange) (x : Exchange) → ((c : ℕ) → x.ask ≡ Kill c → Fresh seen c) → length (kills (x ∷ [])) + length (gone_children seen) ≤ length (gone_children (seen ++ x ∷ []))
-unfolding gone_children kills
 one_kill seen x fresh = rw (started-append seen (x ∷ []), filter-append (λ c. gone c (seen ++ x ∷ [])) (children_started seen) (children_started (x ∷ [])), length-append) (by_ask x.ask refl)
   where
     now : ℕ → Bool
@@ -173,7 +172,6 @@ kills_few seen (x ∷ xs) h =
     omega arith
   where
     parts : (x : Exchange) (xs : List Exchange) → length (kills (x ∷ xs)) ≡ length (kills (x ∷ [])) + length (kills xs)
-    unfolding kills
     parts x xs = go (is_kill x.ask)
       where
         go : (v : Bool) → length (if v then x ∷ filter (λ x. is_kill x.ask) xs else filter (λ x. is_kill x.ask) xs) ≡ length (if v then x ∷ [] else []) + length (filter (λ x. is_kill x.ask) xs)
@@ -190,7 +188,6 @@ filter_below f (c ∷ cs) = go (f c) (filter_below f cs)
     go false h = omega arith
 
 parted : (xs : List Exchange) → length xs ≡ length (filter (λ x. not (is_kill x.ask)) xs) + length (kills xs)
-unfolding kills
 parted [] = refl
 parted (x ∷ xs) = go (is_kill x.ask) (parted xs)
   where
@@ -200,7 +197,6 @@ parted (x ∷ xs) = go (is_kill x.ask) (parted xs)
     go false h = omega arith
 
 pub few_in_all : (program : Program) (bound : ℕ) (script : Script) → FewInAll program bound (start script)
-unfolding gone_children
 few_in_all program bound script xs said c r =
     let i : Lives xs said c × Fair [] xs = killed_fairly program bound script xs said c r in
     let a : length (kills xs) + 0 ≤ length (filter (λ c. gone c xs) (children_started xs)) = kills_few [] xs i.1 in
