@@ -1,5 +1,5 @@
 -- What the functions on the editor keep.
-use Rattle.std.proofs.Common.{◌≡◌, ℕ, zero, suc, ◌+◌, ◌≤◌, ◌<◌, Bool, true, false, List, [], ◌∷◌, ◌++◌, length, map, refl, ap, sym, subst, ◌∙◌, arith, ◌⊎◌, inl, inr}
+use Rattle.std.proofs.Common.{◌≡◌, ℕ, zero, suc, ◌+◌, ◌≤◌, ◌<◌, Bool, true, false, List, [], ◌∷◌, length, map, refl, ap, sym, subst, ◌∙◌, arith, ◌⊎◌, inl, inr}
 use Rattle.std.specs.Prelude.{if◌then◌else◌, ◌==◌, nat_lt, slice_get, slice_set, Option, Some, None, unwrap_or}
 use Rattle.std.proofs.lemmas.Option.{slice_get_past, slice_get_within}
 use Rattle.std.proofs.lemmas.Bool.{ltb-true, ltb-false, cases_order, cases_eq}
@@ -13,46 +13,15 @@ use Rattle.machine_laws.proofs.OneBuffer.{passes_self}
 use Rattle.machine_laws.proofs.Sites.{SiteStep, site_after}
 use Rattle.editor_model.specs.Editor.{Editor, Live, live, is_live, buffer_at, empty_buffer, change_site, change_buffer, with_buffer, renamed, named_as, with_marker, change_marker, marker_of, set_marker_spot, killed, after_kill, live_from, Name}
 use Rattle.machine_laws.specs.GoodEditor.{GoodEditor, Advances}
+use Rattle.machine_laws.proofs.Basics.{get_front, get_new, none_some, set_length, set_other, set_same, some_same}
 
 -- LISTS
-pub none_some : {A : Type 0} (x : A) → None ≡ Some x → ⊥
-none_some x h = cc
-
-set_same : {A : Type 0} (xs : List A) (k : ℕ) (x y : A) → slice_get xs k ≡ Some y → slice_get (slice_set xs k x) k ≡ Some x
-set_same [] k x y h = cc
-set_same (z ∷ xs) zero x y h = refl
-set_same (z ∷ xs) (suc k) x y h = set_same xs k x y h
-
-set_other : {A : Type 0} (xs : List A) (k j : ℕ) (x : A) → (j ≡ k → ⊥) → slice_get (slice_set xs k x) j ≡ slice_get xs j
-set_other [] k j x h = refl
-set_other (z ∷ xs) zero zero x h = absurd (h refl)
-set_other (z ∷ xs) zero (suc j) x h = refl
-set_other (z ∷ xs) (suc k) zero x h = refl
-set_other (z ∷ xs) (suc k) (suc j) x h = set_other xs k j x (λ e. h (ap suc e))
-
-set_length : {A : Type 0} (xs : List A) (k : ℕ) (x : A) → length (slice_set xs k x) ≡ length xs
-set_length [] k x = refl
-set_length (z ∷ xs) zero x = refl
-set_length (z ∷ xs) (suc k) x = ap suc (set_length xs k x)
-
-get_front : {A : Type 0} (xs ys : List A) (k : ℕ) → k < length xs → slice_get (xs ++ ys) k ≡ slice_get xs k
-get_front [] ys k h = absurd (omega arith)
-get_front (x ∷ xs) ys zero h = refl
-get_front (x ∷ xs) ys (suc k) h = get_front xs ys k (omega arith)
-
-get_new : {A : Type 0} (xs : List A) (x : A) → slice_get (xs ++ x ∷ []) (length xs) ≡ Some x
-get_new [] x = refl
-get_new (y ∷ xs) x = get_new xs x
-
 some_none_at : {A : Type 0} (xs : List A) (k : ℕ) → k < length xs → slice_get xs k ≡ None → ⊥
 some_none_at [] k h e = omega arith
 some_none_at (x ∷ xs) zero h e = none_some x (sym e)
 some_none_at (x ∷ xs) (suc k) h e = some_none_at xs k (omega arith) e
 
 -- LIVE BUFFERS
-pub some_same : {A : Type 0} (x y : A) → Some x ≡ Some y → x ≡ y
-some_same x y h = cc
-
 pub live_within : (e : Editor) (id : ℕ) (l : Live) → live e id ≡ Some l → slice_get e.buffers id ≡ Some (Some l)
 live_within e id l h = go (slice_get e.buffers id) refl h
   where

@@ -3,7 +3,7 @@ use Rattle.std.proofs.Common.{◌≡◌, ℕ, zero, suc, ◌+◌, ◌<◌, ◌�
 use Rattle.std.proofs.lemmas.List.{append-nil, map-append, length-map}
 use Rattle.std.proofs.lemmas.List.Folds.{list_any-append}
 use Rattle.std.proofs.lemmas.Grind.{flat_map-append}
-use Rattle.std.specs.Prelude.{Option, Some, None, ◌==◌, not, ◌||◌, nat_lt, drop, filter, slice_get, slice_set, if◌then◌else◌}
+use Rattle.std.specs.Prelude.{Option, Some, ◌==◌, not, ◌||◌, nat_lt, drop, filter, slice_get, slice_set, if◌then◌else◌}
 use Rattle.text_model.specs.Properties.{insert_name}
 use Rattle.editor_model.specs.Values.{Script}
 use Rattle.plain_machine.specs.Exchanges.{Ask, Read, Answer, Started, End, Failed, Exchange, goes_by, gone, started_by, children_started, rising}
@@ -13,14 +13,16 @@ use Rattle.plain_machine.specs.Lines.{OfFilter}
 use Rattle.plain_machine.specs.Items.{Item, Finish, WriteDump, Said, Config, Next, Goes, Asks, Enter, Ended}
 use Rattle.plain_machine.specs.Step.{step}
 use Rattle.plain_machine.specs.Run.{start}
-use Rattle.machine_laws.specs.Laws.{entered, heard, to_kill, KillsLeft, EntriesOfChildren, RanEntries, BrokenEntries}
+use Rattle.machine_laws.specs.Entries.{entered, heard, EntriesOfChildren, RanEntries, BrokenEntries}
+use Rattle.machine_laws.specs.Children.{to_kill, KillsLeft}
 use Rattle.plain_machine.specs.WholeRuns.{IsBetweenEntries}
 use Rattle.plain_machine.proofs.Composed.{over_runs}
 use Rattle.machine_laws.proofs.Keeping.{Core, core, cores}
 use Rattle.machine_laws.proofs.Moves.{Coming, Phase, Working, Killing, Over, phase, coming, IsNew, fresh, IsLast, Still, Ends, Starts, Moves, rests, enters, spawns, hears, drains, dies, closes, passes, kills, dumps}
 use Rattle.machine_laws.proofs.Steps.{Made, goes_moves, asks_moves}
-use Rattle.machine_laws.proofs.Traced.{same_is, is_same, other_is, or_right, or_nil, get_more, Stands, within, behind, stands, Traced, Placed, here, away, placed, still_new}
+use Rattle.machine_laws.proofs.Traced.{Stands, within, behind, stands, Traced, Placed, here, away, placed, still_new}
 use Rattle.machine_laws.proofs.Heard.{entries, Carried, carried_more, carried_asking, carried_start}
+use Rattle.machine_laws.proofs.Basics.{get_below, get_more, is_same, none_above, or_nil, or_right, other_is, same_is}
 
 -- up to which process the kills are made
 abbrev pub upto : Phase → List Core → ℕ
@@ -37,26 +39,16 @@ pub record Alive (xs : List Exchange) (cs : List Core) (g : Phase) : Type 0 wher
   pub unknown : (c : ℕ) → IsNew c cs → gone c xs ≡ false
 
 -- LISTS
-started-append : (xs ys : List Exchange) → children_started (xs ++ ys) ≡ children_started xs ++ children_started ys
+pub started-append : (xs ys : List Exchange) → children_started (xs ++ ys) ≡ children_started xs ++ children_started ys
 started-append xs ys = flat_map-append (λ x. started_by x.answer) xs ys
 
-gone-append : (c : ℕ) (xs ys : List Exchange) → gone c (xs ++ ys) ≡ (gone c xs || gone c ys)
+pub gone-append : (c : ℕ) (xs ys : List Exchange) → gone c (xs ++ ys) ≡ (gone c xs || gone c ys)
 gone-append c xs ys = list_any-append (λ x. goes_by c x.ask x.answer) xs ys
 
 children_set : (cs : List Core) (p : ℕ) (x x' : Core) → slice_get cs p ≡ Some x → x'.child ≡ x.child → map child_in (slice_set cs p x') ≡ map child_in cs
 children_set [] p x x' e h = refl
 children_set (c ∷ cs) zero x x' e h = let q : c ≡ x = cc in ap (λ k. k ∷ map child_in cs) (h ∙ ap child_in (sym q))
 children_set (c ∷ cs) (suc p) x x' e h = ap (λ l. c.child ∷ l) (children_set cs p x x' e h)
-
-get_length : (cs : List Core) (p : ℕ) (x : Core) → slice_get cs p ≡ Some x → p < length cs
-get_length [] p x e = cc
-get_length (c ∷ cs) zero x e = omega arith
-get_length (c ∷ cs) (suc p) x e = let h : p < length cs = get_length cs p x e in omega arith
-
-none_length : (cs : List Core) (p : ℕ) → slice_get cs p ≡ None → length cs ≤ p
-none_length [] p e = omega arith
-none_length (c ∷ cs) zero e = cc
-none_length (c ∷ cs) (suc p) e = let h : length cs ≤ p = none_length cs p e in omega arith
 
 -- NUMBERS
 pub not_below : (p : ℕ) → nat_lt p 0 ≡ false
@@ -198,8 +190,8 @@ moves_alive xs ys said more cs ds e f g h t a (passes p x _ b d n q k dead r s) 
     at q y l false m = ap (λ b. not y.live || b) (sym (next_same q p (λ j. let o : true ≡ false = sym (is_same q p j) ∙ m in cc)))
 moves_alive xs ys said more cs ds e f g h t a (kills p x _ b d i q k live u r s) = rw (d, s) (kill_alive xs ys said cs e p x t (rw r at a) k u)
 moves_alive xs ys said more cs ds e f g h t a (Moves.ends p _ b d n q k r s) = rw (d, s) (with_none xs ys cs Over n (phase_alive xs cs (Killing p) Over (rw r at a) (λ q y l.
-    let u : q < length cs = get_length cs q y l in
-    let v : length cs ≤ p = none_length cs p k in
+    let u : q < length cs = get_below cs q y l in
+    let v : length cs ≤ p = none_above cs p k in
     ap (λ b. not y.live || b) (is_below q p (omega arith) ∙ sym (is_below q (length cs) u)))))
 moves_alive xs ys said more cs ds e f g h t a (dumps _ b d n q r s) = rw (d, s) (with_none xs ys cs Over n (rw r at a))
 
@@ -347,7 +339,7 @@ mapped f [] p c e = cc
 mapped f (y ∷ ps) zero c e = (y, refl, let k : f y ≡ c = cc in k)
 mapped f (y ∷ ps) (suc p) c e = mapped f ps p c e
 
-cores_children : (ps : List Process) → map child_in (map core ps) ≡ map (λ x. x.child) ps
+pub cores_children : (ps : List Process) → map child_in (map core ps) ≡ map (λ x. x.child) ps
 cores_children [] = refl
 cores_children (x ∷ ps) = ap (λ l. x.child ∷ l) (cores_children ps)
 

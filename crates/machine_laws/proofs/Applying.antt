@@ -14,7 +14,7 @@ use Rattle.machine_laws.proofs.Fitting.{markers_set, marker_fits, clip_fits}
 use Rattle.machine_laws.proofs.Sites.{same_step}
 use Rattle.editor_model.specs.Values.{Value, Nil, Int, Str, TheBuffer, TheMarker, Fault, Prim, SetBuffer, GetBufferCreate, GenerateNewBuffer, RenameBuffer, SetBufferModifiedP, GotoChar, NarrowToRegion, Widen, MakeMarker, PointMarker, CopyMarker, SetMarker, SetMarkerInsertionType, MakeOverlay, OverlayPut, MoveOverlay, DeleteOverlay, UndoBoundary, UndoStart, BufferDisableUndo, BufferEnableUndo}
 use Rattle.editor_model.specs.Editor.{Editor, Name, Live, live, buffer_at, here, empty_buffer, find, change_buffer, with_buffer, renamed, with_marker, change_marker, marker_of, free_name, others}
-use Rattle.editor_model.specs.Answers.{Test, refuse, first_fault, applied, applied_of}
+use Rattle.editor_model.specs.Answers.{Test, first_fault, applied, applied_of}
 use Rattle.editor_model.specs.Arguments.{arg, flag, name_of, buffer_of, marker_number, number, position, place, from_of, to_of, lies_in, must_be_position, must_lie_in}
 use Rattle.editor_model.specs.BufferCalls.{found_or_made, get_buffer_create}
 use Rattle.editor_model.specs.TextCalls.{point_at, narrowed, widened, narrow_to_region}
@@ -23,16 +23,7 @@ use Rattle.editor_model.specs.UndoCalls.{with_undo}
 use Rattle.editor_model.specs.Table.{apply}
 use Rattle.machine_laws.specs.GoodEditor.{GoodEditor, Steady}
 use Rattle.machine_laws.proofs.Advancing.{advances_self, marks_only, site_advances, site_shapes, with_buffer_advances, renamed_advances, buffer_live, size_of}
-
--- TESTS
-pub refuse_ok : (f : Fault) (ok : Bool) → refuse f ok ≡ None → ok ≡ true
-refuse_ok f true h = refl
-refuse_ok f false h = cc
-
--- where no test refuses, none of them does
-pub no_fault : (t : Test) (ts : List Test) → first_fault (t ∷ ts) ≡ None → (t ≡ None) × (first_fault ts ≡ None)
-no_fault None ts h = (refl, h)
-no_fault (Some f) ts h = cc
+use Rattle.machine_laws.proofs.Tests.{refuse_ok, no_fault}
 
 -- STEADY STEPS
 pub steady_self : (e : Editor) → GoodEditor e → Steady e e

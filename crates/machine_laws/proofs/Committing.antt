@@ -24,8 +24,10 @@ use Rattle.editor_model.specs.UndoCalls.{undo_change, undo_more, undo_tests}
 use Rattle.editor_model.specs.Commits.{commit_tests, first_widened, point_to, put_site, mark_to, changed, commit_of, commit}
 use Rattle.editor_model.specs.Table.{prepare}
 use Rattle.machine_laws.specs.GoodEditor.{GoodEditor, Steady, FineWhat, FineChange}
-use Rattle.machine_laws.proofs.Advancing.{site_live, some_same, size_after, site_advances, site_shapes, buffer_live, size_of}
-use Rattle.machine_laws.proofs.Applying.{refuse_ok, no_fault, steady_self, lies, clip_lies, region_order, region_high, marker_of_fits, change_marker_steady}
+use Rattle.machine_laws.proofs.Advancing.{site_live, size_after, site_advances, site_shapes, buffer_live, size_of}
+use Rattle.machine_laws.proofs.Applying.{steady_self, lies, clip_lies, region_order, region_high, marker_of_fits, change_marker_steady}
+use Rattle.machine_laws.proofs.Tests.{refuse_ok, no_fault}
+use Rattle.machine_laws.proofs.Basics.{some_same}
 
 -- PIECES IN ORDER
 pub inherited_pieces : (set : PropSet) (piece : List Cell) → IsOrdered set → AreOrdered (with_inherited set piece)

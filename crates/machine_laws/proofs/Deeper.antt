@@ -15,7 +15,7 @@ use Rattle.plain_machine.specs.Refusals.{process_tests, must_nest, only_where, m
 use Rattle.plain_machine.specs.Calls.{on, unless, call, process_effect, call_by, unless_fault}
 use Rattle.plain_machine.specs.Step.{step, item_step}
 use Rattle.plain_machine.specs.Run.{Reaches, stays, goes, asks}
-use Rattle.machine_laws.specs.Laws.{is_nesting, IsNesting, SameDeeper}
+use Rattle.machine_laws.specs.Nesting.{is_nesting, IsNesting, SameDeeper}
 
 -- two lists of tests, of which the first may refuse for want of depth
 data Alike (t u : Option Fault) : Type 0 where

@@ -24,10 +24,11 @@ use Rattle.plain_machine.specs.Handling.{mark_of_process, second, sentinel_words
 use Rattle.plain_machine.specs.Waits.{ask_process, asked_more, read_answer, end_answer, drain, is_room, entry_of, counts, more_characters, exit_text, target_is_eligible, from_eligible, eligible, delete, kill_answer, ends, kill_at_end, finish, wait, ask_if, ask_next, delete_one, delete_running, hear, kill_live, wait_case, finish_one, finish_running}
 use Rattle.plain_machine.specs.Step.{step, item_step}
 use Rattle.plain_machine.specs.Run.{Reaches, start}
-use Rattle.machine_laws.specs.Laws.{Shallow}
+use Rattle.machine_laws.specs.Nesting.{Shallow}
 use Rattle.plain_machine.proofs.Composed.{over_runs}
 use Rattle.machine_laws.proofs.Weights.{behind}
-use Rattle.machine_laws.proofs.Falling.{live_same, restored_same, assigned_same, change_same, left_same, passes, holds}
+use Rattle.machine_laws.proofs.Falling.{live_same, restored_same, assigned_same, change_same, left_same}
+use Rattle.machine_laws.proofs.Tests.{refuse_ok, no_fault}
 
 -- DEPTH, WHERE IT STAYS
 live_deep : (s : State) (b : ℕ) (t : State) → t.depth ≡ s.depth → (if_live s b t).depth ≡ s.depth
@@ -59,14 +60,14 @@ left_deep s c = live_deep (record s { depth = s.depth - 1; scopes = drop 1 s.sco
 
 -- TESTS
 last_passes : (front : List Test) (t : Test) → first_fault (front ++ t ∷ []) ≡ None → t ≡ None
-last_passes [] t h = (passes t [] h).0
-last_passes (x ∷ front) t h = last_passes front t (passes x (front ++ t ∷ []) h).1
+last_passes [] t h = (no_fault t [] h).0
+last_passes (x ∷ front) t h = last_passes front t (no_fault x (front ++ t ∷ []) h).1
 
 is_less : (d b : ℕ) → nat_lt d b ≡ true → d < b
 is_less d b h = grind arith
 
 nests : (bound : ℕ) (s : State) → must_nest bound s ≡ None → s.depth < bound
-nests bound s h = is_less s.depth bound (holds Nesting (nat_lt s.depth bound) h)
+nests bound s h = is_less s.depth bound (refuse_ok Nesting (nat_lt s.depth bound) h)
 
 only_nests : (w : Bool) (bound : ℕ) (s : State) → only_where w (must_nest bound s) ≡ None → w ≡ true → s.depth < bound
 only_nests true bound s h e = nests bound s h

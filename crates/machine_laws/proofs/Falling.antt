@@ -3,7 +3,7 @@ use Rattle.std.proofs.Common.{◌≡◌, ℕ, zero, suc, ◌+◌, ◌-◌, ◌*�
 use Rattle.std.proofs.lemmas.List.{append-nil, length-append, length-map}
 use Rattle.std.proofs.lemmas.List.Sums.{length-filter, count_by-le-length}
 use Rattle.std.proofs.lemmas.List.FromFn.{length-enumerate_from}
-use Rattle.std.specs.Prelude.{pos, Option, Some, None, ◌==◌, ◌&&◌, nat_lt, nat_le, drop, filter, unwrap_or, slice_get, slice_set}
+use Rattle.std.specs.Prelude.{pos, Option, Some, None, ◌==◌, ◌&&◌, nat_lt, nat_le, drop, filter, unwrap_or, slice_set}
 use Rattle.std.specs.List.{enumerate_from}
 use Rattle.text_model.specs.Marks.{Saved, Excursion, Restriction, Pending}
 use Rattle.text_model.specs.Properties.{Cell}
@@ -25,6 +25,8 @@ use Rattle.plain_machine.specs.Handling.{mark_of_process, second, sentinel_words
 use Rattle.plain_machine.specs.Waits.{ask_process, target_is_eligible, from_eligible, eligible, delete, ends, kill_at_end, finish, wait, ask_if, ask_next, delete_one, delete_running, finish_one, finish_running, wait_case, kill_live}
 use Rattle.plain_machine.specs.Step.{item_step}
 use Rattle.machine_laws.proofs.Weights.{Below, first, AtMost, both, at_most_same, at_most_trans, below_at_most, forms_weight, bodies_weight, call_weight, enter_weight, item_weight, behind, IsSteady, Steady, weight, total, under, calmer, lighter}
+use Rattle.machine_laws.proofs.Tests.{refuse_ok, no_fault}
+use Rattle.machine_laws.proofs.Basics.{and_right, get_below}
 
 -- INHIBITION, WHERE IT STAYS
 pub live_same : (s : State) (b : ℕ) (t : State) → t.inhibited ≡ s.inhibited → (if_live s b t).inhibited ≡ s.inhibited
@@ -55,11 +57,6 @@ pub left_same : (s : State) (c : ℕ) → (left_state s c).inhibited ≡ s.inhib
 left_same s c = live_same (record s { depth = s.depth - 1; scopes = drop 1 s.scopes }) c _ refl
 
 -- NUMBERS
-get_below : {A : Type 0} (xs : List A) (p : ℕ) (x : A) → slice_get xs p ≡ Some x → p < length xs
-get_below [] p x e = cc
-get_below (y ∷ xs) zero x e = omega arith
-get_below (y ∷ xs) (suc p) x e = let h : p < length xs = get_below xs p x e in omega arith
-
 running_few : (s : State) (b : ℕ) → length (running_in s b) ≤ length s.processes
 running_few s b =
     let test : ℕ × Process → Bool = λ x. runs x.1.status && stands_in b x.1 in
@@ -79,19 +76,7 @@ left_more l h = grind arith
 at_most_of : (r : ℕ) → nat_le r 1000 ≡ true → r ≤ 1000
 at_most_of r h = grind arith
 
-pub and_right : (a b : Bool) → (a && b) ≡ true → b ≡ true
-and_right true b h = h
-and_right false b h = cc
-
 -- of tests that refuse nothing none refuses
-pub passes : (t : Test) (tests : List Test) → first_fault (t ∷ tests) ≡ None → (t ≡ None) × (first_fault tests ≡ None)
-passes None tests h = (refl, h)
-passes (Some f) tests h = cc
-
-pub holds : (f : Fault) (ok : Bool) → refuse f ok ≡ None → ok ≡ true
-holds f true h = refl
-holds f false h = cc
-
 body_light : (m : ℕ) (defs : List HandlerDef) (name : ℕ) (d : HandlerDef) → handler_def defs name ≡ Some d → forms_weight m d.body ≤ bodies_weight m defs
 body_light m [] name d e = cc
 body_light m (x ∷ defs) name d e = go (x.name == name) (body_light m defs name d) e
@@ -211,11 +196,11 @@ module _ (program : Program) (n : ℕ) where
       let last : List Test = must_nest bound s ∷ [] in
       let range : Test = refuse ArgsOutOfRange (nat_le 1 r && nat_le r most_rounds) in
       let types : Test = refuse WrongType (is_rounds (arg args 1)) in
-      let a : first_fault (types ∷ process_there s (arg args 0) ∷ range ∷ last) ≡ None = (passes (must_be_process_or_nil (arg args 0)) (types ∷ process_there s (arg args 0) ∷ range ∷ last) h).1 in
-      let b : first_fault (process_there s (arg args 0) ∷ range ∷ last) ≡ None = (passes types (process_there s (arg args 0) ∷ range ∷ last) a).1 in
-      let c : first_fault (range ∷ last) ≡ None = (passes (process_there s (arg args 0)) (range ∷ last) b).1 in
-      let d : range ≡ None = (passes range last c).0 in
-      at_most_of r (and_right (nat_le 1 r) (nat_le r most_rounds) (holds ArgsOutOfRange (nat_le 1 r && nat_le r most_rounds) d))
+      let a : first_fault (types ∷ process_there s (arg args 0) ∷ range ∷ last) ≡ None = (no_fault (must_be_process_or_nil (arg args 0)) (types ∷ process_there s (arg args 0) ∷ range ∷ last) h).1 in
+      let b : first_fault (process_there s (arg args 0) ∷ range ∷ last) ≡ None = (no_fault types (process_there s (arg args 0) ∷ range ∷ last) a).1 in
+      let c : first_fault (range ∷ last) ≡ None = (no_fault (process_there s (arg args 0)) (range ∷ last) b).1 in
+      let d : range ≡ None = (no_fault range last c).0 in
+      at_most_of r (and_right (nat_le 1 r) (nat_le r most_rounds) (refuse_ok ArgsOutOfRange (nat_le 1 r && nat_le r most_rounds) d))
 
   effect_falls : (bound : ℕ) (s : State) (target : Target) (rest : List Item) (prim : Prim) (args : List Value) → length s.processes ≡ n → first_fault (process_tests program bound s prim args) ≡ None → Falls s.inhibited (MakeCall prim args target) rest (process_effect s target rest prim args)
   effect_falls bound s target rest StartProcess args same h = tt

@@ -10,7 +10,7 @@ use Rattle.plain_machine.specs.Lines.{OfFilter, OfSentinel, OfBefore, OfAfter}
 use Rattle.plain_machine.specs.Items.{Item, Enter, Said, Config, Next, Goes, Asks}
 use Rattle.plain_machine.specs.Step.{step}
 use Rattle.plain_machine.specs.Run.{Reaches, start}
-use Rattle.machine_laws.specs.Laws.{entered, output_ended, is_entry, has_entry, Entries, Sentinels, EndsAfterOutput}
+use Rattle.machine_laws.specs.Entries.{entered, output_ended, is_entry, has_entry, Entries, Sentinels, EndsAfterOutput}
 use Rattle.plain_machine.specs.WholeRuns.{IsBetweenEntries}
 use Rattle.plain_machine.proofs.Composed.{over_runs}
 use Rattle.machine_laws.proofs.Keeping.{core, cores}

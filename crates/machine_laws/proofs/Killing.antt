@@ -7,19 +7,20 @@ use Rattle.plain_machine.specs.Exchanges.{Ask, Kill, Answer, Exchange, gone, chi
 use Rattle.plain_machine.specs.State.{Program}
 use Rattle.plain_machine.specs.Items.{Said, Config, Next, Goes, Asks}
 use Rattle.plain_machine.specs.Step.{step}
-use Rattle.plain_machine.specs.Run.{start}
-use Rattle.machine_laws.specs.Laws.{KillsOnce}
+use Rattle.plain_machine.specs.Run.{Reaches, start}
+use Rattle.machine_laws.specs.Children.{KillsOnce}
 use Rattle.plain_machine.proofs.Composed.{over_runs}
 use Rattle.machine_laws.proofs.Keeping.{Core, cores}
 use Rattle.machine_laws.proofs.Moves.{Coming, Phase, phase, coming, Moves, rests, enters, spawns, hears, drains, dies, closes, passes, kills, dumps}
 use Rattle.machine_laws.proofs.Steps.{Made, asks_moves}
-use Rattle.machine_laws.proofs.Traced.{same_is, is_same, or_nil}
 use Rattle.machine_laws.proofs.Alive.{Alive, Lives, lives_more, lives_asking, lives_start, child_in, not_below, upto}
+use Rattle.machine_laws.proofs.Basics.{is_same, or_nil, same_is}
 
-abbrev Fresh : List Exchange → ℕ → Type 0
+-- a child that was started and isn't gone; and a list in which only such ones are killed
+abbrev pub Fresh : List Exchange → ℕ → Type 0
 Fresh before child = ((n : ℕ) × (slice_get (children_started before) n ≡ Some child)) × (gone child before ≡ false)
 
-abbrev Fair : List Exchange → List Exchange → Type 0
+abbrev pub Fair : List Exchange → List Exchange → Type 0
 Fair seen [] = Unit {0}
 Fair seen (x ∷ xs) = ((c : ℕ) → x.ask ≡ Kill c → Fresh seen c) × Fair (seen ++ x ∷ []) xs
 
@@ -77,7 +78,7 @@ killed_fresh xs cs ds e f g h said c answer a m = go m
     go (Moves.ends p _ _ _ n _ _ _ _) = cc
     go (dumps _ _ _ n _ _ _) = cc
 
-abbrev Both : List Exchange → List Said → Config → Type 0
+abbrev pub Both : List Exchange → List Said → Config → Type 0
 Both xs said c = Lives xs said c × Fair [] xs
 
 module _ (program : Program) (bound : ℕ) where
@@ -94,7 +95,8 @@ module _ (program : Program) (bound : ℕ) where
             (subst (λ ask. Moves (cores c.state) (coming c.work) (phase c.work) (record { ask = ask; answer = answer } ∷ []) n.said (cores n.config.state) (coming n.config.work) (phase n.config.work)) q m.0)),
       )
 
+pub killed_fairly : (program : Program) (bound : ℕ) (script : Script) (xs : List Exchange) (said : List Said) (c : Config) → Reaches program bound (start script) xs said c → Both xs said c
+killed_fairly program bound script xs said c r = over_runs program bound Both (both_more program bound) (both_asking program bound) r [] [] (lives_start program bound script, tt)
+
 pub kills_once : (program : Program) (bound : ℕ) (script : Script) → KillsOnce program bound (start script)
-kills_once program bound script before after x said c child r h =
-    let i : Both (before ++ x ∷ after) said c = over_runs program bound Both (both_more program bound) (both_asking program bound) r [] [] (lives_start program bound script, tt) in
-    fair_at [] before after x child i.1 h
+kills_once program bound script before after x said c child r h = fair_at [] before after x child (killed_fairly program bound script (before ++ x ∷ after) said c r).1 h

@@ -10,9 +10,8 @@ pub mod Advancing
 pub mod Applying
 pub mod Committing
 pub mod Settling
-pub mod Sound
+pub mod Computing
 pub mod Keeping
-pub mod Determined
 pub mod Moves
 pub mod Steps
 pub mod Traced
@@ -28,3 +27,10 @@ pub mod Spent
 pub mod Working
 pub mod Stepping
 pub mod Returning
+pub mod Refusing
+pub mod OneRun
+pub mod Boundaries
+pub mod Ended
+pub mod Tests
+pub mod Basics
+pub mod Bounded

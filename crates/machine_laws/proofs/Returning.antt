@@ -12,7 +12,7 @@ use Rattle.editor_model.specs.Values.{Script}
 use Rattle.editor_model.specs.Editor.{Editor, Live, live, buffer_at, new_editor}
 use Rattle.editor_model.specs.Table.{prepare}
 use Rattle.machine_laws.specs.GoodEditor.{GoodEditor}
-use Rattle.machine_laws.proofs.Advancing.{none_some, some_same, live_below, buffer_live}
+use Rattle.machine_laws.proofs.Advancing.{live_below, buffer_live}
 use Rattle.machine_laws.specs.Fits.{GoodSite}
 use Rattle.plain_machine.specs.Exchanges.{Exchange, Ask, Answer}
 use Rattle.plain_machine.specs.State.{State, Program}
@@ -29,9 +29,10 @@ use Rattle.plain_machine.specs.Forms.{commit_change, at_kept, saved_of, after_co
 use Rattle.plain_machine.specs.Calls.{change_call}
 use Rattle.plain_machine.specs.Run.{Reaches, start}
 use Rattle.machine_laws.specs.GoodConfig.{GoodConfig, Well}
-use Rattle.machine_laws.specs.Laws.{Commits, PassesQuietly, Undoes, UndoReturns}
+use Rattle.machine_laws.specs.UndoneRuns.{Commits, PassesQuietly, Undoes, UndoReturns}
 use Rattle.plain_machine.proofs.Composed.{over_runs}
 use Rattle.machine_laws.proofs.Stepping.{StepWell, AnswerWell, step_well}
+use Rattle.machine_laws.proofs.Basics.{none_some, some_same}
 
 -- GOOD CONFIGURATIONS
 well_good : (e : Editor) (d : Config) → Well e d → GoodConfig d

@@ -10,7 +10,8 @@ use Rattle.text_model.proofs.Sets.{by_test}
 use Rattle.machine_laws.proofs.OneBuffer.{passes_like}
 use Rattle.editor_model.specs.Editor.{Editor, Live, live, live_from, change_site, killed, scratch, with_buffer}
 use Rattle.machine_laws.specs.GoodEditor.{GoodEditor, Advances, Steady}
-use Rattle.machine_laws.proofs.Advancing.{advances_self, marks_only, size_of, some_same, none_some, live_below, live_within, live_set_same, live_set_other, killed_advances}
+use Rattle.machine_laws.proofs.Advancing.{advances_self, marks_only, size_of, live_below, live_within, live_set_same, live_set_other, killed_advances}
+use Rattle.machine_laws.proofs.Basics.{none_some, some_same}
 
 -- a step that leaves the text and the records of each buffer
 pub record Settles (e new : Editor) : Type 0 where

@@ -1,7 +1,7 @@
 -- Each step of the machine is one of those moves.
 use Rattle.std.proofs.Common.{◌≡◌, ℕ, zero, suc, ◌+◌, Bool, true, false, List, [], ◌∷◌, ◌++◌, length, map, refl, ap, sym, ◌∙◌, subst, arith}
 use Rattle.std.proofs.lemmas.List.{map-append}
-use Rattle.std.specs.Prelude.{pos, Option, Some, None, ◌==◌, not, ◌&&◌, ◌||◌, nat_lt, drop, codes, slice_get, slice_set}
+use Rattle.std.specs.Prelude.{pos, Option, Some, None, ◌==◌, not, ◌||◌, nat_lt, drop, codes, slice_get, slice_set}
 use Rattle.std.specs.List.{list_any}
 use Rattle.text_model.specs.Characters.{Ch}
 use Rattle.text_model.specs.Decoding.{characters, all_characters}
@@ -24,8 +24,9 @@ use Rattle.plain_machine.specs.Step.{step, item_step}
 use Rattle.plain_machine.specs.Forms.{dropped, restored, evaluate, do_form, block, give, kept_reply, commit_change, at_kept, saved_of, popped, bracket, says, current, after_commit, call_with, when_eq}
 use Rattle.plain_machine.specs.Handling.{mark_of_process, second, sentinel_words, plain_text, enter, text_of, body_of, default_handler, put_in, output_in, process_buffer_of, native, left_state, ended_handler, without_hooks_item, named_body, native_next}
 use Rattle.plain_machine.specs.Waits.{ask_process, asked_more, read_answer, end_answer, drain, is_room, entry_of, counts, more_characters, ends, exit_text, is_eligible, target_is_eligible, from_eligible, eligible, delete, kill_answer, kill_at_end, finish, wait, ask_if, ask_next, delete_one, delete_running, hear, is_eligible_one, kill_live, wait_case, finish_one, finish_running}
-use Rattle.machine_laws.proofs.Keeping.{Core, core, cores, change_keeps, step_keeps}
+use Rattle.machine_laws.proofs.Keeping.{Core, core, cores, change_cores, step_keeps}
 use Rattle.machine_laws.proofs.Moves.{IsHook, Plain, AllPlain, Valid, Silent, Nobody, Output, coming, output_of, Working, phase, IsIdle, IsNew, IsLast, Still, Ends, Moves, rests, enters, spawns, hears, drains, dies, closes, passes, kills, dumps}
+use Rattle.machine_laws.proofs.Basics.{and_left, or_nil}
 
 -- what is to be shown of a step of an item that enters nobody
 abbrev Does : State → Step → Type 0
@@ -149,7 +150,7 @@ eof_does s target rest p true r = ((tt, r), tt)
 eof_does s target rest p false r = go
   where
     go : (answer : Answer) (n : Next) → closed_answer s target rest p answer ≡ Some n → Moves (cores s) Nobody Working (record { ask = Close (child_of s p); answer = answer } ∷ []) n.said (cores n.config.state) (coming n.config.work) (phase n.config.work) × Valid n.config.work
-    go Closed n e = resting s (Close (child_of s p)) Closed _ n tt (refl, λ c. refl) (tt, r) tt (change_keeps p with_input_closed (record s { asked = s.asked + 1 }) (λ y. refl)) e
+    go Closed n e = resting s (Close (child_of s p)) Closed _ n tt (refl, λ c. refl) (tt, r) tt (change_cores p with_input_closed (record s { asked = s.asked + 1 }) (λ y. refl)) e
     go _ n e = cc
 
 send_does : (s : State) (target : Target) (rest : List Item) (child : ℕ) (bytes : List ℕ) → AllPlain rest → Does s (send s target rest child bytes)
@@ -259,10 +260,6 @@ native_does program s i args past rest r = go (nat_lt (length past) 256) (progra
     go true (Some c) = callable_does s (Called i args past ∷ rest) (Rattle.plain_machine.specs.Natives.is_callable program s c) c.0 (map Rattle.plain_machine.specs.Natives.normal c.1) Fault.WrongType (tt, r)
 
 -- WAITS AND ENDS
-or_nil : (a : Bool) → (a || false) ≡ a
-or_nil true = refl
-or_nil false = refl
-
 coming_of_text : (text : List Ch) → text ≡ map (λ c. c.0) (text_of text)
 coming_of_text [] = refl
 coming_of_text (c ∷ text) = ap (λ cs. c ∷ cs) (coming_of_text text)
@@ -372,17 +369,13 @@ module _ (s : State) (target : Target) (rest : List Item) (r : AllPlain rest) wh
       go (Some x) e = by_status x e x.status refl
 
 -- who is asked runs
-and_left : (a b : Bool) → (a && b) ≡ true → a ≡ true
-and_left true b h = refl
-and_left false b h = cc
-
 fit_runs : (s : State) (w : Waiting) (p : ℕ) (x : Process) → is_eligible s w p ≡ true → process s p ≡ Some x → runs x.status ≡ true
 fit_runs s w p x h e =
     let k : (o : Option Process) → o ≡ Some x → (is_eligible_one w p o) ≡ true → runs x.status ≡ true =
     λ o e h. and_left (runs x.status) _ (subst (λ o. (is_eligible_one w p o) ≡ true) e h) in
     k (process s p) e h
 
-first_fit : (s : State) (w : Waiting) (asking : List ℕ) (p : ℕ) (more : List ℕ) → from_eligible s w asking ≡ p ∷ more → is_eligible s w p ≡ true
+pub first_fit : (s : State) (w : Waiting) (asking : List ℕ) (p : ℕ) (more : List ℕ) → from_eligible s w asking ≡ p ∷ more → is_eligible s w p ≡ true
 first_fit s w [] p more e = cc
 first_fit s w (q ∷ asking) p more e = go (is_eligible s w q) (first_fit s w asking p more) refl e
   where
@@ -496,7 +489,7 @@ shown program bound s (item ∷ rest) v = from_does (record { state = s; work = 
 pub goes_moves : (program : Program) (bound : ℕ) (c : Config) (n : Next) → Valid c.work → step program bound c ≡ Goes n → Made c [] n
 goes_moves program bound c n v e =
     let h : Shown c (Goes n) = subst (λ t. Shown c t) e (shown program bound c.state c.work v) in
-    h (subst (λ t. Rattle.machine_laws.proofs.Keeping.Keeps c.state t) e (step_keeps program bound c))
+    h (ap (λ k. k.0) (subst (λ t. Rattle.machine_laws.proofs.Keeping.Keeps c.state t) e (step_keeps program bound c)))
 
 pub asks_moves : (program : Program) (bound : ℕ) (c : Config) (ask : Ask) (answer : Answer) (next : Answer → Option Next) (n : Next) → Valid c.work → step program bound c ≡ Asks ask next → next answer ≡ Some n → Made c (record { ask = ask; answer = answer } ∷ []) n
 asks_moves program bound c ask answer next n v e k =

@@ -7,7 +7,7 @@ use Rattle.plain_machine.specs.State.{Program}
 use Rattle.plain_machine.specs.Items.{Item, Config, Next, Step, Goes, Asks, Ended}
 use Rattle.plain_machine.specs.Step.{step}
 use Rattle.plain_machine.specs.Run.{IsCut, same_ask, met, taken, run}
-use Rattle.machine_laws.specs.Laws.{RunStops}
+use Rattle.machine_laws.specs.OneRun.{RunStops}
 use Rattle.machine_laws.proofs.Keeping.{core, cores, Keeps, step_keeps}
 use Rattle.machine_laws.proofs.Weights.{Below, first, weight}
 use Rattle.machine_laws.proofs.Falling.{Falls, item_falls}
@@ -22,9 +22,9 @@ module _ (program : Program) (bound : ℕ) where
   Count c (Asks ask next) = Unit {0}
   Count c Ended = Unit {0}
 
-  same_count : (c : Config) (x : Next) → step program bound c ≡ Goes x → length x.config.state.processes ≡ length c.state.processes
+  pub same_count : (c : Config) (x : Next) → step program bound c ≡ Goes x → length x.config.state.processes ≡ length c.state.processes
   same_count c x e =
-      let k : cores x.config.state ≡ cores c.state = subst (λ t. Keeps c.state t) e (step_keeps program bound c) in
+      let k : cores x.config.state ≡ cores c.state = ap (λ k. k.0) (subst (λ t. Keeps c.state t) e (step_keeps program bound c)) in
       sym (length-map x.config.state.processes core) ∙ (ap length k ∙ length-map c.state.processes core)
 
   -- each step that asks nothing makes it lighter

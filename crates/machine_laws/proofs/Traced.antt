@@ -1,5 +1,5 @@
 -- What each of those moves keeps: what is known of each process is told by the exchanges and by the lines so far.
-use Rattle.std.proofs.Common.{◌≡◌, ℕ, zero, suc, Bool, true, false, List, [], ◌∷◌, ◌++◌, length, map, refl, ap, sym, ◌∙◌, subst, arith, append_assoc}
+use Rattle.std.proofs.Common.{◌≡◌, ℕ, zero, suc, Bool, true, false, List, [], ◌∷◌, ◌++◌, length, map, refl, ap, sym, ◌∙◌, subst, append_assoc}
 use Rattle.std.proofs.lemmas.List.{append-nil}
 use Rattle.std.proofs.lemmas.Grind.{flat_map-append}
 use Rattle.std.proofs.lemmas.List.Folds.{list_any-append}
@@ -12,29 +12,13 @@ use Rattle.text_model.proofs.Decodings.{open_law}
 use Rattle.plain_machine.specs.Exchanges.{Ask, Read, AskEnd, Answer, Bytes, End, Failed, Exchange}
 use Rattle.plain_machine.specs.Lines.{OfFilter, OfSentinel, Event, Entered}
 use Rattle.plain_machine.specs.Items.{Said}
-use Rattle.machine_laws.specs.Laws.{entered_text, entered, read_bytes, read, is_end, output_ended, is_entry, has_entry}
+use Rattle.machine_laws.specs.Entries.{entered_text, entered, read_bytes, read, is_end, output_ended, is_entry, has_entry}
 use Rattle.plain_machine.specs.Waits.{more_characters}
 use Rattle.machine_laws.proofs.Keeping.{Core}
 use Rattle.machine_laws.proofs.Moves.{IsQuiet, Silent, Coming, Nobody, Output, Sentinel, output_of, IsIdle, Idle, IsNew, fresh, EntryOf, IsLast, Moves, rests, enters, spawns, hears, drains, dies, Phase, closes, passes, kills, dumps}
+use Rattle.machine_laws.proofs.Basics.{get_more, is_same, or_nil, or_right, other_is, same_is, set_other, set_same}
 
 -- SMALL THINGS
-pub same_is : (a b : ℕ) → (a == b) ≡ true → a ≡ b
-same_is a b h = grind arith
-
-pub is_same : (a b : ℕ) → a ≡ b → (a == b) ≡ true
-is_same a b h = grind arith
-
-pub other_is : (a b : ℕ) → (a ≡ b → ⊥) → (a == b) ≡ false
-other_is a b h = go (a == b) refl
-  where
-    go : (v : Bool) → (a == b) ≡ v → v ≡ false
-    go true e = absurd (h (same_is a b e))
-    go false e = refl
-
-pub or_right : (a b : Bool) → b ≡ true → (a || b) ≡ true
-or_right true b h = refl
-or_right false b h = h
-
 or_false : (a b : Bool) → (a || b) ≡ false → (a ≡ false) × (b ≡ false)
 or_false true b h = cc
 or_false false b h = (refl, h)
@@ -44,28 +28,7 @@ or_two true b = refl
 or_two false true = refl
 or_two false false = refl
 
-pub or_nil : (a : Bool) → (a || false) ≡ a
-or_nil true = refl
-or_nil false = refl
-
 -- LISTS OF WHAT IS KNOWN
-pub get_set_here : (cs : List Core) (p : ℕ) (x y : Core) → slice_get cs p ≡ Some x → slice_get (slice_set cs p y) p ≡ Some y
-get_set_here [] p x y e = cc
-get_set_here (c ∷ cs) zero x y e = refl
-get_set_here (c ∷ cs) (suc p) x y e = get_set_here cs p x y e
-
-pub get_set_away : (cs : List Core) (p q : ℕ) (y : Core) → (q ≡ p → ⊥) → slice_get (slice_set cs p y) q ≡ slice_get cs q
-get_set_away [] p q y h = refl
-get_set_away (c ∷ cs) zero zero y h = absurd (h refl)
-get_set_away (c ∷ cs) zero (suc q) y h = refl
-get_set_away (c ∷ cs) (suc p) zero y h = refl
-get_set_away (c ∷ cs) (suc p) (suc q) y h = get_set_away cs p q y (λ e. h (ap suc e))
-
-pub get_more : (cs : List Core) (c : Core) (p : ℕ) (x : Core) → slice_get cs p ≡ Some x → slice_get (cs ++ c ∷ []) p ≡ Some x
-get_more [] c p x e = cc
-get_more (d ∷ cs) c zero x e = e
-get_more (d ∷ cs) c (suc p) x e = get_more cs c p x e
-
 -- where it stands in a list that is longer by one
 pub data Stands (cs : List Core) (c : Core) (p : ℕ) (x : Core) : Type 0 where
   within : slice_get cs p ≡ Some x → Stands cs c p x
@@ -304,20 +267,20 @@ module _ (xs ys : List Exchange) (said : List Said) (cs : List Core) (p : ℕ) (
       go : (b : Bool) → (q == p) ≡ b → Placed cs p x' q y
       go true e =
           let s : q ≡ p = same_is q p e in
-          let k : Some x' ≡ Some y = sym (get_set_here cs p x x' g) ∙ (ap (λ q. slice_get (slice_set cs p x') q) (sym s) ∙ h) in
+          let k : Some x' ≡ Some y = sym (set_same cs p x' x g) ∙ (ap (λ q. slice_get (slice_set cs p x') q) (sym s) ∙ h) in
           here s (let m : x' ≡ y = cc in sym m)
       go false e =
           let n : q ≡ p → ⊥ = λ s. let k : true ≡ false = sym (is_same q p s) ∙ e in cc in
-          away n (sym (get_set_away cs p q x' n) ∙ h)
+          away n (sym (set_other cs p q x' n) ∙ h)
 
   still_absent : (q : ℕ) → slice_get (slice_set cs p x') q ≡ None → slice_get cs q ≡ None
   still_absent q h =
-      let n : q ≡ p → ⊥ = λ s. let k : Some x' ≡ None = sym (get_set_here cs p x x' g) ∙ (ap (λ q. slice_get (slice_set cs p x') q) (sym s) ∙ h) in cc in
-      sym (get_set_away cs p q x' n) ∙ h
+      let n : q ≡ p → ⊥ = λ s. let k : Some x' ≡ None = sym (set_same cs p x' x g) ∙ (ap (λ q. slice_get (slice_set cs p x') q) (sym s) ∙ h) in cc in
+      sym (set_other cs p q x' n) ∙ h
 
   pub still_new : (c : ℕ) → x'.child ≡ x.child → IsNew c (slice_set cs p x') → IsNew c cs × (x.child ≡ c → ⊥)
   still_new c same n =
-      let own : x.child ≡ c → ⊥ = λ e. n p x' (get_set_here cs p x x' g) (same ∙ e) in
+      let own : x.child ≡ c → ⊥ = λ e. n p x' (set_same cs p x' x g) (same ∙ e) in
       (λ q y h e. found q y h e (q == p) own refl, own)
     where
       found : (q : ℕ) (y : Core) → slice_get cs q ≡ Some y → y.child ≡ c → (b : Bool) → (x.child ≡ c → ⊥) → (q == p) ≡ b → ⊥
@@ -328,7 +291,7 @@ module _ (xs ys : List Exchange) (said : List Said) (cs : List Core) (p : ℕ) (
           own (ap (λ (c : Core). c.child) m ∙ e)
       found q y h e false own k =
           let away : q ≡ p → ⊥ = λ s. let l : true ≡ false = sym (is_same q p s) ∙ k in cc in
-          n q y (get_set_away cs p q x' away ∙ h) e
+          n q y (set_other cs p q x' away ∙ h) e
 
   set_traced : (f : Coming) → Traced xs said cs Nobody → x'.child ≡ x.child →
       ((c : ℕ) → (x.child ≡ c → ⊥) → (read c (xs ++ ys) ≡ read c xs) × (output_ended c (xs ++ ys) ≡ output_ended c xs)) →
@@ -409,7 +372,7 @@ hears_traced xs said cs p x bytes t g live undrained =
       text = (λ i. before i ++ own_text p text i) ∙ (grown (characters x.bytes) (characters (x.bytes ++ bytes)) (characters (tail x.bytes ++ bytes)) (open_law x.bytes bytes) ∙ ap (λ b. if b then all_characters (x.bytes ++ bytes) else characters (x.bytes ++ bytes)) (sym undrained));
       ended = ap (λ b. has_entry true p said || b) (no_end p p text) ∙ h.ended;
     })
-    (output_expected said (slice_set cs p x') p x' text (get_set_here cs p x x' g) live)
+    (output_expected said (slice_set cs p x') p x' text (set_same cs p x' x g) live)
     (ends_more [] xs (record { ask = Read x.child; answer = Bytes bytes }) t.ends (λ c k. cc))
 
 drains_traced : (xs : List Exchange) (said : List Said) (cs : List Core) (p : ℕ) (x : Core) (answer : Answer) → IsLast answer → Traced xs said cs Nobody → slice_get cs p ≡ Some x → x.live ≡ true → x.drained ≡ false →
@@ -430,7 +393,7 @@ drains_traced xs said cs p x answer last t g live undrained =
       text = (λ i. before i ++ own_text p text i) ∙ grown (characters x.bytes) (all_characters x.bytes) (map Raw (tail x.bytes)) refl;
       ended = ap (λ b. has_entry true p said || b) (no_end p p text) ∙ h.ended;
     })
-    (output_expected said (slice_set cs p x') p x' text (get_set_here cs p x x' g) live)
+    (output_expected said (slice_set cs p x') p x' text (set_same cs p x' x g) live)
     (ends_more [] xs (record { ask = Read x.child; answer = answer }) t.ends (λ c k. cc))
 
 dies_traced : (xs ys : List Exchange) (said : List Said) (cs : List Core) (p : ℕ) (x : Core) → Traced xs said cs Nobody → Idle cs ys → slice_get cs p ≡ Some x → x.live ≡ true → Traced (xs ++ ys) said (slice_set cs p (record x { live = false })) (Sentinel p)
@@ -442,7 +405,7 @@ dies_traced xs ys said cs p x t i g live =
     (λ c n. idle_reads cs xs ys i c)
     (λ q n. (refl, other_is p q (λ e. n (sym e))))
     (record { bytes = h.bytes ∙ sym r.0; drained = h.drained ∙ sym r.1; text = h.text; ended = or_right (has_entry true p said) (p == p) (is_same p p refl) })
-    (x', get_set_here cs p x x' g, sym (or_nil (has_entry true p said)) ∙ (h.ended ∙ ap not live))
+    (x', set_same cs p x' x g, sym (or_nil (has_entry true p said)) ∙ (h.ended ∙ ap not live))
     (ends_idle xs ys said cs Nobody t i)
 
 -- ANY MOVE

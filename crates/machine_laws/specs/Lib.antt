@@ -1,5 +1,11 @@
+pub mod OneRun
+pub mod Entries
+pub mod Children
+pub mod Nesting
+pub mod Boundaries
+pub mod UndoneRuns
+pub mod Refusals
 pub mod Good
 pub mod Fits
 pub mod GoodEditor
-pub mod Laws
 pub mod GoodConfig

@@ -1,58 +1,51 @@
-//! Laws of the plain editor machine, over all its runs.
+//! Laws of the plain editor machine, over all its runs: what a reader can believe of it without running it.
+//!
+//! Each law is the contract of a function with an empty body. It is stated in `specs/`, in the file of its subject, and
+//! proved in `proofs/`. The laws are about the definitions alone, whatever the script, the natives and the nesting bound
+//! are, and whatever the exchanges with the outside were. They are told in this order: there is one run, and it stops;
+//! what children can do to it; what filters and sentinels are entered with; what undo gives back; what a refusal leaves.
 #![tactic(auto)]
 
-ghost use Rattle.std.specs.Prelude.{◌≡◌, [], ◌∷◌, ◌++◌, List, ℕ, true, ◌+◌, ◌≤◌, length};
-ghost use Rattle.text_model.specs.Properties.{Cell, splice};
-ghost use Rattle.text_model.specs.Undo.{newer_than, rewind};
-ghost use Rattle.text_model.specs.Commit.{Buffer};
+ghost use Rattle.std.specs.Prelude.{◌≡◌, ◌++◌, List, ℕ, ◌+◌, ◌≤◌, [], length};
+ghost use Rattle.text_model.specs.Properties.{Cell, part, splice};
+ghost use Rattle.editor_model.specs.Editor.{empty_buffer};
 ghost use Rattle.editor_model.specs.Values.{Script};
-ghost use Rattle.plain_machine.specs.State.{Program};
 ghost use Rattle.plain_machine.specs.Items.{Config};
 ghost use Rattle.plain_machine.specs.Run.{start};
-ghost use Rattle.text_model.specs.Undo.{boundary_at};
-ghost use Rattle.machine_laws.specs.Good.{Good, Passes};
-ghost use Rattle.machine_laws.specs.Laws.{Entries, EntriesOfChildren, Sentinels, EndsAfterOutput, KillsLeft, KillsOnce, FewExchanges, Shallow, SameDeeper, RunStops, UndoReturns, RanEntries, BrokenEntries};
+ghost use Rattle.plain_machine.specs.State.{Program};
+ghost use Rattle.machine_laws.specs.Boundaries.{BoundaryKeeps, RecordingKeeps, ReplacingKeeps, ResettingKeeps, UndoingKeeps};
+ghost use Rattle.machine_laws.specs.Children.{FewExchanges, FewInAll, KillsLeft, KillsOnce};
+ghost use Rattle.machine_laws.specs.Entries.{BrokenEntries, EndsAfterOutput, Entries, EntriesOfChildren, RanEntries, Sentinels, SentinelsAfterOutput};
+ghost use Rattle.machine_laws.specs.Good.{Good};
+ghost use Rattle.machine_laws.specs.Nesting.{SameDeeper, Shallow};
+ghost use Rattle.machine_laws.specs.OneRun.{ComputedRuns, OneEnd, OneRun, RunStops, RunsAreComputed};
+ghost use Rattle.machine_laws.specs.Refusals.{RefusalsLeave};
+ghost use Rattle.machine_laws.specs.UndoneRuns.{UndoReturns};
 
-/// Recording an insertion keeps what rewinding to a boundary gives.
-#[tactic(auto, using(crate::proofs::Undoing::inserted_out_law))]
-pub fn insertions_are_taken_out()
-    ensures { (place : ℕ) (piece text : List Cell) → place ≤ length text → splice place (place + length piece) [] (splice place place piece text) ≡ text }
+// ONE RUN
+
+/// Of two runs over the same exchanges one goes on where the other stands; over more exchanges the longer one goes on.
+#[tactic(auto, using(crate::proofs::OneRun::one_run))]
+pub fn one_run_over_the_same_exchanges()
+    ensures { (program : Program) (bound : ℕ) (from : Config) → OneRun program bound from }
 {}
 
-/// Where a boundary stands before a change of a buffer and after it, what is newer rewinds to the same text.
-#[tactic(auto, using(crate::proofs::OneBuffer::same_text))]
-pub fn boundaries_keep_their_texts()
-    ensures { (b c : Buffer) (serial : ℕ) → Good b → Passes b c → boundary_at serial b.undo.entries ≡ true → boundary_at serial c.undo.entries ≡ true → rewind (newer_than serial c.undo.entries) c.text ≡ rewind (newer_than serial b.undo.entries) b.text }
+/// Two runs that have ended over the same exchanges wrote the same and came to the same state.
+#[tactic(auto, using(crate::proofs::OneRun::one_end))]
+pub fn one_end_over_the_same_exchanges()
+    ensures { (program : Program) (bound : ℕ) (from : Config) → OneEnd program bound from }
 {}
 
-/// What the filters of a process were entered with is the decoding of what was read from it.
-#[tactic(auto, using(crate::proofs::Heard::entries))]
-pub fn entries_hold()
-    ensures { (program : Program) (bound : ℕ) (script : Script) → Entries program bound (start script) }
+/// What the computing run gives is a run, over the exchanges that it used.
+#[tactic(auto, using(crate::proofs::Computing::computed_runs))]
+pub fn computed_runs_are_runs()
+    ensures { (program : Program) (bound : ℕ) (from : Config) → ComputedRuns program bound from }
 {}
 
-/// The same by the exchanges and the lines alone.
-#[tactic(auto, using(crate::proofs::Alive::entries_of_children))]
-pub fn entries_of_children_hold()
-    ensures { (program : Program) (bound : ℕ) (script : Script) → EntriesOfChildren program bound (start script) }
-{}
-
-/// Each process has at most one sentinel entry, and no filter entry after it.
-#[tactic(auto, using(crate::proofs::Heard::sentinels))]
-pub fn sentinels_hold()
-    ensures { (program : Program) (bound : ℕ) (script : Script) → Sentinels program bound (start script) }
-{}
-
-/// The end of a child is asked after the end of its output.
-#[tactic(auto, using(crate::proofs::Heard::ends_after_output))]
-pub fn ends_come_after_output()
-    ensures { (program : Program) (bound : ℕ) (script : Script) → EndsAfterOutput program bound (start script) }
-{}
-
-/// The children that live by the exchanges are those of the processes that run, but for those killed at the end.
-#[tactic(auto, using(crate::proofs::Alive::kills_left))]
-pub fn kills_are_left()
-    ensures { (program : Program) (bound : ℕ) (script : Script) → KillsLeft program bound (start script) }
+/// A run that has ended is what the computing run gives, with enough steps.
+#[tactic(auto, using(crate::proofs::Computing::runs_are_computed))]
+pub fn runs_are_computed()
+    ensures { (program : Program) (bound : ℕ) (from : Config) → RunsAreComputed program bound from }
 {}
 
 /// Over each list of exchanges the run ends, waits for one more or is off after finitely many steps, from any configuration.
@@ -61,11 +54,7 @@ pub fn runs_stop()
     ensures { (program : Program) (bound : ℕ) (from : Config) → RunStops program bound from }
 {}
 
-/// A run in which nothing is refused for want of depth is the same under any larger bound.
-#[tactic(auto, using(crate::proofs::Deeper::same_deeper))]
-pub fn same_under_a_larger_bound()
-    ensures { (program : Program) (bound deeper : ℕ) (from : Config) → SameDeeper program bound deeper from }
-{}
+// NESTING, CHILDREN
 
 /// Handlers nest no deeper than one level more than the bound.
 #[tactic(auto, using(crate::proofs::Depth::shallow))]
@@ -73,10 +62,10 @@ pub fn handlers_stay_shallow()
     ensures { (program : Program) (bound : ℕ) (script : Script) → Shallow program bound (start script) }
 {}
 
-/// A child that is asked to be killed was started, has not ended, and was not asked so before.
-#[tactic(auto, using(crate::proofs::Killing::kills_once))]
-pub fn kills_come_once()
-    ensures { (program : Program) (bound : ℕ) (script : Script) → KillsOnce program bound (start script) }
+/// A run in which nothing is refused for want of depth is the same under any larger bound.
+#[tactic(auto, using(crate::proofs::Deeper::same_deeper))]
+pub fn same_under_a_larger_bound()
+    ensures { (program : Program) (bound deeper : ℕ) (from : Config) → SameDeeper program bound deeper from }
 {}
 
 /// No more than 65,536 exchanges are made, but for kills.
@@ -85,19 +74,122 @@ pub fn exchanges_stay_few()
     ensures { (program : Program) (bound : ℕ) (script : Script) → FewExchanges program bound (start script) }
 {}
 
-/// Of a whole run the filters were entered with what was read, decoded.
-#[tactic(auto, using(crate::proofs::Alive::ran_entries))]
-pub fn whole_runs_enter_all()
+/// In all no more than 65,792 exchanges are made: the kills are no more than the processes that may be.
+pub fn exchanges_stay_few_in_all()
+    ensures { (program : Program) (bound : ℕ) (script : Script) → FewInAll program bound (start script) }
+{}
+
+/// A child that is asked to be killed was started, has not ended, and was not asked so before.
+pub fn kills_come_once()
+    ensures { (program : Program) (bound : ℕ) (script : Script) → KillsOnce program bound (start script) }
+{}
+
+/// The children that live by the exchanges are those of the processes that run, but for those killed at the end.
+#[tactic(auto, using(crate::proofs::Alive::kills_left))]
+pub fn kills_are_left()
+    ensures { (program : Program) (bound : ℕ) (script : Script) → KillsLeft program bound (start script) }
+{}
+
+// WHAT IS HEARD OF A PROCESS
+
+/// What the filters of a process were entered with is the decoding of what was read from it: nothing is lost, doubled or
+/// out of order, whatever handlers do in between.
+#[tactic(auto, using(crate::proofs::Heard::entries))]
+pub fn filters_hear_what_was_read()
+    ensures { (program : Program) (bound : ℕ) (script : Script) → Entries program bound (start script) }
+{}
+
+/// The same by the exchanges and the lines alone.
+#[tactic(auto, using(crate::proofs::Alive::entries_of_children))]
+pub fn filters_hear_what_children_wrote()
+    ensures { (program : Program) (bound : ℕ) (script : Script) → EntriesOfChildren program bound (start script) }
+{}
+
+/// The same of a whole run: of the entries whose lines it wrote.
+pub fn whole_runs_hear_all()
     ensures { (program : Program) (bound : ℕ) (script : Script) → RanEntries program bound script }
 {}
 
 /// The same of a run that was broken off.
-#[tactic(auto, using(crate::proofs::Alive::broken_entries))]
-pub fn broken_runs_enter_all()
+pub fn broken_runs_hear_all()
     ensures { (program : Program) (bound : ℕ) (script : Script) → BrokenEntries program bound script }
 {}
 
-//// In every run of every script: undoing back to a boundary gives the text of the moment at which it was pushed.
+/// The end of a child is asked after the end of its output.
+#[tactic(auto, using(crate::proofs::Heard::ends_after_output))]
+pub fn ends_are_asked_after_output()
+    ensures { (program : Program) (bound : ℕ) (script : Script) → EndsAfterOutput program bound (start script) }
+{}
+
+/// Each process has at most one sentinel entry, and no filter entry after it.
+pub fn sentinels_come_last()
+    ensures { (program : Program) (bound : ℕ) (script : Script) → Sentinels program bound (start script) }
+{}
+
+/// A process whose sentinel was entered runs no more: its child was killed, or its output was read to its end.
+pub fn sentinels_come_after_output()
+    ensures { (program : Program) (bound : ℕ) (script : Script) → SentinelsAfterOutput program bound (start script) }
+{}
+
+// UNDO
+
+/// An insertion taken out again leaves the text as it was.
+#[tactic(auto, using(crate::proofs::Undoing::inserted_out_law))]
+pub fn insertions_are_taken_out()
+    ensures { (place : ℕ) (piece text : List Cell) → place ≤ length text → splice place (place + length piece) [] (splice place place piece text) ≡ text }
+{}
+
+/// A deletion put back again leaves the text as it was, with its properties.
+#[tactic(auto, using(crate::proofs::Undoing::deleted_back_law))]
+pub fn deletions_are_put_back()
+    ensures { (from to : ℕ) (text : List Cell) → from ≤ to → to ≤ length text → splice from from (part from to text) (splice from to [] text) ≡ text }
+{}
+
+/// A new buffer is as the laws of one buffer want it.
+#[tactic(auto, using(crate::proofs::Boundaries::new_buffer_is_good))]
+pub fn new_buffers_are_good()
+    ensures { Good empty_buffer }
+{}
+
+/// A piece put in, or a part taken out, keeps the text that undoing back to a boundary would give.
+#[tactic(auto, using(crate::proofs::Boundaries::replacing_keeps))]
+pub fn replacing_keeps_boundaries()
+    ensures { ReplacingKeeps }
+{}
+
+/// So does a change of properties.
+#[tactic(auto, using(crate::proofs::Boundaries::resetting_keeps))]
+pub fn changing_properties_keeps_boundaries()
+    ensures { ResettingKeeps }
+{}
+
+/// So does undoing itself.
+#[tactic(auto, using(crate::proofs::Boundaries::undoing_keeps))]
+pub fn undoing_keeps_boundaries()
+    ensures { UndoingKeeps }
+{}
+
+/// So does a boundary that is pushed, and nothing is newer than that one.
+pub fn nothing_is_newer_than_a_new_boundary()
+    ensures { BoundaryKeeps }
+{}
+
+/// So do undoing begun anew, and recording switched off and on.
+#[tactic(auto, using(crate::proofs::Boundaries::recording_keeps))]
+pub fn recording_keeps_boundaries()
+    ensures { RecordingKeeps }
+{}
+
+/// In every run of every script: undoing back to a boundary that is still kept gives the text of the moment at which it was
+/// pushed, with its properties, by however many calls.
 pub fn undo_returns()
     ensures { (program : Program) (bound : ℕ) (script : Script) → UndoReturns program bound (start script) }
+{}
+
+// REFUSALS
+
+/// A call that is refused leaves the state as it was, but for what exchanges left and for what handlers did that ran in it.
+#[tactic(auto, using(crate::proofs::Refusing::refusals_leave))]
+pub fn refusals_leave_the_state()
+    ensures { (program : Program) (bound : ℕ) → RefusalsLeave program bound }
 {}

@@ -1,7 +1,7 @@
 -- Worked rows: change hooks.
 use Rattle.std.specs.Prelude.{ℕ, [], ◌∷◌, codes}
-use Rattle.editor_model.specs.Values.{list, Name, Prim}
-use Rattle.worked_rows.specs.Row.{Row, row, script, call, set, handler, number, string, symbol, nil, t, text, before_change_functions, after_change_functions, refused, killed}
+use Rattle.editor_model.specs.Values.{Name, Prim}
+use Rattle.worked_rows.specs.Row.{Row, row, script, call, set, handler, number, string, symbol, before_change_functions, after_change_functions}
 
 -- A hook function edits the buffer before the change; its ends move along.
 --     (defhandler h (b e) (delete-region 1 2))

@@ -1,8 +1,8 @@
 -- Worked rows: handlers that are not written in the script.
-use Rattle.std.specs.Prelude.{ℕ, ◌+◌, pos, List, [], ◌∷◌, ◌++◌, codes, replicate, Some, Option}
+use Rattle.std.specs.Prelude.{ℕ, pos, List, [], ◌∷◌, ◌++◌, codes, replicate, Some, Option}
 use Rattle.text_model.specs.Properties.{Symbol}
-use Rattle.editor_model.specs.Values.{Value, T, Int, Sym, Str, list, Name, Prim}
-use Rattle.worked_rows.specs.Row.{Row, shipped_row, script, call, set, string, symbol, nil, t, text, before_change_functions, spawned, reads, output_ends, exits, killed}
+use Rattle.editor_model.specs.Values.{Value, T, Int, Sym, Str, Name, Prim}
+use Rattle.worked_rows.specs.Row.{Row, shipped_row, script, call, set, string, symbol, nil, text, before_change_functions, spawned, reads, output_ends, exits, killed}
 use Rattle.std.specs.Prelude.{slice_get, length}
 use Rattle.text_model.specs.Characters.{Scalar}
 use Rattle.editor_model.specs.Values.{Reply, Items, End, More, TheBuffer, TheMarker, TheOverlay, TheProcess}

@@ -2,7 +2,7 @@
 use Rattle.std.specs.Prelude.{ℕ, [], ◌∷◌, codes}
 use Rattle.text_model.specs.Properties.{Symbol}
 use Rattle.editor_model.specs.Values.{Str, Name, Prim}
-use Rattle.worked_rows.specs.Row.{Row, row, script, call, set, number, string, symbol, quoted, nil, t, text, plain, with_set, evaporate, priority}
+use Rattle.worked_rows.specs.Row.{Row, row, script, call, set, number, string, symbol, quoted, nil, t, with_set, evaporate, priority}
 
 -- An insertion before markers moves the ends of overlays.
 --     (insert "abcd")(make-overlay 1 3)(make-overlay 3 5)(goto-char 3)(insert-before-markers "xy")

@@ -1,7 +1,7 @@
 -- Worked rows: processes and their default handlers.
 use Rattle.std.specs.Prelude.{ℕ, ◌+◌, List, [], ◌∷◌, ◌++◌, codes, replicate, map}
 use Rattle.editor_model.specs.Values.{Value, Str, Name, Prim}
-use Rattle.worked_rows.specs.Row.{Row, row, script, call, set, handler, number, string, symbol, nil, t, text, spawned, refused, reads, output_ends, read_fails, exits, end_fails, killed, kill_fails}
+use Rattle.worked_rows.specs.Row.{Row, row, script, call, set, handler, number, string, symbol, nil, t, spawned, refused, reads, output_ends, read_fails, exits, end_fails, killed, kill_fails}
 use Rattle.text_model.specs.Characters.{Ch, Scalar}
 use Rattle.plain_machine.specs.Exchanges.{Exchange}
 use Rattle.plain_machine.specs.Lines.{Entered, OfFilter}

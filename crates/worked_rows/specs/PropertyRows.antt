@@ -1,8 +1,8 @@
 -- Worked rows: text properties and what an insertion inherits.
-use Rattle.std.specs.Prelude.{ℕ, ◌+◌, [], ◌∷◌, ◌++◌, codes}
+use Rattle.std.specs.Prelude.{ℕ, [], ◌∷◌, ◌++◌, codes}
 use Rattle.text_model.specs.Properties.{Truth, Symbol, Symbols}
 use Rattle.editor_model.specs.Values.{Sym, Str, list, Prim}
-use Rattle.worked_rows.specs.Row.{Row, row, script, call, number, string, symbol, quoted, nil, t, text, plain, with_set, front_sticky, rear_nonsticky}
+use Rattle.worked_rows.specs.Row.{Row, row, script, call, number, string, symbol, quoted, plain, with_set, front_sticky, rear_nonsticky}
 
 -- What an inserted character takes from its neighbours.
 --     (insert #("ab" 0 1 (face bold rear-nonsticky (face)) 1 2 (face italic front-sticky t)))

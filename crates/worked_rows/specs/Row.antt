@@ -1,8 +1,8 @@
 -- How a worked row is written: a script, its exchanges, and the lines that it has to write.
-use Rattle.std.specs.Prelude.{◌≡◌, ℕ, zero, suc, ℤ, pos, neg_ℤ, List, [], ◌∷◌, ◌++◌, map, flat_map, replicate, codes, Option, None}
+use Rattle.std.specs.Prelude.{◌≡◌, ℕ, zero, suc, pos, List, [], ◌∷◌, ◌++◌, map, flat_map, Option, None}
 use Rattle.text_model.specs.Characters.{Scalar}
 use Rattle.text_model.specs.Properties.{Cell, PropSet}
-use Rattle.editor_model.specs.Values.{Value, Nil, T, Int, Sym, Str, Form, Forms, Do, Setq, Then, NoForms, Call, Arg, Const, HandlerDef, Prim, Reply, Script}
+use Rattle.editor_model.specs.Values.{Value, Nil, T, Int, Sym, Str, Form, Forms, Do, Setq, Then, NoForms, Arg, Const, HandlerDef, Prim, Reply, Script}
 use Rattle.plain_machine.specs.Exchanges.{Exchange, Ask, Answer}
 use Rattle.plain_machine.specs.Symbols.{first_symbols, program_of}
 use Rattle.plain_machine.specs.Shipped.{shipped_names, shipped}

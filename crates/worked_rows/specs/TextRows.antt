@@ -1,7 +1,7 @@
 -- Worked rows: texts, markers and blocks.
 use Rattle.std.specs.Prelude.{ℕ, [], ◌∷◌, codes}
-use Rattle.editor_model.specs.Values.{list, In, SaveExcursion, SaveRestriction, Prim}
-use Rattle.worked_rows.specs.Row.{Row, row, script, forms, call, set, number, string, nil, t, text, refused, killed}
+use Rattle.editor_model.specs.Values.{In, SaveExcursion, SaveRestriction, Prim}
+use Rattle.worked_rows.specs.Row.{Row, row, script, forms, call, set, number, string, t}
 
 -- The empty script.
 abbrev pub empty_script : Row

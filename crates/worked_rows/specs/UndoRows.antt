@@ -1,8 +1,8 @@
 -- Worked rows: undo.
 use Rattle.std.specs.Prelude.{ℕ, [], ◌∷◌, codes}
 use Rattle.text_model.specs.Properties.{Symbol}
-use Rattle.editor_model.specs.Values.{Str, list, Prim}
-use Rattle.worked_rows.specs.Row.{Row, row, script, call, set, number, string, symbol, quoted, nil, t, text, with_set, refused}
+use Rattle.editor_model.specs.Values.{Str, Prim}
+use Rattle.worked_rows.specs.Row.{Row, row, script, call, set, number, string, symbol, quoted, with_set}
 
 -- Two groups undone, and then redone by undoing the undoing; properties come back.
 --     (insert "abcd")(undo-boundary)(insert "xy")(put-text-property 1 3 'face 'bold)(delete-region 2 4)(undo-boundary)

@@ -1,7 +1,7 @@
 -- Worked rows: waits and handlers that wait.
 use Rattle.std.specs.Prelude.{ℕ, zero, suc, ◌+◌, List, [], ◌∷◌, ◌++◌, codes, replicate}
 use Rattle.editor_model.specs.Values.{Name, Prim}
-use Rattle.worked_rows.specs.Row.{Row, row, row_at, script, call, set, handler, number, string, symbol, nil, t, text, spawned, refused, reads, reads_nothing, output_ends, exits, killed}
+use Rattle.worked_rows.specs.Row.{Row, row, row_at, script, call, set, handler, number, string, symbol, nil, t, spawned, reads, reads_nothing, output_ends, exits, killed}
 use Rattle.worked_rows.specs.Row.{indented}
 
 -- A filter that waits: what it reads is entered inside it.

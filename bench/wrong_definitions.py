@@ -1,0 +1,198 @@
+#!/usr/bin/env python3
+"""Change the definitions in telling ways, one at a time, and see that the laws of `machine_laws` no longer hold.
+
+    python3 bench/wrong_definitions.py            all of them, a minute each
+    python3 bench/wrong_definitions.py tail       those whose names have this word
+
+Each change is made on a copy of the repository in a temporary folder. The definitions themselves must still check; then the
+laws named with the change must be refused. The table in docs/PROMISES.md tells what each change means.
+"""
+
+import pathlib
+import re
+import shutil
+import subprocess
+import sys
+import tempfile
+
+ROOT = pathlib.Path(__file__).resolve().parent.parent
+ENTRIES = ["filters_hear_what_was_read"]
+
+# name, file, old text, new text, the laws that fail
+CHANGES = [
+    (
+        "tail dropped at the end of the output",
+        "plain_machine/specs/Waits.antt",
+        "(more_characters (characters x.bytes) (all_characters x.bytes))",
+        "(more_characters (characters x.bytes) (characters x.bytes))",
+        ENTRIES,
+    ),
+    (
+        "output entered once more at its end",
+        "plain_machine/specs/Waits.antt",
+        "(more_characters (characters x.bytes) (all_characters x.bytes))",
+        "(all_characters x.bytes)",
+        ENTRIES,
+    ),
+    (
+        "bytes of a read in the place of the earlier ones",
+        "plain_machine/specs/Waits.antt",
+        "(λ y. record y { bytes = x.bytes ++ bytes })",
+        "(λ y. record y { bytes = bytes })",
+        ENTRIES,
+    ),
+    (
+        "end asked before the output has ended",
+        "plain_machine/specs/Waits.antt",
+        "ask_next false s w target rest p x = Asks (Read x.child) (read_answer s w target rest p x)\n"
+        "ask_next true s w target rest p x = Asks (AskEnd x.child) (end_answer s w target rest p x)",
+        "ask_next false s w target rest p x = Asks (AskEnd x.child) (end_answer s w target rest p x)\n"
+        "ask_next true s w target rest p x = Asks (Read x.child) (read_answer s w target rest p x)",
+        ["ends_are_asked_after_output", "sentinels_come_after_output"],
+    ),
+    (
+        "sentinel entered before the tail",
+        "plain_machine/specs/Waits.antt",
+        "(entry_of s p x (more_characters (characters x.bytes) (all_characters x.bytes)) (Wait w target ∷ rest))",
+        "(Enter (OfSentinel p) x.sentinel (TheProcess p ∷ Str [] ∷ [])"
+        " ∷ entry_of s p x (more_characters (characters x.bytes) (all_characters x.bytes)) (Wait w target ∷ rest))",
+        ["sentinels_come_last", "sentinels_come_after_output"],
+    ),
+    (
+        "sentinel of an ended process entered again",
+        "plain_machine/specs/Waits.antt",
+        "delete_running _ s p x rest = on s rest",
+        "delete_running _ s p x rest = on s (Enter (OfSentinel p) x.sentinel (TheProcess p ∷ Str [] ∷ []) ∷ rest)",
+        ["sentinels_come_last"],
+    ),
+    (
+        "ended processes killed at the end",
+        "plain_machine/specs/Waits.antt",
+        "finish_running program _ s p x = on s (Finish (p + 1) ∷ [])",
+        "finish_running program _ s p x = Asks (Kill x.child) (kill_answer (says program s (KilledLast p) s (Finish (p + 1) ∷ [])))",
+        ["kills_come_once", "kills_are_left"],
+    ),
+    (
+        "rounds that don't grow fewer",
+        "plain_machine/specs/Waits.antt",
+        "on s (Wait (record w { rounds = rounds; asking = p ∷ more }) target ∷ rest)",
+        "on s (Wait (record w { rounds = suc rounds; asking = p ∷ more }) target ∷ rest)",
+        ["runs_stop"],
+    ),
+    (
+        "sends not counted",
+        "plain_machine/specs/Calls.antt",
+        "sent_answer s target rest size Sent = Some (silent (record s { asked = s.asked + 1; sent = s.sent + size })",
+        "sent_answer s target rest size Sent = Some (silent (record s { sent = s.sent + size })",
+        ["exchanges_stay_few"],
+    ),
+    (
+        "buffer made although no child was started",
+        "plain_machine/specs/Calls.antt",
+        "spawned s target rest name b Answer.Refused = Some (silent (record s { asked = s.asked + 1 })",
+        "spawned s target rest name b Answer.Refused = Some (silent (record s { editor = with_process_buffer b s.editor; asked = s.asked + 1 })",
+        ["refusals_leave_the_state"],
+    ),
+    (
+        "hooks inside hooks",
+        "plain_machine/specs/Forms.antt",
+        "∷ saved_of s) s) { inhibited = true })\n    (bracket",
+        "∷ saved_of s) s) { inhibited = false })\n    (bracket",
+        ["handlers_stay_shallow", "runs_stop"],
+    ),
+    (
+        "refused commit leaves its kept ends",
+        "plain_machine/specs/Forms.antt",
+        "after_commit new (Failed f) s c rest = on (popped s) (Refuse f ∷ rest)",
+        "after_commit new (Failed f) s c rest = on s (Refuse f ∷ rest)",
+        ["refusals_leave_the_state"],
+    ),
+    (
+        "waits one level deeper than the bound",
+        "plain_machine/specs/Refusals.antt",
+        "must_nest bound s = refuse Nesting (nat_lt s.depth bound)",
+        "must_nest bound s = refuse Nesting (nat_lt s.depth (bound + 1))",
+        ["handlers_stay_shallow"],
+    ),
+    (
+        "refused call keeps its new state",
+        "editor_model/specs/Answers.antt",
+        "applied_of (Some f) old new v = record { editor = old; reply = Refused f }",
+        "applied_of (Some f) old new v = record { editor = new; reply = Refused f }",
+        ["refusals_leave_the_state"],
+    ),
+    (
+        "properties lost when a deletion is undone",
+        "text_model/specs/Commit.antt",
+        "let after : Site = inserted id place piece false false (set_point place site) in",
+        "let after : Site = inserted id place (map (λ c. (c.0, [])) piece) false false (set_point place site) in",
+        ["undoing_keeps_boundaries", "undo_returns"],
+    ),
+    (
+        "insertion merged across a boundary",
+        "text_model/specs/Undo.antt",
+        "in_front (Inserted from to) serial (e ∷ entries) = elim e.what [\n",
+        "in_front (Inserted from to) serial (record { what = Boundary; serial = s } ∷ record { what = Inserted b p; serial = k } ∷ entries) ="
+        " record { what = Boundary; serial = s } ∷ record { what = Inserted b to; serial = k } ∷ entries\n"
+        "in_front (Inserted from to) serial (e ∷ entries) = elim e.what [\n",
+        ["replacing_keeps_boundaries", "undo_returns"],
+    ),
+    (
+        "pending records kept by another change",
+        "text_model/specs/Undo.antt",
+        "without_pending u = record u { pending_below = 0 }",
+        "without_pending u = u",
+        ["replacing_keeps_boundaries", "changing_properties_keeps_boundaries", "undo_returns"],
+    ),
+    (
+        "cut list loses a record in its middle",
+        "text_model/specs/Undo.antt",
+        "if has_boundary entries then e ∷ without_oldest_group entries else []",
+        "if has_boundary entries then without_oldest_group entries else []",
+        ["replacing_keeps_boundaries", "undo_returns"],
+    ),
+]
+
+
+def check(crate):
+    run = subprocess.run(["rt", "check"], cwd=crate, stdout=subprocess.PIPE, stderr=subprocess.STDOUT, text=True)
+    return run.stdout
+
+
+def refused(copy, file, old, new, laws):
+    """The laws of these that are proved all the same, or why the change shows nothing."""
+    path = copy / "crates" / file
+    text = path.read_text()
+    if text.count(old) != 1:
+        return f"the text to change stands {text.count(old)} times in {file}"
+    path.write_text(text.replace(old, new))
+    try:
+        own = check(copy / "crates" / file.split("/")[0])
+        if re.search(r"^\S*specs/.* error:", own, re.M):
+            return "the changed definition doesn't check"
+        log = check(copy / "crates" / "machine_laws")
+        if re.search(r"^\S*specs/.* error:", log, re.M):
+            return "a statement of a law doesn't check"
+        still = [law for law in laws if re.search(rf"^fn machine_laws::{law}: proved", log, re.M)]
+        return "still proved: " + ", ".join(still) if still else None
+    finally:
+        path.write_text(text)
+
+
+def main():
+    words = sys.argv[1:]
+    failed = 0
+    with tempfile.TemporaryDirectory() as folder:
+        copy = pathlib.Path(folder) / "copy"
+        shutil.copytree(ROOT, copy, ignore=shutil.ignore_patterns("out", ".git"))
+        for name, file, old, new, laws in CHANGES:
+            if words and not any(word in name for word in words):
+                continue
+            wrong = refused(copy, file, old, new, laws)
+            print(f"{'NOT REFUSED' if wrong else 'refused':12} {name}: {wrong or ', '.join(laws)}", flush=True)
+            failed += bool(wrong)
+    return 1 if failed else 0
+
+
+if __name__ == "__main__":
+    sys.exit(main())
