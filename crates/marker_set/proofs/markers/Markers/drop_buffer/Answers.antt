@@ -1,20 +1,30 @@
-use Rattle.std.proofs.Common.{◌≡◌, map, false, None, ap, ◌∙◌, arith}
-use Rattle.std.proofs.lemmas.List.{length-map, with_items_is}
-use Rattle.std.specs.Vec.{with_items}
+use Rattle.std.proofs.Common.{◌≡◌, ◌<◌, refl, length, ap, sym, ◌∙◌, arith}
+use Rattle.std.proofs.lemmas.List.{length-map, length-set}
 use Rattle.text_model.specs.Marks.{marker_left}
-use Rattle.ek_types.proofs.InTurn.{next_moved, moved_at_end}
+use Rattle.ek_types.proofs.InTurn.{all_moved}
+use Rattle.marker_set.specs.Numbered.{marker_at}
 use Rattle.marker_set.specs.Slots.{marker_of}
+use Rattle.marker_set.proofs.LeftLemmas.{one_more_left}
 use Rattle.marker_set.proofs.markers.Markers.drop_buffer.Goals as goal
 
-pub loop-slot-preserved : goal.loop-slot-preserved
-loop-slot-preserved c =
-    next_moved marker_of (marker_left c.args.buffer) c.loop-slot.slot-items _ c.loop-slot.slot-index (record { spot = None; advances = false }) c.left.result (omega arith) c.left.ensures c.loop-slot.invariant
+pub loop-k-init : goal.loop-k-init
+loop-k-init c = record {
+  end = c.len-k-end.ensures ∙ c.self.inside.slots.ok.0 ∙ sym (length-map c.self.inside.slots.items marker_of) ∙ ap length c.self.view_is;
+  count = refl;
+  so_far = refl;
+}
+
+pub leave_killed-requires : goal.leave_killed-requires
+leave_killed-requires c = omega (arith, c.loop-k.invariant.end, c.loop-k.invariant.count)
+
+pub loop-k-preserved : goal.loop-k-preserved
+loop-k-preserved c =
+    let made : c.loop-k.k < length c.loop-k.self = omega (arith, c.loop-k.invariant.end, c.loop-k.invariant.count) in
+    record {
+      end = c.loop-k.invariant.end;
+      count = ap length c.leave_killed.ensures ∙ length-set c.loop-k.self c.loop-k.k (marker_left c.args.buffer (marker_at c.loop-k.self c.loop-k.k)) ∙ c.loop-k.invariant.count;
+      so_far = c.leave_killed.ensures ∙ one_more_left (marker_left c.args.buffer) c.args.self.now c.loop-k.self c.loop-k.k made c.loop-k.invariant.so_far;
+    }
 
 pub returns : goal.returns
-returns c =
-    let move = marker_left c.args.buffer in
-    let olds = map marker_of c.deref_mut-slot-items.result.now in
-    let same : (with_items c.self.inside.slots c.loop-slot.slot-items).items ≡ c.loop-slot.slot-items = with_items_is c.self.inside.slots c.loop-slot.slot-items (omega arith) in
-    ap (map marker_of) same
-    ∙ moved_at_end marker_of move c.loop-slot.slot-items olds c.loop-slot.slot-index (omega (arith, length-map c.deref_mut-slot-items.result.now marker_of)) c.loop-slot.invariant
-    ∙ ap (map move) (ap (map marker_of) c.deref_mut-slot-items.ensures.value ∙ c.self.view_is)
+returns c = c.loop-k.invariant.so_far ∙ all_moved (marker_left c.args.buffer) c.loop-k.k c.args.self.now (omega (arith, c.loop-k.invariant.end))

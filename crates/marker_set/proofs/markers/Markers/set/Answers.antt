@@ -1,12 +1,11 @@
-use Rattle.std.proofs.Common.{◌≡◌, ap, sym}
-use Rattle.marker_set.specs.Numbered.{spot_of, marker_at}
-use Rattle.marker_set.specs.Slots.{marker_of}
-use Rattle.marker_set.proofs.SlotLemmas.{marker_at_slot, marker_set}
+use Rattle.std.proofs.Common.{◌≡◌, Some, slice_set, ap, sym, ◌∙◌}
+use Rattle.text_model.specs.Marks.{Marker}
+use Rattle.marker_set.specs.Numbered.{marker_at, spot_of}
+use Rattle.marker_set.proofs.LinkedLemmas.{set_after_set}
 use Rattle.marker_set.proofs.markers.Markers.set.Goals as goal
 
-pub returns : goal.returns
-returns c =
-    let slot = c.index_mut.result.now in
-    let was : marker_at c.args.self.now c.args.k ≡ marker_of slot = marker_at_slot c.self.inside.slots.items c.args.self.now c.args.k slot c.self.view_is c.requires c.index_mut.ensures.value in
-    marker_set c.self.inside.slots.items c.args.self.now c.args.k (record slot { spot = c.args.to }) _ c.self.view_is
-    (ap (λ b. record { spot = spot_of c.args.to; advances = b }) (sym (ap (λ m. m.advances) was)))
+pub returns-in-Some : goal.returns-in-Some
+returns-in-Some c =
+    c.join.ensures ∙ ap (λ ms. slice_set ms c.args.k (record (marker_at ms c.args.k) { spot = spot_of (Some c.in-Some.spot) })) c.leave.ensures
+    ∙ set_after_set c.args.self.now c.args.k (spot_of (Some c.in-Some.spot)) c.requires
+    ∙ ap (λ to. slice_set c.args.self.now c.args.k (record (marker_at c.args.self.now c.args.k) { spot = spot_of to })) (sym c.in-Some.is)
