@@ -1,5 +1,5 @@
 -- Markers of a killed buffer.
-use Rattle.std.proofs.Common.{◌≡◌, ℕ, ◌+◌, ◌<◌, ◌==◌, Bool, true, false, if◌then◌else◌, List, length, map, slice_set, Option, Some, None, refl, ap, sym, ◌∙◌}
+use Rattle.std.proofs.Common.{◌≡◌, ℕ, ◌+◌, ◌<◌, Bool, false, if◌then◌else◌, List, length, slice_set, Option, Some, None, refl, ap, sym, ◌∙◌}
 use Rattle.std.proofs.lemmas.List.{map-id}
 use Rattle.text_model.specs.Marks.{Marker, Spot, marker_left}
 use Rattle.ek_types.proofs.InTurn.{first_moved, next_moved}
@@ -14,13 +14,6 @@ pub left_elsewhere : (buffer : ℕ) (m : Marker) → points_into buffer m ≡ fa
 left_elsewhere buffer m h = go buffer m.advances m.spot h
   where
     go : (buffer : ℕ) (advances : Bool) (spot : Option Spot) → points_into buffer (record { spot = spot; advances = advances }) ≡ false → marker_left buffer (record { spot = spot; advances = advances }) ≡ record { spot = spot; advances = advances }
-    go buffer advances None h = refl
-    go buffer advances (Some p) h = ap (λ b. left_if b advances p) h
-
-pub left_here : (buffer : ℕ) (m : Marker) → points_into buffer m ≡ true → marker_left buffer m ≡ record m { spot = None }
-left_here buffer m h = go buffer m.advances m.spot h
-  where
-    go : (buffer : ℕ) (advances : Bool) (spot : Option Spot) → points_into buffer (record { spot = spot; advances = advances }) ≡ true → marker_left buffer (record { spot = spot; advances = advances }) ≡ record { spot = None; advances = advances }
     go buffer advances None h = refl
     go buffer advances (Some p) h = ap (λ b. left_if b advances p) h
 

@@ -1,5 +1,5 @@
 -- Markers and their rings, as lists.
-use Rattle.std.proofs.Common.{◌≡◌, ◌≢◌, ℕ, zero, suc, ◌+◌, ◌-◌, ◌*◌, ◌<◌, ◌≤◌, ◌⊎◌, inl, inr, ◌==◌, nat_lt, true, false, Bool, if◌then◌else◌, List, [], ◌∷◌, ◌++◌, length, replicate, get_or, slice_set, slice_get, Option, Some, None, unwrap_or, All, refl, ap, subst, sym, ◌∙◌, arith}
+use Rattle.std.proofs.Common.{◌≡◌, ◌≢◌, ℕ, zero, suc, ◌+◌, ◌-◌, ◌<◌, ◌≤◌, inl, inr, ◌==◌, if◌then◌else◌, List, [], ◌∷◌, ◌++◌, length, replicate, get_or, slice_set, Option, None, refl, ap, subst, sym, ◌∙◌, arith}
 use Rattle.std.specs.List.{sum_by}
 use Rattle.std.proofs.lemmas.Bool.{cases_lt, cases_eq}
 use Rattle.std.proofs.lemmas.List.{get_or-set_same, get_or-set_other, get_or_past, get_or-replicate, length-append, length-replicate, length-set, set-get_or, set-set}
@@ -133,19 +133,19 @@ module _ (ms : List Marker) (after before sizes : List ℕ) (linked : Linked ms 
       let last_apart : last ≢ 256 + k = λ e. let h : home_of ms last ≡ home_of ms (256 + k) = ap (home_of ms) e in absurd (omega arith) in
       let a_node : number_at after1 (256 + k) ≡ s = get_or-set_same (slice_set after last (256 + k)) (256 + k) s 0 (omega (arith, length-set after last (256 + k))) in
       let a_last : number_at after1 (number_at before s) ≡ 256 + k =
-          ap (number_at after1) (sym last_is) ∙ get_or-set_other (slice_set after last (256 + k)) (256 + k) last s 0 last_apart ∙ get_or-set_same after last (256 + k) 0 last_in in
+      ap (number_at after1) (sym last_is) ∙ get_or-set_other (slice_set after last (256 + k)) (256 + k) last s 0 last_apart ∙ get_or-set_same after last (256 + k) 0 last_in in
       let a_else : (x : ℕ) → x ≢ 256 + k → x ≢ number_at before s → number_at after1 x ≡ number_at after x =
-          λ x n o. get_or-set_other (slice_set after last (256 + k)) (256 + k) x s 0 n ∙ get_or-set_other after last x (256 + k) 0 (λ e. o (e ∙ last_is)) in
+      λ x n o. get_or-set_other (slice_set after last (256 + k)) (256 + k) x s 0 n ∙ get_or-set_other after last x (256 + k) 0 (λ e. o (e ∙ last_is)) in
       let b_node : number_at before1 (256 + k) ≡ number_at before s =
-          get_or-set_other (slice_set before (256 + k) last) s (256 + k) (256 + k) 0 node_apart ∙ get_or-set_same before (256 + k) last 0 node_before ∙ last_is in
+      get_or-set_other (slice_set before (256 + k) last) s (256 + k) (256 + k) 0 node_apart ∙ get_or-set_same before (256 + k) last 0 node_before ∙ last_is in
       let b_first : number_at before1 s ≡ 256 + k = get_or-set_same (slice_set before (256 + k) last) s (256 + k) 0 (omega (arith, length-set before (256 + k) last)) in
       let b_else : (x : ℕ) → x ≢ 256 + k → x ≢ s → number_at before1 x ≡ number_at before x =
-          λ x n o. get_or-set_other (slice_set before (256 + k) last) s x (256 + k) 0 o ∙ get_or-set_other before (256 + k) x last 0 n in
+      λ x n o. get_or-set_other (slice_set before (256 + k) last) s x (256 + k) 0 o ∙ get_or-set_other before (256 + k) x last 0 n in
       let z_more : number_at sizes1 s ≡ number_at sizes s + 1 = get_or-set_same sizes s (size + 1) 0 s_sizes ∙ ap (λ n. n + 1) size_is in
       let z_else : (x : ℕ) → x ≢ s → number_at sizes1 x ≡ number_at sizes x = λ x n. get_or-set_other sizes s x (size + 1) 0 n in
       let one_more : (t : ℕ) → sum_by (one_in t) (slice_set ms k m) + one_in t (get_or ms k nowhere) ≡ sum_by (one_in t) ms + one_in t m = λ t. sum_by-set (one_in t) ms k m nowhere made in
       let none_was : (t : ℕ) → t < 256 → one_in t (get_or ms k nowhere) ≡ 0 =
-          λ t little. one_elsewhere t (get_or ms k nowhere) (λ e. let f : 256 ≡ t = sym free ∙ ap bucket_of (marker_at-get_or ms k) ∙ e in absurd (omega arith)) in
+      λ t little. one_elsewhere t (get_or ms k nowhere) (λ e. let f : 256 ≡ t = sym free ∙ ap bucket_of (marker_at-get_or ms k) ∙ e in absurd (omega arith)) in
       record {
         after_length = length-set (slice_set after last (256 + k)) (256 + k) s ∙ length-set after last (256 + k) ∙ linked.after_length ∙ ap (λ n. n + 256) (sym (length-set ms k m));
         before_length = length-set (slice_set before (256 + k) last) s (256 + k) ∙ length-set before (256 + k) last ∙ linked.before_length ∙ ap (λ n. n + 256) (sym (length-set ms k m));
@@ -180,10 +180,10 @@ module _ (ms : List Marker) (after before sizes : List ℕ) (linked : Linked ms 
       let next_in : next < length before = omega (arith, linked.after_length, linked.before_length, after_within (256 + k) linked_k, next_is) in
       let s_sizes : s < length sizes = omega (arith, linked.sizes_length) in
       let a_join : number_at after1 (number_at before (256 + k)) ≡ number_at after (256 + k) =
-          ap (number_at after1) (sym last_is) ∙ get_or-set_same after last next 0 last_in ∙ next_is in
+      ap (number_at after1) (sym last_is) ∙ get_or-set_same after last next 0 last_in ∙ next_is in
       let a_else : (x : ℕ) → x ≢ number_at before (256 + k) → number_at after1 x ≡ number_at after x = λ x n. get_or-set_other after last x next 0 (λ e. n (e ∙ last_is)) in
       let b_join : number_at before1 (number_at after (256 + k)) ≡ number_at before (256 + k) =
-          ap (number_at before1) (sym next_is) ∙ get_or-set_same before next last 0 next_in ∙ last_is in
+      ap (number_at before1) (sym next_is) ∙ get_or-set_same before next last 0 next_in ∙ last_is in
       let b_else : (x : ℕ) → x ≢ number_at after (256 + k) → number_at before1 x ≡ number_at before x = λ x n. get_or-set_other before next x last 0 (λ e. n (e ∙ next_is)) in
       let z_less : number_at sizes1 s ≡ number_at sizes s - 1 = get_or-set_same sizes s (size - 1) 0 s_sizes ∙ ap (λ n. n - 1) size_is in
       let z_else : (x : ℕ) → x ≢ s → number_at sizes1 x ≡ number_at sizes x = λ x n. get_or-set_other sizes s x (size - 1) 0 n in
@@ -248,7 +248,7 @@ linked_make ms after before sizes linked =
       ringed =
           subst (λ a. Ringed a (number_at (before ++ 0 ∷ [])) (home_of (ms ++ nowhere ∷ [])) linked.rank (number_at sizes)) (sym afters)
           (subst (λ b. Ringed (number_at after) b (home_of (ms ++ nowhere ∷ [])) linked.rank (number_at sizes)) (sym befores)
-            (subst (λ h. Ringed (number_at after) (number_at before) h linked.rank (number_at sizes)) (sym homes) linked.ringed));
+          (subst (λ h. Ringed (number_at after) (number_at before) h linked.rank (number_at sizes)) (sym homes) linked.ringed));
     }
 
 -- the nodes of the buckets, with no marker

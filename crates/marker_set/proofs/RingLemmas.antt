@@ -1,5 +1,5 @@
 -- Rings with one node more or less.
-use Rattle.std.proofs.Common.{◌≡◌, ◌≢◌, ℕ, zero, suc, ◌+◌, ◌-◌, ◌<◌, ◌≤◌, ◌⊎◌, inl, inr, ◌==◌, ◌&&◌, nat_lt, true, false, Bool, if◌then◌else◌, refl, ap, subst, sym, ◌∙◌, arith}
+use Rattle.std.proofs.Common.{◌≡◌, ◌≢◌, ℕ, zero, suc, ◌+◌, ◌-◌, ◌<◌, ◌≤◌, inl, inr, refl, ap, subst, sym, ◌∙◌, arith}
 use Rattle.std.proofs.lemmas.Bool.{cases_lt, cases_eq}
 use Rattle.marker_set.specs.Rings.{Ringed}
 
@@ -52,10 +52,10 @@ module _ (after before home rank size : ℕ → ℕ) (r : Ringed after before ho
   s_not_node e = absurd (omega arith)
 
   module _ (after1 before1 home1 size1 : ℕ → ℕ)
-    (a_node : after1 k ≡ s) (a_last : after1 (before s) ≡ k) (a_else : (x : ℕ) → x ≢ k → x ≢ before s → after1 x ≡ after x)
-    (b_node : before1 k ≡ before s) (b_first : before1 s ≡ k) (b_else : (x : ℕ) → x ≢ k → x ≢ s → before1 x ≡ before x)
-    (h_node : home1 k ≡ s) (h_else : (x : ℕ) → x ≢ k → home1 x ≡ home x)
-    (z_more : size1 s ≡ size s + 1) (z_else : (x : ℕ) → x ≢ s → size1 x ≡ size x) where
+      (a_node : after1 k ≡ s) (a_last : after1 (before s) ≡ k) (a_else : (x : ℕ) → x ≢ k → x ≢ before s → after1 x ≡ after x)
+      (b_node : before1 k ≡ before s) (b_first : before1 s ≡ k) (b_else : (x : ℕ) → x ≢ k → x ≢ s → before1 x ≡ before x)
+      (h_node : home1 k ≡ s) (h_else : (x : ℕ) → x ≢ k → home1 x ≡ home x)
+      (z_more : size1 s ≡ size s + 1) (z_else : (x : ℕ) → x ≢ s → size1 x ≡ size x) where
     pub joined_rank : ℕ → ℕ
     joined_rank x = put rank k (size s + 1) x
 
@@ -223,10 +223,10 @@ module _ (after before home rank size : ℕ → ℕ) (r : Ringed after before ho
   other_rank x h n e = n (only after before home rank size r (rank k) x k (subst (λ g. g < 256) (sym h) small) (at ∙ sym h) e refl)
 
   module _ (after1 before1 home1 size1 : ℕ → ℕ)
-    (a_join : after1 (before k) ≡ after k) (a_else : (x : ℕ) → x ≢ before k → after1 x ≡ after x)
-    (b_join : before1 (after k) ≡ before k) (b_else : (x : ℕ) → x ≢ after k → before1 x ≡ before x)
-    (h_node : 256 ≤ home1 k) (h_else : (x : ℕ) → x ≢ k → home1 x ≡ home x)
-    (z_less : size1 s ≡ size s - 1) (z_else : (x : ℕ) → x ≢ s → size1 x ≡ size x) where
+      (a_join : after1 (before k) ≡ after k) (a_else : (x : ℕ) → x ≢ before k → after1 x ≡ after x)
+      (b_join : before1 (after k) ≡ before k) (b_else : (x : ℕ) → x ≢ after k → before1 x ≡ before x)
+      (h_node : 256 ≤ home1 k) (h_else : (x : ℕ) → x ≢ k → home1 x ≡ home x)
+      (z_less : size1 s ≡ size s - 1) (z_else : (x : ℕ) → x ≢ s → size1 x ≡ size x) where
     rank1 : ℕ → ℕ
     rank1 x = lowered home rank s (rank k) x
 

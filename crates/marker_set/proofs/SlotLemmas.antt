@@ -1,5 +1,5 @@
 -- Slots by number as markers by number, and their rings.
-use Rattle.std.proofs.Common.{◌≡◌, ℕ, ◌+◌, ◌-◌, ◌%◌, ◌<◌, ◌≤◌, inl, inr, Bool, false, List, [], ◌∷◌, ◌++◌, length, map, get_or, slice_set, Some, None, slice_get, unwrap_or, option_map, refl, ap, subst, sym, ◌∙◌, arith}
+use Rattle.std.proofs.Common.{◌≡◌, ℕ, ◌+◌, ◌-◌, ◌%◌, ◌<◌, ◌≤◌, inl, inr, Bool, false, List, [], ◌∷◌, ◌++◌, length, map, get_or, slice_set, Some, None, unwrap_or, option_map, refl, ap, subst, sym, ◌∙◌, arith}
 use Rattle.std.proofs.Math.Nat.{mod-lt}
 use Rattle.std.proofs.lemmas.Bool.{cases_eq}
 use Rattle.std.proofs.lemmas.List.{length-map, length-set, map-append, map-set, get_or_read}
@@ -8,7 +8,7 @@ use Rattle.text_model.specs.Marks.{Marker}
 use Rattle.marker_set.specs.Numbered.{nowhere, marker_at, spot_of}
 use Rattle.marker_set.specs.Rings.{bucket_at, bucket_of, home_of, number_at, Linked}
 use Rattle.marker_set.specs.Slots.{marker_of}
-use Rattle.marker_set.specs.declared.markers.Slot.{Slot}
+use Rattle.marker_set.specs.declared.slot.Slot.{Slot}
 use Rattle.marker_set.proofs.LinkedLemmas.{after_within, before_within, home_node, home_small, linked_join, linked_leave, linked_make, linked_same, marker_at-set_other, marker_at-set_same, size_positive, size_within}
 
 -- the slot that was read is the marker of that number
@@ -69,7 +69,7 @@ module _ (slots : List Slot) (after before sizes : List ℕ) (linked : Linked (m
         let node_after : 256 + k < length after = omega (arith, linked.after_length, made_marker) in
         subst (λ ms. Linked ms (slice_set after last next) (slice_set before next last) (slice_set sizes s (size - 1))) (sym (map-set marker_of slots k (record { spot = None; advances = advances })))
         (linked_leave (map marker_of slots) after before sizes linked k made_marker nowhere_now s last next size small (bucket_of_slot slots k slot p made read is ∙ sym s_is) refl
-          (get_or_read before (256 + k) last node_before last_is 0) (get_or_read after (256 + k) next node_after next_is 0) (size_read s size s_is size_is))
+        (get_or_read before (256 + k) last node_before last_is 0) (get_or_read after (256 + k) next node_after next_is 0) (size_read s size s_is size_is))
 
   -- A MARKER JOINS A RING
   module _ (free : (marker_at (map marker_of slots) k).spot ≡ None) (s : ℕ) (small : s < 256) where
@@ -95,7 +95,7 @@ module _ (slots : List Slot) (after before sizes : List ℕ) (linked : Linked (m
         subst (λ ms. Linked ms (slice_set (slice_set after last (256 + k)) (256 + k) s) (slice_set (slice_set before (256 + k) last) s (256 + k)) (slice_set sizes s (size + 1)))
         (sym (map-set marker_of slots k (record { spot = Some p; advances = advances })))
         (linked_join (map marker_of slots) after before sizes linked k made_marker (marker_of (record { spot = Some p; advances = advances })) s last size small (ap bucket_at free) (sym s_is)
-          (last_read last last_is) (more_read size size_is))
+        (last_read last last_is) (more_read size size_is))
 
 -- a marker stays in its ring where it is told whether it advances
 pub kind_keeps : (slots : List Slot) (after before sizes : List ℕ) → Linked (map marker_of slots) after before sizes → (k : ℕ) → k < length slots → (slot : Slot) (advances : Bool) → slot ≡ get_or slots k slot →
@@ -107,11 +107,11 @@ kind_keeps slots after before sizes linked k made slot advances read =
     let was : bucket_of (marker_at markers k) ≡ bucket_of (marker_of slot) = ap bucket_of (marker_at_slot slots markers k slot refl marker_made read) in
     subst (λ ms. Linked ms after before sizes) (sym (map-set marker_of slots k told))
     (linked_same markers (slice_set markers k (marker_of told)) after before sizes (length-set markers k (marker_of told))
-      (λ j. elim (cases_eq j k) [
-        | inl e ↦ ap (λ i. bucket_of (marker_at (slice_set markers k (marker_of told)) i)) e ∙ ap bucket_of (marker_at-set_same markers k (marker_of told) marker_made) ∙ sym was ∙ ap (λ i. bucket_of (marker_at markers i)) (sym e)
-        | inr n ↦ ap bucket_of (marker_at-set_other markers k j (marker_of told) n)
-      ])
-      linked)
+    (λ j. elim (cases_eq j k) [
+      | inl e ↦ ap (λ i. bucket_of (marker_at (slice_set markers k (marker_of told)) i)) e ∙ ap bucket_of (marker_at-set_same markers k (marker_of told) marker_made) ∙ sym was ∙ ap (λ i. bucket_of (marker_at markers i)) (sym e)
+      | inr n ↦ ap bucket_of (marker_at-set_other markers k j (marker_of told) n)
+    ])
+    linked)
 
 -- one marker more
 pub make_keeps : (slots slots1 : List Slot) (after after1 before before1 sizes : List ℕ) → Linked (map marker_of slots) after before sizes →
@@ -121,4 +121,4 @@ make_keeps slots slots1 after after1 before before1 sizes linked slots_is after_
     let seen : map marker_of slots1 ≡ markers ++ nowhere ∷ [] = ap (map marker_of) slots_is ∙ map-append marker_of slots (record { spot = None; advances = false } ∷ []) in
     subst (λ ms. Linked ms after1 before1 sizes) (sym seen)
     (subst (λ a. Linked (markers ++ nowhere ∷ []) a before1 sizes) (sym after_is)
-      (subst (λ b. Linked (markers ++ nowhere ∷ []) (after ++ 0 ∷ []) b sizes) (sym before_is) (linked_make markers after before sizes linked)))
+    (subst (λ b. Linked (markers ++ nowhere ∷ []) (after ++ 0 ∷ []) b sizes) (sym before_is) (linked_make markers after before sizes linked)))

@@ -6,14 +6,14 @@ use Rattle.text_model.specs.Marks.{Marker}
 use Rattle.marker_set.specs.Numbered.{nowhere, marker_at}
 use Rattle.marker_set.specs.Rings.{number_at}
 use Rattle.marker_set.specs.Slots.{marker_of, moved_by, CanMoveIn}
-use Rattle.marker_set.specs.declared.markers.Slot.{Slot}
-use Rattle.marker_set.specs.declared.markers.Change.{Change}
+use Rattle.marker_set.specs.declared.slot.Slot.{Slot}
+use Rattle.marker_set.specs.declared.slot.Change.{Change}
 use Rattle.marker_set.proofs.LinkedLemmas.{marker_at-get_or}
 use Rattle.marker_set.proofs.SlotLemmas.{marker_at_slot}
 use Rattle.marker_set.proofs.WalkLemmas.{Walk, node_in, next_large, next_within, next_unmoved, walk_goes_on}
 
 module _ (buffer : ℕ) (change : Change) (olds : List Marker) (slots : List Slot) (after before sizes : List ℕ) (s node i : ℕ)
-  (w : Walk (moved_by buffer change) olds (map marker_of slots) after before sizes s node i) (more : i < number_at sizes s) (next : ℕ) (next_is : next ≡ get_or after node next) where
+    (w : Walk (moved_by buffer change) olds (map marker_of slots) after before sizes s node i) (more : i < number_at sizes s) (next : ℕ) (next_is : next ≡ get_or after node next) where
   reached : next ≡ number_at after node
   reached = get_or_read after node next (node_in (moved_by buffer change) olds (map marker_of slots) after before sizes s node i w) next_is 0
 
@@ -44,4 +44,4 @@ module _ (buffer : ℕ) (change : Change) (olds : List Marker) (slots : List Slo
     step moved moved_is =
         subst (λ ms. Walk (moved_by buffer change) olds ms after before sizes s next (i + 1)) (sym (map-set marker_of slots (next - 256) moved))
         (subst (λ n. Walk (moved_by buffer change) olds (slice_set (map marker_of slots) (next - 256) (marker_of moved)) after before sizes s n (i + 1)) (sym reached)
-          (walk_goes_on (moved_by buffer change) olds (map marker_of slots) after before sizes s node i w more (next - 256) its_node (marker_of moved) (moved_is ∙ ap (moved_by buffer change) slot_is)))
+        (walk_goes_on (moved_by buffer change) olds (map marker_of slots) after before sizes s node i w more (next - 256) its_node (marker_of moved) (moved_is ∙ ap (moved_by buffer change) slot_is)))

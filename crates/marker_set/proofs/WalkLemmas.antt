@@ -1,14 +1,13 @@
 -- A walk along one ring that moves each marker on it.
-use Rattle.std.proofs.Common.{◌≡◌, ◌≢◌, ℕ, ◌+◌, ◌-◌, ◌%◌, ◌<◌, ◌≤◌, ◌⊎◌, inl, inr, ◌==◌, ◌||◌, if◌then◌else◌, true, false, Bool, List, length, map, get_or, slice_set, slice_get, Option, Some, None, option_map, unwrap_or, All, refl, ap, subst, sym, ◌∙◌, arith}
+use Rattle.std.proofs.Common.{◌≡◌, ◌≢◌, ℕ, ◌+◌, ◌-◌, ◌%◌, ◌<◌, ◌≤◌, inl, inr, ◌==◌, ◌||◌, if◌then◌else◌, true, false, Bool, List, length, map, get_or, slice_set, Option, Some, None, option_map, refl, ap, subst, sym, ◌∙◌, arith}
 use Rattle.std.proofs.lemmas.Bool.{cases_lt, cases_eq, eqb-true}
 use Rattle.std.proofs.lemmas.List.{length-map, length-set, same_lists, get_or_default}
-use Rattle.std.proofs.lemmas.List.Elements.{All-get_or}
 use Rattle.std.proofs.lemmas.Option.{get_or_from_slice_get, slice_get-map, slice_get-get_or}
 use Rattle.text_model.specs.Marks.{Marker, Spot, Move, move_marker}
 use Rattle.marker_set.specs.Numbered.{nowhere, marker_at}
-use Rattle.marker_set.specs.Rings.{bucket_at, bucket_of, home_of, number_at, Ringed, Linked}
+use Rattle.marker_set.specs.Rings.{bucket_at, bucket_of, home_of, number_at, Linked}
 use Rattle.marker_set.specs.Slots.{moved_by, move_of, all_of}
-use Rattle.marker_set.specs.declared.markers.Change.{Change}
+use Rattle.marker_set.specs.declared.slot.Change.{Change}
 use Rattle.marker_set.proofs.LinkedLemmas.{home_node, home_small, linked_same, marker_at-get_or, marker_at-set_other, marker_at-set_same, node_within}
 use Rattle.marker_set.proofs.RingLemmas.{only}
 
@@ -149,9 +148,9 @@ module _ (buffer : ℕ) (change : Change) (olds now : List Marker) (after before
   walk_ends =
       same_lists now (map move olds) (w.count ∙ sym (length-map olds move))
       (λ k d made.
-        let there : k < length olds = omega (arith, w.count) in
-        get_or_default now k d nowhere made ∙ sym (marker_at-get_or now k) ∙ moved_at k ∙ ap move (marker_at-get_or olds k)
-        ∙ sym (get_or_from_slice_get (map move olds) k (move (get_or olds k nowhere)) d (slice_get-map move olds k ∙ ap (option_map move) (slice_get-get_or olds k nowhere there))))
+      let there : k < length olds = omega (arith, w.count) in
+      get_or_default now k d nowhere made ∙ sym (marker_at-get_or now k) ∙ moved_at k ∙ ap move (marker_at-get_or olds k)
+      ∙ sym (get_or_from_slice_get (map move olds) k (move (get_or olds k nowhere)) d (slice_get-map move olds k ∙ ap (option_map move) (slice_get-get_or olds k nowhere there))))
 
   pub walk_keeps : Linked now after before sizes
   walk_keeps = linked_same olds now after before sizes w.count (λ k. ap bucket_of (moved_at k) ∙ same_bucket buffer change (marker_at olds k)) w.linked

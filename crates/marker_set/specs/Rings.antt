@@ -1,5 +1,5 @@
 -- Rings of nodes, one through each bucket. Nodes below 256 stand for the buckets, and node 256 + k for marker k.
-use Rattle.std.specs.Prelude.{◌≡◌, ℕ, ◌+◌, ◌-◌, ◌%◌, ◌<◌, ◌≤◌, Bool, nat_lt, ◌==◌, List, length, slice_index_or, Option, Some, None, if◌then◌else◌}
+use Rattle.std.specs.Prelude.{◌≡◌, ℕ, ◌+◌, ◌-◌, ◌%◌, ◌<◌, ◌≤◌, nat_lt, ◌==◌, List, length, slice_index_or, Option, Some, None, if◌then◌else◌}
 use Rattle.std.specs.List.{sum_by}
 use Rattle.text_model.specs.Marks.{Marker, Spot}
 use Rattle.marker_set.specs.Numbered.{marker_at}

@@ -2,9 +2,9 @@
 use Rattle.std.specs.Prelude.{◌≡◌, ℕ, ◌+◌, ◌≤◌, Bool, false, ◌==◌, Some, None, IfSome}
 use Rattle.text_model.specs.Marks.{Marker, Move, move_marker, insertion, deletion}
 use Rattle.marker_set.specs.Numbered.{spot_of}
-use Rattle.marker_set.specs.declared.markers.Slot.{Slot}
-use Rattle.marker_set.specs.declared.markers.Change.{Change}
-use Rattle.marker_set.specs.declared.markers.Change.TheVariants.{Insertion, Deletion}
+use Rattle.marker_set.specs.declared.slot.Slot.{Slot}
+use Rattle.marker_set.specs.declared.slot.Change.{Change}
+use Rattle.marker_set.specs.declared.slot.Change.TheVariants.{Insertion, Deletion}
 
 abbrev pub marker_of : Slot → Marker
 marker_of slot = record { spot = spot_of slot.spot; advances = slot.advances }

@@ -2,6 +2,7 @@
 #![tactic(auto)]
 
 mod markers;
+mod slot;
 #[cfg(test)]
 mod tests;
 

@@ -1,71 +1,14 @@
 //! All markers of a run, by number.
-ghost use Rattle.std.specs.Prelude.{◌≡◌, ℕ, ◌-◌, ◌%◌, ◌^◌, ◌<◌, ◌≤◌, [], ◌∷◌, ◌++◌, ◌||◌, length, map, false, slice_set, All, OnOk, OnErr, IfOk, IfSome};
+ghost use Rattle.std.specs.Prelude.{◌≡◌, ℕ, ◌-◌, ◌%◌, ◌^◌, ◌<◌, ◌≤◌, [], ◌∷◌, ◌++◌, length, map, false, slice_set, All, OnOk, OnErr, IfOk};
 ghost use Rattle.text_model.specs.Marks.{move_marker, marker_left, insertion, deletion};
 ghost use Rattle.marker_set.specs.Numbered.{nowhere, marker_at, spot_of, HasRoomFor};
 ghost use Rattle.marker_set.specs.Rings.{number_at};
-ghost use Rattle.marker_set.specs.Slots.{marker_of, moved_by, move_of, all_of, points_into, CanMove, CanMoveIn};
+ghost use Rattle.marker_set.specs.Slots.{moved_by, CanMoveIn};
 
-use ek_types::{Mem, NoMemory, place_after_delete, place_after_insert};
+use crate::slot::{Change, Slot};
+use ek_types::Mem;
 use std::alloc::Global;
 use std::marker::Model;
-
-/// A buffer with a place in it, or nowhere, and whether the marker advances at an insertion (GNU Emacs Lisp Reference
-/// Manual, Marker Insertion Types).
-#[derive(Clone, Copy, Debug, PartialEq, Eq)]
-struct Slot {
-    spot: Option<(u32, usize)>,
-    advances: bool,
-}
-
-/// A change of a buffer's text.
-#[derive(Clone, Copy, Debug, PartialEq, Eq)]
-enum Change {
-    /// `n` characters were put in at `at`; `all` markers there advance.
-    Insertion { at: usize, n: usize, all: bool },
-    /// The part from `from` to `to` was deleted.
-    Deletion { from: usize, to: usize },
-}
-
-impl Change {
-    /// Where a place of the text goes.
-    fn after(self, advances: bool, place: usize) -> usize
-        requires { CanMove self place }
-        ensures { result ≡ move_of self (advances || all_of self) place }
-    {
-        match self {
-            Change::Insertion { at, n, all } => place_after_insert(at, n, advances || all, place),
-            Change::Deletion { from, to } => place_after_delete(from, to, place),
-        }
-    }
-}
-
-impl Slot {
-    const NOWHERE: Slot = Slot {
-        spot: None,
-        advances: false,
-    };
-
-    /// Whether the marker points into a buffer.
-    fn points_into(self, buffer: u32) -> bool
-        ensures { result ≡ points_into buffer (marker_of self) }
-    {
-        self.spot.is_some_and(|(b, _)| b == buffer)
-    }
-
-    /// The marker after a change of a buffer.
-    fn moved(self, buffer: u32, change: Change) -> Slot
-        requires { CanMoveIn buffer change (marker_of self) }
-        ensures { marker_of result ≡ moved_by buffer change (marker_of self) }
-    {
-        match self.spot {
-            Some((b, place)) if b == buffer => Slot {
-                spot: Some((b, change.after(self.advances, place))),
-                advances: self.advances,
-            },
-            _ => self,
-        }
-    }
-}
 
 /// How many rings there are. A run makes at most 256 buffers, so that each has a ring of its own there.
 const BUCKETS: usize = 256;

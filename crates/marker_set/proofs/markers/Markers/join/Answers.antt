@@ -1,7 +1,6 @@
-use Rattle.std.proofs.Common.{◌≡◌, ◌<◌, ◌≤◌, length, map, slice_set, Some, None, ap, sym, ◌∙◌, subst, arith}
+use Rattle.std.proofs.Common.{◌≡◌, ◌<◌, ◌≤◌, length, map, Some, None, ap, sym, ◌∙◌, arith}
 use Rattle.std.proofs.Math.Nat.{mod-lt}
 use Rattle.std.proofs.lemmas.List.{length-map, length-set}
-use Rattle.text_model.specs.Marks.{Marker}
 use Rattle.marker_set.specs.Numbered.{marker_at, spot_of}
 use Rattle.marker_set.specs.Slots.{marker_of}
 use Rattle.marker_set.proofs.SlotLemmas.{marker_at_slot, marker_set, end_within, ring_within, join_keeps}
@@ -27,9 +26,10 @@ pub invariant_of-self : goal.invariant_of-self
 invariant_of-self c =
     let made : c.args.k < length c.self.inside.slots.items = omega (arith, length-map c.self.inside.slots.items marker_of, ap length c.self.view_is, c.requires.made) in
     let free : (marker_at (map marker_of c.self.inside.slots.items) c.args.k).spot ≡ None = ap (λ ms. (marker_at ms c.args.k).spot) c.self.view_is ∙ c.requires.free in
-    let small : c.bucket_of-bucket.result < 256 = omega (arith, c.bucket_of-bucket.ensures, mod-lt c.args.spot.0 {m = 256} (omega arith)) in
-    (omega (arith, length-set c.self.inside.slots.items c.args.k (record { spot = Some c.args.spot; advances = c.index_mut-6.result.now.advances }), c.self.invariant.0),
-      λ _. join_keeps c.self.inside.slots.items c.self.inside.after.items c.self.inside.before.items c.self.inside.sizes.items (c.self.invariant.1 (omega arith)) c.args.k made free c.bucket_of-bucket.result small c.index-last.result.now c.index_mut-5.result.now c.args.spot c.index_mut-6.result.now.advances c.bucket_of-bucket.ensures c.index-last.ensures c.index_mut-5.ensures.value)
+    let small : c.bucket_of-bucket.result < 256 = omega (arith, c.bucket_of-bucket.ensures, mod-lt c.args.spot.0 {m = 256} (omega arith)) in (
+      omega (arith, length-set c.self.inside.slots.items c.args.k (record { spot = Some c.args.spot; advances = c.index_mut-6.result.now.advances }), c.self.invariant.0),
+      λ _. join_keeps c.self.inside.slots.items c.self.inside.after.items c.self.inside.before.items c.self.inside.sizes.items (c.self.invariant.1 (omega arith)) c.args.k made free c.bucket_of-bucket.result small c.index-last.result.now c.index_mut-5.result.now c.args.spot c.index_mut-6.result.now.advances c.bucket_of-bucket.ensures c.index-last.ensures c.index_mut-5.ensures.value,
+    )
 
 pub returns : goal.returns
 returns c =

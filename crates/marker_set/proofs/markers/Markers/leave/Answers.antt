@@ -1,6 +1,5 @@
-use Rattle.std.proofs.Common.{◌≡◌, ◌<◌, length, map, slice_set, None, ap, sym, ◌∙◌, subst, arith}
+use Rattle.std.proofs.Common.{◌≡◌, ◌<◌, length, None, ap, sym, ◌∙◌, arith}
 use Rattle.std.proofs.lemmas.List.{length-map, length-set}
-use Rattle.text_model.specs.Marks.{Marker}
 use Rattle.marker_set.specs.Numbered.{marker_at, spot_of}
 use Rattle.marker_set.specs.Slots.{marker_of}
 use Rattle.marker_set.proofs.LinkedLemmas.{set_nowhere}
@@ -31,9 +30,10 @@ overflow_sub-index_mut c =
 
 pub invariant_of-self : goal.invariant_of-self
 invariant_of-self c =
-    let made : c.args.k < length c.self.inside.slots.items = omega (arith, length-map c.self.inside.slots.items marker_of, ap length c.self.view_is) in
-    (omega (arith, length-set c.self.inside.slots.items c.args.k (record { spot = None; advances = c.index_mut-4.result.now.advances }), c.self.invariant.0),
-      λ _. leave_keeps c.self.inside.slots.items c.self.inside.after.items c.self.inside.before.items c.self.inside.sizes.items (c.self.invariant.1 (omega arith)) c.args.k made c.index.result.now (c.in-Some.buffer, c.in-Some.field-0-1) c.index.ensures c.in-Some.is c.index-last.result.now c.index-next.result.now c.bucket_of.result c.index_mut-3.result.now c.index_mut-4.result.now.advances c.index-last.ensures c.index-next.ensures c.bucket_of.ensures c.index_mut-3.ensures.value)
+    let made : c.args.k < length c.self.inside.slots.items = omega (arith, length-map c.self.inside.slots.items marker_of, ap length c.self.view_is) in (
+      omega (arith, length-set c.self.inside.slots.items c.args.k (record { spot = None; advances = c.index_mut-4.result.now.advances }), c.self.invariant.0),
+      λ _. leave_keeps c.self.inside.slots.items c.self.inside.after.items c.self.inside.before.items c.self.inside.sizes.items (c.self.invariant.1 (omega arith)) c.args.k made c.index.result.now (c.in-Some.buffer, c.in-Some.field-0-1) c.index.ensures c.in-Some.is c.index-last.result.now c.index-next.result.now c.bucket_of.result c.index_mut-3.result.now c.index_mut-4.result.now.advances c.index-last.ensures c.index-next.ensures c.bucket_of.ensures c.index_mut-3.ensures.value,
+    )
 
 pub returns : goal.returns
 returns c =

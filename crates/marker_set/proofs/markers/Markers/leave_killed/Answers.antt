@@ -1,5 +1,4 @@
 use Rattle.std.proofs.Common.{◌≡◌, false, slice_set, ap, sym, ◌∙◌}
-use Rattle.text_model.specs.Marks.{marker_left}
 use Rattle.marker_set.specs.Numbered.{marker_at}
 use Rattle.marker_set.specs.Slots.{marker_of, points_into}
 use Rattle.marker_set.proofs.LeftLemmas.{left_elsewhere}

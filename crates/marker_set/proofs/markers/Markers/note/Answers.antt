@@ -1,4 +1,4 @@
-use Rattle.std.proofs.Common.{◌≡◌, ◌<◌, ◌≤◌, ◌-◌, length, map, All, ap, subst, sym, ◌∙◌, arith}
+use Rattle.std.proofs.Common.{◌<◌, ◌≤◌, ◌-◌, length, map, All, ap, subst, sym, ◌∙◌, arith}
 use Rattle.std.proofs.Math.Nat.{mod-lt}
 use Rattle.std.proofs.lemmas.List.{length-map, get_or_read}
 use Rattle.marker_set.specs.Rings.{number_at}
@@ -20,9 +20,10 @@ ring-init c =
 pub invariant_of-self : goal.invariant_of-self
 invariant_of-self c =
     let w = c.ring.invariant.walk in
-    let round : number_at c.ring.self-inside.sizes.items c.bucket_of-node.result ≤ c.ring.counter = omega (arith, c.ring.invariant.size) in
-    (omega (arith, w.count, length-map c.ring.self-inside.slots.items marker_of, length-map c.self.inside.slots.items marker_of, c.self.invariant.0),
-      λ _. walk_keeps c.args.buffer c.args.change (map marker_of c.self.inside.slots.items) (map marker_of c.ring.self-inside.slots.items) c.ring.self-inside.after.items c.ring.self-inside.before.items c.ring.self-inside.sizes.items c.bucket_of-node.result c.ring.node c.ring.counter w round c.bucket_of-node.ensures)
+    let round : number_at c.ring.self-inside.sizes.items c.bucket_of-node.result ≤ c.ring.counter = omega (arith, c.ring.invariant.size) in (
+      omega (arith, w.count, length-map c.ring.self-inside.slots.items marker_of, length-map c.self.inside.slots.items marker_of, c.self.invariant.0),
+      λ _. walk_keeps c.args.buffer c.args.change (map marker_of c.self.inside.slots.items) (map marker_of c.ring.self-inside.slots.items) c.ring.self-inside.after.items c.ring.self-inside.before.items c.ring.self-inside.sizes.items c.bucket_of-node.result c.ring.node c.ring.counter w round c.bucket_of-node.ensures,
+    )
 
 pub index-node-requires : goal.index-node-requires
 index-node-requires c =

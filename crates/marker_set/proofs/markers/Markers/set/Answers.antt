@@ -1,5 +1,4 @@
-use Rattle.std.proofs.Common.{◌≡◌, Some, slice_set, ap, sym, ◌∙◌}
-use Rattle.text_model.specs.Marks.{Marker}
+use Rattle.std.proofs.Common.{Some, slice_set, ap, sym, ◌∙◌}
 use Rattle.marker_set.specs.Numbered.{marker_at, spot_of}
 use Rattle.marker_set.proofs.LinkedLemmas.{set_after_set}
 use Rattle.marker_set.proofs.markers.Markers.set.Goals as goal

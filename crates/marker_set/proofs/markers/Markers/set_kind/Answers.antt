@@ -1,6 +1,5 @@
 use Rattle.std.proofs.Common.{◌≡◌, ◌<◌, length, ap, sym, arith}
 use Rattle.std.proofs.lemmas.List.{length-map, length-set}
-use Rattle.text_model.specs.Marks.{Marker}
 use Rattle.marker_set.specs.Numbered.{marker_at}
 use Rattle.marker_set.specs.Slots.{marker_of}
 use Rattle.marker_set.proofs.SlotLemmas.{kind_keeps, marker_at_slot, marker_set}
@@ -8,9 +7,10 @@ use Rattle.marker_set.proofs.markers.Markers.set_kind.Goals as goal
 
 pub invariant_of-self : goal.invariant_of-self
 invariant_of-self c =
-    let made : c.args.k < length c.self.inside.slots.items = omega (arith, length-map c.self.inside.slots.items marker_of, ap length c.self.view_is, c.requires) in
-    (omega (arith, length-set c.self.inside.slots.items c.args.k (record { spot = c.index_mut.result.now.spot; advances = c.args.after }), c.self.invariant.0),
-      λ some. kind_keeps c.self.inside.slots.items c.self.inside.after.items c.self.inside.before.items c.self.inside.sizes.items (c.self.invariant.1 (omega arith)) c.args.k made c.index_mut.result.now c.args.after c.index_mut.ensures.value)
+    let made : c.args.k < length c.self.inside.slots.items = omega (arith, length-map c.self.inside.slots.items marker_of, ap length c.self.view_is, c.requires) in (
+      omega (arith, length-set c.self.inside.slots.items c.args.k (record { spot = c.index_mut.result.now.spot; advances = c.args.after }), c.self.invariant.0),
+      λ some. kind_keeps c.self.inside.slots.items c.self.inside.after.items c.self.inside.before.items c.self.inside.sizes.items (c.self.invariant.1 (omega arith)) c.args.k made c.index_mut.result.now c.args.after c.index_mut.ensures.value,
+    )
 
 pub returns : goal.returns
 returns c =
