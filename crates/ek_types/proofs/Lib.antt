@@ -5,3 +5,4 @@ pub mod Printing
 pub mod PropSets
 pub mod Pieces
 pub mod Naming
+pub mod InTurn

@@ -1,0 +1,9 @@
+//! Markers by number: places outside the texts that move with every change.
+#![tactic(auto)]
+
+mod markers;
+mod slot;
+#[cfg(test)]
+mod tests;
+
+pub use markers::Markers;
