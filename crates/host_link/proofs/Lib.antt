@@ -1,1 +1,4 @@
 pub mod Due
+pub mod Hosted
+pub mod Plays
+pub mod Rests

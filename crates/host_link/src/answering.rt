@@ -2,10 +2,19 @@
 ghost use Rattle.std.specs.Prelude.{◌≡◌, ◌≤◌, [], length};
 ghost use Rattle.ek_types.specs.Listing.{items_of, spare_of};
 ghost use Rattle.host_link.specs.Meaning.{answer_of};
-ghost use Rattle.host_link.specs.Hosts.{Fits, got_answer, ended_answer, send_answer, kill_answer};
+ghost use Rattle.host_link.specs.Hosts.{Fits, spawned_answer, got_answer, ended_answer, send_answer, kill_answer};
 
 use crate::asking::{Answer, ByteList, fill};
-use crate::host::{Ended, Got, KillAnswer, SendAnswer};
+use crate::host::{Ended, Got, KillAnswer, SendAnswer, Spawned};
+
+pub(crate) fn answer_to_spawn(spawned: Spawned) -> Answer
+    ensures { answer_of result ≡ spawned_answer spawned }
+{
+    match spawned {
+        Spawned::Started(child) => Answer::Started(child),
+        Spawned::Refused => Answer::Refused,
+    }
+}
 
 /// The answer to a read, with its bytes in the room that was set aside for them.
 pub(crate) fn answer_to_read(got: Got, into: &[u8], room: ByteList) -> Answer

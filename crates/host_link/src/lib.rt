@@ -6,8 +6,14 @@ mod answering;
 mod asking;
 mod host;
 mod log;
+mod memory_host;
+mod play;
 mod recorder;
+#[cfg(test)]
+mod shown;
 
 pub use asking::{Answer, Answers, Ask, ByteList, Exchange, Exchanges, WordList};
 pub use host::{Ended, Got, Host, KillAnswer, SendAnswer, Spawned};
+pub use memory_host::MemoryHost;
+pub use play::Play;
 pub use recorder::Recorder;

@@ -1,7 +1,6 @@
 //! The exchanges that a host keeps, with a place set aside for each kill that may still come.
 ghost use Rattle.std.specs.Prelude.{◌≡◌, ◌+◌, ◌-◌, ◌<◌, ◌≤◌, [], ◌∷◌, ◌++◌, OnOk, OnErr};
 ghost use Rattle.host_link.specs.Meaning.{ask_of, answer_of, exchange_of, exchanges_of};
-ghost use Rattle.host_link.specs.Hosts.{spawned_answer};
 ghost use Rattle.host_link.specs.Logged.{Logged, due_by};
 
 use crate::asking::{Answer, Ask, Exchange, Exchanges};
@@ -76,17 +75,15 @@ impl Log {
     }
 
     /// Notes a spawn, and keeps a place for the kill of the child that it started.
-    pub fn put_spawn(&mut self, ask: Ask, spawned: Spawned)
+    pub fn put_spawn(&mut self, ask: Ask, answer: Answer, spawned: Spawned)
         requires { 2 ≤ self.old.places }
-        ensures told { self.new.told ≡ self.old.told ++ record { ask = ask_of ask; answer = spawned_answer spawned } ∷ [] }
+        ensures told { self.new.told ≡ self.old.told ++ record { ask = ask_of ask; answer = answer_of answer } ∷ [] }
         ensures due { self.new.due ≡ self.old.due + due_by spawned }
     {
+        self.put(ask, answer);
         match spawned {
-            Spawned::Started(child) => {
-                self.put(ask, Answer::Started(child));
-                self.due += 1;
-            }
-            Spawned::Refused => self.put(ask, Answer::Refused),
+            Spawned::Started(_) => self.due += 1,
+            Spawned::Refused => {}
         }
     }
 

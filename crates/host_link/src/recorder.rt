@@ -6,7 +6,9 @@ ghost use Rattle.host_link.specs.Meaning.{exchanges_of};
 ghost use Rattle.host_link.specs.Hosts.{Asked, Exchanged, Fits, IsNumbered, after_spawn, spawned_answer, got_answer, ended_answer, send_answer, kill_answer};
 ghost use Rattle.host_link.specs.Recorded.{recorded_state, Records, RecordsOnce};
 
-use crate::answering::{answer_to_end, answer_to_kill, answer_to_read, answer_to_send};
+use crate::answering::{
+    answer_to_end, answer_to_kill, answer_to_read, answer_to_send, answer_to_spawn,
+};
 use crate::asking::{Answer, Ask, Exchanges, list_of, words};
 use crate::host::{Ended, Got, Host, KillAnswer, SendAnswer, Spawned};
 use crate::log::Log;
@@ -61,7 +63,7 @@ impl<H: Host> Host for Recorder<H> {
         let ask = Ask::Spawn(program_bytes, words(alloc, args)?);
         self.log.reserve(2)?;
         let spawned = self.inner.spawn(program, args)?;
-        self.log.put_spawn(ask, spawned);
+        self.log.put_spawn(ask, answer_to_spawn(spawned), spawned);
         Ok(spawned)
     }
 

@@ -1,6 +1,7 @@
 //! Runs the script on standard input, and writes its lines to standard output.
 #![tactic(auto)]
 
+mod children;
 mod standard;
 
 use kernel_top::{Status, run};

@@ -1,0 +1,51 @@
+use Rattle.std.proofs.Common.{◌≡◌, ◌≤◌, ◌+◌, [], ◌∷◌, ◌++◌, ap, sym, ◌∙◌, arith, length, map, slice_set, vec_len}
+use Rattle.std.proofs.lemmas.Grind.{common_steps}
+use Rattle.std.specs.String.{string_bytes}
+use Rattle.ek_types.specs.Listing.{items_of}
+use Rattle.ek_types.specs.MemoryIo.{fails_at}
+use Rattle.plain_machine.specs.Exchanges as model
+use Rattle.plain_machine.specs.Exchanges.{Exchange}
+use Rattle.host_link.specs.Hosts.{spawned_answer, after_spawn}
+use Rattle.host_link.specs.Meaning.{answer_of, words_of}
+use Rattle.host_link.specs.Logged.{kills_due, due_by}
+use Rattle.host_link.specs.Played.{PlayState, MemoryHostState, fails_now, spawn_reply}
+use Rattle.host_link.specs.Cursors.{rests, rest_of, cursors_by}
+use Rattle.host_link.proofs.Due.{due_after_spawn, length-after_spawn, length-cursors}
+use Rattle.host_link.proofs.Plays.{length-rests, rests_by}
+use Rattle.host_link.proofs.Hosted.{host_after, spawn_as}
+use Rattle.host_link.proofs.memory_host.MemoryHostHost.spawn.Goals as goal
+
+pub invariant_of-self-2 : goal.invariant_of-self-2
+invariant_of-self-2 c =
+    let cursors : length c.add_child.new.cursors.items ≡ length c.reserve-2.new.self.items + due_by c.next_child-spawned.result =
+    ap length c.add_child.ensures.cursors ∙ length-cursors c.reserve-2.new.self.items c.next_child-spawned.result in
+    let kills : length c.add_child.new.kills.items ≡ length c.reserve-3.new.self.items + due_by c.next_child-spawned.result =
+    ap length c.add_child.ensures.kills ∙ length-after_spawn c.reserve-3.new.self.items c.next_child-spawned.result in
+    let due : kills_due c.add_child.new.kills.items ≡ kills_due c.self.inside.kills.items + due_by c.next_child-spawned.result =
+    ap kills_due c.add_child.ensures.kills ∙ due_after_spawn c.reserve-3.new.self.items c.next_child-spawned.result ∙ ap (λ k. kills_due k + due_by c.next_child-spawned.result) c.reserve-3.ensures.items in (
+      grind (arith, common_steps, cursors, kills),
+      (let room = c.next_child-spawned.ensures.room (grind (arith, common_steps)) in grind (arith, common_steps, cursors, room)),
+      grind (arith, common_steps, due),
+    )
+
+pub returns-clause-exact : goal.returns-clause-exact
+returns-clause-exact c =
+    let fails : c.is_failing-fails.result ≡ fails_now c.args.self.now =
+    c.is_failing-fails.ensures ∙ ap (λ l. fails_at l c.self.inside.calls) c.deref.ensures.value ∙ ap fails_now c.self.view_is in
+    let kept : rests c.self.inside.plays.items c.self.inside.cursors.items ≡ c.args.self.now.plays = ap (λ (s : MemoryHostState). s.plays) c.self.view_is in
+    let children : c.len.result ≡ length c.args.self.now.kills = grind (arith, common_steps) in
+    let given : c.len-2.result ≡ length c.args.self.now.plays = grind (arith, common_steps, sym (length-rests c.self.inside.plays.items c.self.inside.cursors.items) ∙ ap length kept) in
+    let reply : spawned_answer c.next_child-spawned.result ≡ spawn_reply c.args.self.now = c.next_child-spawned.ensures.answer ∙ spawn_as _ _ _ _ _ _ fails children given in
+    let plays : rests c.self.inside.plays.items c.add_child.new.cursors.items ≡ c.args.self.now.plays =
+    ap (rests c.self.inside.plays.items) (c.add_child.ensures.cursors ∙ ap (λ l. l ++ cursors_by c.next_child-spawned.result) c.reserve-2.ensures.items)
+    ∙ rests_by c.self.inside.plays.items c.self.inside.cursors.items c.next_child-spawned.result ∙ kept in
+    let kills : c.add_child.new.kills.items ≡ after_spawn c.args.self.now.kills c.next_child-spawned.result =
+    c.add_child.ensures.kills ∙ ap (λ k. after_spawn k c.next_child-spawned.result) (c.reserve-3.ensures.items ∙ ap (λ (s : MemoryHostState). s.kills) c.self.view_is) in
+    let ask : model.Spawn (items_of c.in_ok-program_bytes.program_bytes) (words_of c.in_ok-words.field-0) ≡ model.Spawn c.args.program.now (map string_bytes c.args.args.now) =
+    ap (λ l. model.Spawn l (words_of c.in_ok-words.field-0)) (c.in_ok-program_bytes.ensures ∙ c.as_bytes.ensures.value) ∙ ap (model.Spawn c.args.program.now) c.in_ok-words.ensures in (
+      reply,
+      host_after _ c.args.self.now c.args.self.now.plays (after_spawn c.args.self.now.kills c.next_child-spawned.result) _ (answer_of c.answer_to_spawn-answer.result) (spawn_reply c.args.self.now)
+          _ c.add_child.new.kills.items _ _ c.reserve.new.self.told _
+          c.self.view_is (c.answer_to_spawn-answer.ensures ∙ reply) plays kills c.saturating_add-self-inside.ensures c.faults_after-self-inside.ensures c.in_ok-reserve.ensures.told
+          (c.put_spawn.ensures.told ∙ ap (λ a. c.reserve.new.self.told ++ (let x : Exchange = record { ask = a; answer = answer_of c.answer_to_spawn-answer.result } in x) ∷ []) ask),
+    )

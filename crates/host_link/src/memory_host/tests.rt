@@ -1,0 +1,122 @@
+ghost use Rattle.std.specs.Prelude.{◌≡◌, [], IfOk};
+
+use super::*;
+use crate::asking::Answers;
+use crate::recorder::Recorder;
+use crate::shown::shown;
+use ek_types::{ListOf, NoMemory};
+use std::test::Fail;
+
+fn answers(alloc: Global, first: Answer, second: Answer) -> Mem<Answers> {
+    let mut list = ListOf::new(alloc);
+    list.push(first)?;
+    list.push(second)?;
+    Ok(list)
+}
+
+/// One child that is read as "abc" and then by an answer of another kind, and has ended with code 3.
+fn host(alloc: Global, fails: Vec<u32>) -> Mem<MemoryHost>
+    ensures { IfOk result (λ h. h.kills ≡ []) }
+{
+    let text = list_of(alloc, b"abc")?;
+    let mut plays = Vec::new(alloc);
+    plays.push(Play {
+        reads: answers(alloc, Answer::Bytes(text), Answer::Sent)?,
+        ends: answers(alloc, Answer::Nothing, Answer::Code(3))?,
+    })?;
+    Ok(MemoryHost::new(plays, fails))
+}
+
+/// Every kind of call on a host that has one play.
+fn all_calls<H: Host>(alloc: Global, host: &mut H) -> Mem<String>
+    requires { (H.state host.old).kills ≡ [] }
+{
+    let mut args = Vec::new(alloc);
+    args.push(String::from_str(alloc, "-u")?)?;
+    let mut room = [0u8; 2];
+    if let Spawned::Started(child) = host.spawn("cat", args.as_slice())? {
+        let _ = host.read(child, &mut room)?;
+        let _ = host.read(child, &mut room)?;
+        let _ = host.read(child, &mut room)?;
+        let _ = host.read(child, &mut room)?;
+        let _ = host.send(child, b"xy")?;
+        host.close(child)?;
+        let _ = host.end(child)?;
+        let _ = host.end(child)?;
+        let _ = host.end(child)?;
+        let _ = host.kill(child);
+    }
+    match host.told() {
+        Some(list) => Ok(shown(alloc, list)?),
+        None => Err(NoMemory),
+    }
+}
+
+const ALL: &str = "spawn cat -u: started 0
+read 0: bytes ab
+read 0: bytes c
+read 0: nothing
+read 0: end
+send 0 xy: sent
+close 0: closed
+end 0: running
+end 0: code 3
+end 0: code 0
+kill 0: killed
+";
+
+#[test]
+fn a_child_is_played_in_order(rt: HostRuntime) -> Result<(), Fail> {
+    let mut host = host(rt.alloc(), Vec::new(rt.alloc()))?;
+    let told = all_calls(rt.alloc(), &mut host)?;
+    assert_eq!(rt; told.as_str(), ALL);
+    Ok(())
+}
+
+#[test]
+fn a_recorder_tells_what_its_inner_host_answers(rt: HostRuntime) -> Result<(), Fail> {
+    let inner = host(rt.alloc(), Vec::new(rt.alloc()))?;
+    let mut recorder = Recorder::new(rt.alloc(), inner);
+    let told = all_calls(rt.alloc(), &mut recorder)?;
+    assert_eq!(rt; told.as_str(), ALL);
+    Ok(())
+}
+
+#[test]
+fn calls_that_fail_use_up_no_answer(rt: HostRuntime) -> Result<(), Fail> {
+    let fails = vec![in rt.alloc(); 1, 3, 5, 7, 9, 10]?;
+    let mut host = host(rt.alloc(), fails)?;
+    let told = all_calls(rt.alloc(), &mut host)?;
+    assert_eq!(rt;
+        told.as_str(),
+        "spawn cat -u: started 0
+read 0: failed
+read 0: bytes ab
+read 0: failed
+read 0: bytes c
+send 0 xy: broken
+close 0: closed
+end 0: failed
+end 0: running
+end 0: failed
+kill 0: failed
+"
+    );
+    Ok(())
+}
+
+#[test]
+fn a_spawn_past_the_last_play_is_refused(rt: HostRuntime) -> Result<(), Fail> {
+    let mut host = MemoryHost::new(Vec::new(rt.alloc()), Vec::new(rt.alloc()));
+    let told = all_calls(rt.alloc(), &mut host)?;
+    assert_eq!(rt; told.as_str(), "spawn cat -u: refused\n");
+    Ok(())
+}
+
+#[test]
+fn a_spawn_that_fails_starts_no_child(rt: HostRuntime) -> Result<(), Fail> {
+    let mut host = host(rt.alloc(), vec![in rt.alloc(); 0]?)?;
+    let told = all_calls(rt.alloc(), &mut host)?;
+    assert_eq!(rt; told.as_str(), "spawn cat -u: refused\n");
+    Ok(())
+}
