@@ -18,6 +18,23 @@ import tempfile
 ROOT = pathlib.Path(__file__).resolve().parent.parent
 ENTRIES = ["filters_hear_what_was_read"]
 
+# an insertion, and one that also extends the insertion behind a boundary
+IN_FRONT = """abbrev pub in_front : Rec → ℕ → List Entry → List Entry
+in_front r serial [] = record { what = r; serial = serial } ∷ []
+in_front (Inserted from to) serial (e ∷ entries) = elim e.what [
+"""
+MERGED_BEHIND = """abbrev pub apart : (from to serial : ℕ) → Entry → List Entry → List Entry
+apart from to serial e entries = record { what = Inserted from to; serial = serial } ∷ e ∷ entries
+
+abbrev pub merged_behind : (from to serial : ℕ) → Entry → List Entry → List Entry
+merged_behind from to serial e [] = apart from to serial e []
+merged_behind from to serial e (f ∷ more) = elim f.what [
+  | Inserted b p ↦ if p == from then e ∷ record f { what = Inserted b to } ∷ more else apart from to serial e (f ∷ more)
+  | _ ↦ apart from to serial e (f ∷ more)
+]
+
+"""
+
 # name, file, old text, new text, the laws that fail
 CHANGES = [
     (
@@ -131,10 +148,8 @@ CHANGES = [
     (
         "insertion merged across a boundary",
         "text_model/specs/Undo.antt",
-        "in_front (Inserted from to) serial (e ∷ entries) = elim e.what [\n",
-        "in_front (Inserted from to) serial (record { what = Boundary; serial = s } ∷ record { what = Inserted b p; serial = k } ∷ entries) ="
-        " record { what = Boundary; serial = s } ∷ record { what = Inserted b to; serial = k } ∷ entries\n"
-        "in_front (Inserted from to) serial (e ∷ entries) = elim e.what [\n",
+        IN_FRONT,
+        MERGED_BEHIND + IN_FRONT + "  | Boundary ↦ merged_behind from to serial e entries\n",
         ["replacing_keeps_boundaries", "undo_returns"],
     ),
     (

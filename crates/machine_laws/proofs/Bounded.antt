@@ -1,23 +1,22 @@
 -- How many exchanges a run makes in all: the kills are no more than the processes, and these are at most 256.
-use Rattle.std.proofs.Common.{◌≡◌, ℕ, zero, suc, ◌+◌, ◌<◌, ◌≤◌, Bool, true, false, List, [], ◌∷◌, ◌++◌, length, map, refl, ap, sym, ◌∙◌, subst, arith, append_assoc}
+use Rattle.std.proofs.Common.{◌≡◌, ℕ, zero, suc, ◌+◌, ◌≤◌, Bool, true, false, List, [], ◌∷◌, ◌++◌, length, refl, ap, sym, ◌∙◌, subst, arith, append_assoc}
 use Rattle.std.proofs.lemmas.List.{append-nil, length-append, length-map}
 use Rattle.std.proofs.lemmas.List.Elements.{filter-append}
-use Rattle.std.specs.Prelude.{Option, Some, None, not, ◌||◌, ◌==◌, filter, nat_lt, slice_get, slice_set, codes, if◌then◌else◌}
+use Rattle.std.specs.Prelude.{Option, Some, None, not, ◌||◌, filter, nat_lt, slice_get, slice_set, codes, if◌then◌else◌}
 use Rattle.editor_model.specs.Values.{Value, Script}
-use Rattle.plain_machine.specs.Exchanges.{Exchange, Ask, Spawn, Read, AskEnd, Send, Close, Kill, Answer, Started, Bytes, Code, End, Signal, Running, Sent, Broken, Closed, Killed, gone, goes_by, children_started, started_by}
+use Rattle.plain_machine.specs.Exchanges.{Exchange, Ask, Spawn, Read, AskEnd, Send, Close, Kill, Answer, Started, Bytes, Code, End, Signal, Running, Sent, Broken, Closed, Killed, gone, goes_by, children_started}
 use Rattle.plain_machine.specs.State.{State, Program, Process, Exited, Signalled, Lost, process, change_process}
 use Rattle.plain_machine.specs.Lines.{KilledLast}
-use Rattle.plain_machine.specs.Items.{Item, Finish, Target, Waiting, Said, Config, Next, Step, Goes, Asks}
+use Rattle.plain_machine.specs.Items.{Item, Finish, Target, Waiting, Said, Config, Next}
 use Rattle.plain_machine.specs.Calls.{spawned, spawned_child, is_new_child, sent_answer, closed_answer, with_input_closed}
 use Rattle.plain_machine.specs.Refusals.{most_exchanges, most_processes}
 use Rattle.plain_machine.specs.Forms.{says}
 use Rattle.plain_machine.specs.Waits.{read_answer, hear, end_answer, ends, kill_answer, asked_more, is_room}
-use Rattle.plain_machine.specs.Step.{step}
 use Rattle.plain_machine.specs.Run.{Reaches, start}
 use Rattle.plain_machine.proofs.Composed.{over_runs}
 use Rattle.machine_laws.specs.Children.{is_kill, FewInAll}
-use Rattle.machine_laws.proofs.Basics.{set_length, same_is, is_same, or_right}
-use Rattle.machine_laws.proofs.Keeping.{core, cores, Asking, spawns, sends, closes, reads, asks_end, deletes, finishes, Keeps, step_keeps}
+use Rattle.machine_laws.proofs.Basics.{set_length, is_same, or_right}
+use Rattle.machine_laws.proofs.Keeping.{Asking, spawns, sends, closes, reads, asks_end, deletes, finishes, Keeps, step_keeps}
 use Rattle.machine_laws.proofs.Stopping.{same_count}
 use Rattle.machine_laws.proofs.Alive.{Lives, cores_children, started-append, gone-append}
 use Rattle.machine_laws.proofs.Spent.{few_exchanges}
@@ -94,8 +93,8 @@ few_processes program bound script xs said c r =
     over_runs program bound (λ xs said c. length c.state.processes ≤ most_processes)
     (λ xs said c n i e. rw (same_count program bound c n e) i)
     (λ xs said c ask answer next n i e h.
-        let k : Asking c.state ask next = subst (λ t. Keeps c.state t) e (step_keeps program bound c) in
-        let f : Few (Some n) = subst (λ o. Few o) h (asking_few c.state i ask next answer k) in f)
+    let k : Asking c.state ask next = subst (λ t. Keeps c.state t) e (step_keeps program bound c) in
+    let f : Few (Some n) = subst (λ o. Few o) h (asking_few c.state i ask next answer k) in f)
     r [] [] (omega arith)
 
 -- KILLS
