@@ -54,7 +54,9 @@ fn words(rt: &HostRuntime) -> Result<Vec<String>, Failure> {
     let Ok(args) = env::args(rt) else {
         return Err(Failure::Usage);
     };
-    args.skip(1).collect(rt.alloc()).map_err(|_| Failure::Memory)
+    args.skip(1)
+        .collect(rt.alloc())
+        .map_err(|_| Failure::Memory)
 }
 
 fn work(rt: &HostRuntime) -> Result<(), Failure> {

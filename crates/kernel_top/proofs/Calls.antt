@@ -56,8 +56,8 @@ module _ (program : Program) (b : Buffer) (fs : Forms) where
       Reaches program 16 (at_top b (Then (called GotoChar (Const (Int i) ∷ [])) fs)) [] (reply_said program b (Answered (Int i))) (at_top (point_at (place (plain_editor b) (Int i)) b) fs)
   goto_char_steps i = goes refl (goes refl (goes refl (goes refl stays)))
 
-  pub nothing_steps : (prim : Prim) (args : List Arg) (values : List Value) (v : Value) → 
-      step program 16 (record { state = plain_state b; work = MakeCall prim values Nowhere ∷ Top fs ∷ [] }) ≡ change_call (plain_state b) Nowhere (Top fs ∷ []) (Nothing v) → 
+  pub nothing_steps : (prim : Prim) (args : List Arg) (values : List Value) (v : Value) →
+      step program 16 (record { state = plain_state b; work = MakeCall prim values Nowhere ∷ Top fs ∷ [] }) ≡ change_call (plain_state b) Nowhere (Top fs ∷ []) (Nothing v) →
       Reaches program 16 (record { state = plain_state b; work = MakeCall prim values Nowhere ∷ Top fs ∷ [] }) [] (reply_said program b (Answered v)) (at_top b fs)
   nothing_steps prim args values v e = goes e (goes refl stays)
 
@@ -65,7 +65,6 @@ module _ (program : Program) (b : Buffer) (fs : Forms) where
       step program 16 (record { state = plain_state b; work = MakeCall prim values Nowhere ∷ Top fs ∷ [] }) ≡ change_call (plain_state b) Nowhere (Top fs ∷ []) (Barred f) →
       Reaches program 16 (record { state = plain_state b; work = MakeCall prim values Nowhere ∷ Top fs ∷ [] }) [] (reply_said program b (Refused f)) (at_top b fs)
   barred_steps prim values f e = goes e (goes refl stays)
-
 
   commit_step : (from to : ℕ) (piece : List Cell) (point_after : Bool) (rest : List Item) → first_fault (commit_tests (kept_editor b from to) 0 (Put piece false point_after false None)) ≡ None →
       step program 16 (record { state = kept_state b from to; work = CommitChange (change from to piece point_after) ∷ rest }) ≡

@@ -69,9 +69,11 @@ came_by : (c : Content) (x : Ch) (more : List Ch) → c.point ≤ length c.text 
 came_by c x more p r = λ program u fs.
     let b = buffer_with c u in
     let site = put b c.point c.point (bare (x ∷ more)) true in
-    let fits = has_room_for c u (length (bare (x ∷ more))) r in
-    (site.buffer.undo, moved (insertion_pops c u x more ∙ ap plain_state (inserted_content c u x more p))
-    (goes refl (goes refl (change_steps program b fs Insert (Str (bare (x ∷ more)) ∷ []) c.point c.point (bare (x ∷ more)) true (ap (prepared_step c u fs) (room b x more fits)) (room_at_commit b x more fits)))))
+    let fits = has_room_for c u (length (bare (x ∷ more))) r in (
+      site.buffer.undo,
+      moved (insertion_pops c u x more ∙ ap plain_state (inserted_content c u x more p))
+          (goes refl (goes refl (change_steps program b fs Insert (Str (bare (x ∷ more)) ∷ []) c.point c.point (bare (x ∷ more)) true (ap (prepared_step c u fs) (room b x more fits)) (room_at_commit b x more fits)))),
+    )
 
 pub came_inserted : (c : Content) (a : Arg) (piece : List Cell) (text : List Ch) → a ≡ Const (Str piece) → piece ≡ bare text → (length piece == 0) ≡ false →
     c.point ≤ length c.text → length c.text + length piece ≤ longest_text → ComesTo (called Insert (a ∷ [])) c (inserted (characters piece) c) answer.Nil
@@ -95,9 +97,11 @@ module _ (c : Content) (a b : Arg) (i j : ℤ) where
   module _ (e : a ≡ Const (Int i)) (k : b ≡ Const (Int j)) (h : is_within c i ≡ true) (l : is_within c j ≡ true) where
     pub came_nothing : place_of i ≡ place_of j → ComesTo (called DeleteRegion (a ∷ b ∷ [])) c c answer.Nil
     came_nothing same = rw (e, k) (λ program u fs.
-        let together : (min (place_of i) (place_of j) == max (place_of i) (place_of j)) ≡ true = eq-eqb (min (place_of i) (place_of j)) (max (place_of i) (place_of j)) (omega (arith, same)) in
-        (u, goes refl (goes refl (nothing_steps program (buffer_with c u) fs DeleteRegion (Const (Int i) ∷ Const (Int j) ∷ []) (Int i ∷ Int j ∷ []) Nil
-        (ap (prepared_step c u fs) (inside (buffer_with c u) i j h l ∙ ap (λ t. if t then Nothing Nil else Changes (change (min (place_of i) (place_of j)) (max (place_of i) (place_of j)) [] false)) together))))))
+        let together : (min (place_of i) (place_of j) == max (place_of i) (place_of j)) ≡ true = eq-eqb (min (place_of i) (place_of j)) (max (place_of i) (place_of j)) (omega (arith, same)) in (
+          u,
+          goes refl (goes refl (nothing_steps program (buffer_with c u) fs DeleteRegion (Const (Int i) ∷ Const (Int j) ∷ []) (Int i ∷ Int j ∷ []) Nil
+              (ap (prepared_step c u fs) (inside (buffer_with c u) i j h l ∙ ap (λ t. if t then Nothing Nil else Changes (change (min (place_of i) (place_of j)) (max (place_of i) (place_of j)) [] false)) together)))),
+        ))
 
     pub came_deleted : (from to : ℕ) → from ≡ min (place_of i) (place_of j) → to ≡ max (place_of i) (place_of j) → from < to → to ≤ length c.text → c.point ≤ length c.text →
         ComesTo (called DeleteRegion (a ∷ b ∷ [])) c (deleted from to c) answer.Nil
@@ -105,9 +109,11 @@ module _ (c : Content) (a b : Arg) (i j : ℤ) where
         let apart : (min (place_of i) (place_of j) == max (place_of i) (place_of j)) ≡ false = ne_eqb (min (place_of i) (place_of j)) (max (place_of i) (place_of j)) (λ same. omega (arith, same, f, t)) in
         let site = put (buffer_with c u) from to [] false in
         let ready = inside (buffer_with c u) i j h l ∙ ap (λ t. if t then Nothing Nil else Changes (change (min (place_of i) (place_of j)) (max (place_of i) (place_of j)) [] false)) apart
-              ∙ ap (λ p. Changes (change p (max (place_of i) (place_of j)) [] false)) (sym f) ∙ ap (λ p. Changes (change from p [] false)) (sym t) in
-        (site.buffer.undo, moved (deletion_pops c u from to order ∙ ap plain_state (deleted_content c u from to order within point))
-        (goes refl (goes refl (change_steps program (buffer_with c u) fs DeleteRegion (Int i ∷ Int j ∷ []) from to [] false (ap (prepared_step c u fs) ready) refl)))))
+        ∙ ap (λ p. Changes (change p (max (place_of i) (place_of j)) [] false)) (sym f) ∙ ap (λ p. Changes (change from p [] false)) (sym t) in (
+          site.buffer.undo,
+          moved (deletion_pops c u from to order ∙ ap plain_state (deleted_content c u from to order within point))
+              (goes refl (goes refl (change_steps program (buffer_with c u) fs DeleteRegion (Int i ∷ Int j ∷ []) from to [] false (ap (prepared_step c u fs) ready) refl))),
+        ))
 
 -- a place within the text, and none outside
 pub found : (c : Content) (i : ℤ) (p : ℕ) → place_within c i ≡ Some p → (is_within c i ≡ true) × (p ≡ place_of i)

@@ -43,6 +43,7 @@ end_falls q r p h k = rw (before, behind) refl
   where
     before : nat_le p q ≡ false
     before = lt-leb p q (omega arith)
+
     behind : nat_lt p r ≡ false
     behind = le-ltb p r k
 
@@ -65,10 +66,10 @@ inserted_content c u x more h =
     let begins = start_stays c.point (length (bare (x ∷ more))) in
     let ends : after_insert c.point (length (bare (x ∷ more))) true (length c.text) ≡ length c.text + length (x ∷ more) = end_moves c.point (length (bare (x ∷ more))) (length c.text) h ∙ ap (λ k. length c.text + k) n in
     let size : length (inserted (x ∷ more) c).text ≡ length c.text + length (x ∷ more) =
-          omega (arith, length-append (take c.point c.text) ((x ∷ more) ++ drop c.point c.text), length-append (x ∷ more) (drop c.point c.text), length-take c.point c.text, length-drop c.point c.text) in
+    omega (arith, length-append (take c.point c.text) ((x ∷ more) ++ drop c.point c.text), length-append (x ∷ more) (drop c.point c.text), length-take c.point c.text, length-drop c.point c.text) in
     let clipped : clip 0 (length c.text + length (x ∷ more)) (c.point + length (x ∷ more)) ≡ c.point + length (x ∷ more) = omega arith in
     let point : clip (after_insert c.point (length (bare (x ∷ more))) false 0) (after_insert c.point (length (bare (x ∷ more))) true (length c.text)) (c.point + length (bare (x ∷ more))) ≡ c.point + length (x ∷ more) =
-          rw (begins, ends, n) clipped in
+    rw (begins, ends, n) clipped in
     same_buffer (bare_spliced c.text (x ∷ more) c.point c.point) begins (ends ∙ sym size) point
 
 pub insertion_pops : (c : Content) (u : Undo) (x : Ch) (more : List Ch) →

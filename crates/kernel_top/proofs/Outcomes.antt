@@ -41,7 +41,7 @@ no_script_read bytes read script now taken (inl end) is none = none script (rw (
 no_script_read bytes read script now taken (inr long) is none = omega (arith, long, front_only bytes read now taken, is.of_machine.short)
 
 module _ (words : List (List ℕ)) (read written bytes : List ℕ) (exchanges : List Exchange) (before now : Option (List ℕ)) (unfaulted failed_reading failed_writing : Type 0) (script : Script) (run : IsRun words) (taken : Consumes before now read)
-         (told : before ≡ Some bytes) (is : IsScriptSoFar bytes script) where
+    (told : before ≡ Some bytes) (is : IsScriptSoFar bytes script) where
   -- where neither source nor sink failed, a script is run to its end, or memory was wanting
   pub completes : (answer : Status) → Outcome answer words read written exchanges (HasEnded before now) unfaulted → (answer ≡ status.ReadFault → failed_reading) → (answer ≡ status.WriteFault → failed_writing) →
       (failed_reading → ⊥) → (failed_writing → ⊥) → (answer ≡ status.Done) ⊎ (answer ≡ status.NoMemory)

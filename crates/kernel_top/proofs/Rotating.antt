@@ -30,7 +30,7 @@ pub piece_in : {X Y : Type 0} (f : X → Y) (xs ys zs : List X) (piece : List Y)
     zs ≡ take p ys ++ (drop (length ys - n) ys ++ drop p (take (length ys - n) ys)) → map f zs ≡ take p (map f xs) ++ (piece ++ drop p (map f xs))
 piece_in f xs ys zs piece p n e count within moved =
     let old : length ys - n ≡ length (map f xs) =
-          omega (arith, length-map ys f, ap length e, length-append (map f xs) piece) in
+    omega (arith, length-map ys f, ap length e, length-append (map f xs) piece) in
     let front : p ≤ length (map f xs) = omega (arith, length-map xs f) in
     ap (map f) moved ∙ map-append f (take p ys) (drop (length ys - n) ys ++ drop p (take (length ys - n) ys)) ∙ ap (λ l. map f (take p ys) ++ l) (map-append f (drop (length ys - n) ys) (drop p (take (length ys - n) ys)))
     ∙ rw (← take-map f p ys, ← drop-map f (length ys - n) ys, ← drop-map f p (take (length ys - n) ys), ← take-map f (length ys - n) ys, e, old, take-append_seam (map f xs) piece, drop-append_seam (map f xs) piece, take-append-le p (map f xs) piece front) refl
@@ -40,6 +40,15 @@ pub part_out : {X : Type 0} (xs ys : List X) (from to : ℕ) → from ≤ to →
 part_out xs ys from to order within e =
     let front : length (take from xs) ≡ from = length-take-le from xs (omega arith) in
     let size : length ys - (to - from) ≡ length (take from xs ++ drop to xs) =
-          omega (arith, ap length e, length-append (take from xs) (drop to xs ++ drop from (take to xs)), length-append (drop to xs) (drop from (take to xs)), length-append (take from xs) (drop to xs),
-          length-drop from (take to xs), length-take-le to xs within, length-drop to xs, front) in
+    omega (
+      arith,
+      ap length e,
+      length-append (take from xs) (drop to xs ++ drop from (take to xs)),
+      length-append (drop to xs) (drop from (take to xs)),
+      length-append (take from xs) (drop to xs),
+      length-drop from (take to xs),
+      length-take-le to xs within,
+      length-drop to xs,
+      front,
+    ) in
     ap (λ k. take k ys) size ∙ ap (take (length (take from xs ++ drop to xs))) (e ∙ sym (append_assoc (take from xs) (drop to xs) (drop from (take to xs)))) ∙ take-append_seam (take from xs ++ drop to xs) (drop from (take to xs))

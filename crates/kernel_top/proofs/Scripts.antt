@@ -55,9 +55,11 @@ module _ (script : Script) (forms : List Form) (are : script.forms ≡ joined fo
   after : (i : ℕ) (f : Form) (c new : Content) (a : Answer) (g h : Option (List ℕ)) → slice_get forms i ≡ Some f → ComesTo f c new a → (p : SoFar script forms i c g h) →
       (v : Undo) × Reaches program 16 (start script) [] (p.said ++ reply_of c p.undo a ∷ []) (at_top (buffer_with new v) (joined (drop (i + 1) forms)))
   after i f c new a g h e comes p =
-      let (v, steps) = comes program p.undo (joined (drop (i + 1) forms)) in
-      (v, reaches_then program 16 (start script) (at_top (buffer_with c p.undo) (Then f (joined (drop (i + 1) forms)))) (at_top (buffer_with new v) (joined (drop (i + 1) forms))) [] [] p.said (reply_of c p.undo a ∷ [])
-      (rw (drop_one forms i f e) at p.reaches) steps)
+      let (v, steps) = comes program p.undo (joined (drop (i + 1) forms)) in (
+        v,
+        reaches_then program 16 (start script) (at_top (buffer_with c p.undo) (Then f (joined (drop (i + 1) forms)))) (at_top (buffer_with new v) (joined (drop (i + 1) forms))) [] [] p.said (reply_of c p.undo a ∷ [])
+            (rw (drop_one forms i f e) at p.reaches) steps,
+      )
 
   pub so_far_more : {T E : Type 0} (i : ℕ) (f : Form) (c new : Content) (a : Answer) (x : T) (g : Option (List ℕ)) (old now : SinkState) → slice_get forms i ≡ Some f → ComesTo f c new a →
       SoFar script forms i c g old.held →
@@ -74,39 +76,46 @@ module _ (script : Script) (forms : List Form) (are : script.forms ≡ joined fo
 
   -- broken off between two calls
   pub stopped_between : (i : ℕ) (c : Content) (g h : Option (List ℕ)) (unfaulted : Type 0) → SoFar script forms i c g h → (written : List ℕ) × Appends g h written × StoppedScript script [] written unfaulted
-  stopped_between i c g h unfaulted p = (lines p.said, p.written, record {
-    broken = record {
-      made = [];
-      kills = [];
-      said = p.said;
-      last = at_top (buffer_with c p.undo) (joined (drop i forms));
-      run = p.reaches;
-      between = tt;
-      exchanges_are = refl;
-      killed = tt;
-      bytes = ([], append-nil (lines p.said));
-    };
-    whole = λ u. refl;
-  })
+  stopped_between i c g h unfaulted p = (
+    lines p.said,
+    p.written,
+    record {
+      broken = record {
+        made = [];
+        kills = [];
+        said = p.said;
+        last = at_top (buffer_with c p.undo) (joined (drop i forms));
+        run = p.reaches;
+        between = tt;
+        exchanges_are = refl;
+        killed = tt;
+        bytes = ([], append-nil (lines p.said));
+      };
+      whole = λ u. refl;
+    },
+  )
 
   -- broken off in the middle of what was said last
   stopped_in : (said : List Said) (x : Said) (last : Config) (g h : Option (List ℕ)) (before k : Option (List ℕ)) (bytes : List ℕ) (unfaulted : Type 0) → Reaches program 16 (start script) [] (said ++ x ∷ []) last → IsBetweenEntries last →
       Appends g h (lines said) → IsFront bytes x.line → Appends h k bytes → (unfaulted → ⊥) → (written : List ℕ) × Appends g k written × StoppedScript script [] written unfaulted
-  stopped_in said x last g h before k bytes unfaulted run between written front appended never =
-      (lines said ++ bytes, Appends-trans g h k (lines said) bytes written appended, record {
-        broken = record {
-          made = [];
-          kills = [];
-          said = said ++ x ∷ [];
-          last = last;
-          run = run;
-          between = between;
-          exchanges_are = refl;
-          killed = tt;
-          bytes = (front.0, append_assoc (lines said) bytes front.0 ∙ ap (λ l. lines said ++ l) (sym front.1) ∙ one_more said x);
-        };
-        whole = λ u. absurd (never u);
-      })
+  stopped_in said x last g h before k bytes unfaulted run between written front appended never = (
+    lines said ++ bytes,
+    Appends-trans g h k (lines said) bytes written appended,
+    record {
+      broken = record {
+        made = [];
+        kills = [];
+        said = said ++ x ∷ [];
+        last = last;
+        run = run;
+        between = between;
+        exchanges_are = refl;
+        killed = tt;
+        bytes = (front.0, append_assoc (lines said) bytes front.0 ∙ ap (λ l. lines said ++ l) (sym front.1) ∙ one_more said x);
+      };
+      whole = λ u. absurd (never u);
+    },
+  )
 
   pub stopped_writing : {T E : Type 0} (i : ℕ) (f : Form) (c new : Content) (a : Answer) (x : E) (g : Option (List ℕ)) (old now : SinkState) (unfaulted : Type 0) → slice_get forms i ≡ Some f → ComesTo f c new a →
       SoFar script forms i c g old.held →
@@ -132,14 +141,17 @@ module _ (script : Script) (forms : List Form) (are : script.forms ≡ joined fo
       ((symbols : List (List ℕ)) (u : Undo) → Writes {E = E} old now (Ok x) (dump symbols (plain_state (buffer_with c u)))) →
       (written : List ℕ) × Appends g now.held written × RanScript script [] written
   ran_all i c x g old now e p w =
-      let dumped = dumped_of c p.undo in
-      (lines (p.said ++ dumped ∷ []), rw (← one_more p.said dumped) (Appends-trans g old.held now.held (lines p.said) dumped.line p.written (w program.symbols p.undo).ok), record {
-        said = p.said ++ dumped ∷ [];
-        last = ended_at c p.undo;
-        run = to_the_end i c g old.held e p;
-        ended = refl;
-        bytes = refl;
-      })
+      let dumped = dumped_of c p.undo in (
+        lines (p.said ++ dumped ∷ []),
+        rw (← one_more p.said dumped) (Appends-trans g old.held now.held (lines p.said) dumped.line p.written (w program.symbols p.undo).ok),
+        record {
+          said = p.said ++ dumped ∷ [];
+          last = ended_at c p.undo;
+          run = to_the_end i c g old.held e p;
+          ended = refl;
+          bytes = refl;
+        },
+      )
 
   pub stopped_dumping : {T E : Type 0} (i : ℕ) (c : Content) (x : E) (g : Option (List ℕ)) (old now : SinkState) (unfaulted : Type 0) → length forms ≤ i → SoFar script forms i c g old.held →
       ((symbols : List (List ℕ)) (u : Undo) → Writes {T = T} old now (Err x) (dump symbols (plain_state (buffer_with c u)))) → (unfaulted → ⊥) →

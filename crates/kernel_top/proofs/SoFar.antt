@@ -4,7 +4,7 @@ use Rattle.std.specs.Prelude.{ℤ}
 use Rattle.std.proofs.lemmas.Option.{slice_get-map}
 use Rattle.text_model.specs.Characters.{Ch}
 use Rattle.text_model.specs.Properties.{bare}
-use Rattle.editor_model.specs.Values.{Prim, Insert, GotoChar, DeleteRegion, Int, Str, Const, Forms, Do} 
+use Rattle.editor_model.specs.Values.{Prim, Insert, GotoChar, DeleteRegion, Int, Str, Const, Forms, Do}
 use Rattle.editor_model.specs.Values as model
 use Rattle.ek_types.specs.Listing.{items_of}
 use Rattle.plain_machine.specs.Grammar.{Top, Run, Handler, forms_of}

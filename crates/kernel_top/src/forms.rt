@@ -42,9 +42,7 @@ fn run_form(core: &mut CoreText, form: &Form) -> Mem<Answer>
     ensures ok { IfOk result (λ answer. ComesTo (form_of form.now) core.old core.new answer) }
     ensures err { OnErr result (core.new ≡ core.old) }
 {
-    let Form::Do(call) = form else {
-        unreachable!()
-    };
+    let Form::Do(call) = form else { unreachable!() };
     make(core, call)
 }
 

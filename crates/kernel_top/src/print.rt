@@ -22,7 +22,12 @@ fn show_octal(byte: u8, out: &mut [u8; 4]) -> usize
     ensures bytes { take result out.new ≡ octal byte }
     ensures within { result ≤ 4 }
 {
-    *out = [b'\\', b'0' + byte / 64, b'0' + byte / 8 % 8, b'0' + byte % 8];
+    *out = [
+        b'\\',
+        b'0' + byte / 64,
+        b'0' + byte / 8 % 8,
+        b'0' + byte % 8,
+    ];
     4
 }
 

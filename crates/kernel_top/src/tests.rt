@@ -5,7 +5,8 @@ use std::test::Fail;
 
 const FIRST: &str = "(insert \"hello\")(goto-char 2)(delete-region 2 3)";
 
-const FIRST_LINES: &[u8] = b"= nil\n= 2\n= nil\nbuffer *scratch* point 2 min 1 max 5 modified t current\ntext \"hllo\"\n";
+const FIRST_LINES: &[u8] =
+    b"= nil\n= 2\n= nil\nbuffer *scratch* point 2 min 1 max 5 modified t current\ntext \"hllo\"\n";
 
 /// The most bytes of a call, and the call that fails.
 #[derive(Clone, Copy)]

@@ -84,7 +84,7 @@ fn run_words<S: Source, K: Sink>(
     ensures outcome { (read written : List ℕ) × Consumes (S.state source.old).left (S.state source.new).left read × (length read ≤ longest_script + 1)
         × Appends (K.state sink.old).held (K.state sink.new).held written
         × Outcome result (map string_bytes words.now) read written []
-            (HasEnded (S.state source.old).left (S.state source.new).left) (Rose (K.state sink.old).faults (K.state sink.new).faults → ⊥) }
+        (HasEnded (S.state source.old).left (S.state source.new).left) (Rose (K.state sink.old).faults (K.state sink.new).faults → ⊥) }
     ensures untouched { result ≡ Status.Usage → (S.state source.new ≡ S.state source.old) × (K.state sink.new ≡ K.state sink.old) }
     ensures read_fault { HasCause (S.state source.old).faults (S.state source.new).faults (result ≡ Status.ReadFault) }
     ensures write_fault { HasCause (K.state sink.old).faults (K.state sink.new).faults (result ≡ Status.WriteFault) }
@@ -114,7 +114,7 @@ pub fn run<S: Source, K: Sink>(
     ensures outcome { (read written : List ℕ) × Consumes (S.state source.old).left (S.state source.new).left read × (length read ≤ longest_script + 1)
         × Appends (K.state sink.old).held (K.state sink.new).held written
         × Outcome result (map string_bytes words.now) read written []
-            (HasEnded (S.state source.old).left (S.state source.new).left) (Rose (K.state sink.old).faults (K.state sink.new).faults → ⊥) }
+        (HasEnded (S.state source.old).left (S.state source.new).left) (Rose (K.state sink.old).faults (K.state sink.new).faults → ⊥) }
     ensures untouched { result ≡ Status.Usage → (S.state source.new ≡ S.state source.old) × (K.state sink.new ≡ K.state sink.old) }
     ensures read_fault { HasCause (S.state source.old).faults (S.state source.new).faults (result ≡ Status.ReadFault) }
     ensures write_fault { HasCause (K.state sink.old).faults (K.state sink.new).faults (result ≡ Status.WriteFault) }
