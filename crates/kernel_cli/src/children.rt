@@ -136,3 +136,6 @@ impl<'a, R: Processes> Host for RealHost<'a, R> {
         KillAnswer::Killed
     }
 }
+
+#[cfg(test)]
+mod tests;
