@@ -7,7 +7,7 @@ pub enum Status {
     Done,
     /// The words aren't `run` alone. Nothing was read or written.
     Usage,
-    /// The bytes of the source are no script, by the line at which they go wrong; 0 for now. Nothing was written.
+    /// The bytes of the source are no script, by the line at which they go wrong, which is 0 wherever that is. Nothing was written.
     Script(u32),
     /// The source failed. Nothing was written.
     ReadFault,
