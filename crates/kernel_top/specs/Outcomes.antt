@@ -1,12 +1,13 @@
 -- What the top call claims, by its status: of the bytes read, of the bytes written, and of the exchanges made.
-use Rattle.std.specs.Prelude.{◌≡◌, ℕ, ◌<◌, List, [], ◌∷◌, length, codes, ◌⊎◌, Option, Some, None}
+use Rattle.std.specs.Prelude.{◌≡◌, ℕ, ◌<◌, ◌≤◌, List, [], ◌∷◌, length, codes, ◌⊎◌, Option, Some, None}
 use Rattle.std.specs.Io.KnownBytes.{IsAtEnd}
 use Rattle.editor_model.specs.Values.{Script}
 use Rattle.plain_machine.specs.Exchanges.{Exchange}
 use Rattle.plain_machine.specs.State.{Program}
 use Rattle.plain_machine.specs.Symbols.{program_of}
 use Rattle.plain_machine.specs.Grammar.{longest_script}
-use Rattle.plain_machine.specs.Run.{lines}
+use Rattle.plain_machine.specs.Items.{Said, Config}
+use Rattle.plain_machine.specs.Run.{Reaches, start, lines}
 use Rattle.plain_machine.specs.WholeRuns.{Ran, BrokenOff}
 use Rattle.script_read.specs.GrammarSoFar.{IsScriptSoFar, IsNoScript}
 use Rattle.kernel_top.specs.declared.status.Status.{Status}
@@ -26,6 +27,10 @@ program_for script = program_of script [] (λ native args past. None)
 
 abbrev pub RanScript : Script → List Exchange → (written : List ℕ) → Type 0
 RanScript script exchanges written = Ran (program_for script) deepest script exchanges written
+
+-- no run of the machine on the script says more bytes than these
+abbrev pub SaysAtMost : Script → ℕ → Type 0
+SaysAtMost script most = (said : List Said) (last : Config) → Reaches (program_for script) deepest (start script) [] said last → length (lines said) ≤ most
 
 -- a run that was broken off; where the sink didn't fail, what it wrote is whole lines
 pub record StoppedScript (script : Script) (exchanges : List Exchange) (written : List ℕ) (unfaulted : Type 0) : Type 0 where

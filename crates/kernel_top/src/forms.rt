@@ -7,7 +7,7 @@ ghost use Rattle.ek_types.specs.Io.{HasCause, Rose};
 ghost use Rattle.ek_call.specs.Meaning.{call_of, form_of, script_of};
 ghost use Rattle.kernel_top.specs.Answers.{ComesTo};
 ghost use Rattle.kernel_top.specs.Forms.{IsFormSoFar, AreFormsSoFar};
-ghost use Rattle.kernel_top.specs.Outcomes.{RanScript, StoppedScript};
+ghost use Rattle.kernel_top.specs.Outcomes.{RanScript, StoppedScript, SaysAtMost};
 
 use crate::answer::Answer;
 use crate::apply::{delete_region, goto_char, insert};
@@ -53,6 +53,7 @@ pub fn run_script<K: Sink>(alloc: Global, script: &Script, sink: &mut K) -> Resu
     ensures err { OnErr result ((written : List ℕ) × Appends (K.state sink.old).held (K.state sink.new).held written
         × StoppedScript (script_of script.now) [] written (Rose (K.state sink.old).faults (K.state sink.new).faults → ⊥)) }
     ensures cause { HasCause (K.state sink.old).faults (K.state sink.new).faults (result ≡ Err Stop.WriteFault) }
+    ensures roomy { SaysAtMost (script_of script.now) (K.state sink.old).room → (K.state sink.new).faults ≡ (K.state sink.old).faults }
 {
     let mut core = CoreText::new(alloc);
     for i in 0..script.forms.len() {

@@ -5,7 +5,7 @@ ghost use Rattle.editor_model.specs.Values.{Script as Meant};
 ghost use Rattle.plain_machine.specs.Grammar.{longest_script};
 ghost use Rattle.ek_types.specs.Io.{HasCause, Rose};
 ghost use Rattle.script_read.specs.GrammarSoFar.{IsScriptSoFar};
-ghost use Rattle.kernel_top.specs.Outcomes.{IsRun, HasEnded, Outcome};
+ghost use Rattle.kernel_top.specs.Outcomes.{IsRun, HasEnded, Outcome, SaysAtMost};
 
 use crate::forms::{Stop, run_script};
 use crate::status::Status;
@@ -39,6 +39,7 @@ fn read_all<S: Source>(alloc: Global, source: &mut S) -> Result<Vec<u8>, Refused
     ensures some { IfErr result (λ refused. (read : List ℕ) × Consumes (S.state source.old).left (S.state source.new).left read
         × (length read ≤ longest_script + 1) × (refused ≡ Refused.TooLong → longest_script < length read)) }
     ensures cause { HasCause (S.state source.old).faults (S.state source.new).faults (result ≡ Err Refused.Failed) }
+    ensures unfailing { IsTrue (S.state source.old).unfailing → (S.state source.new).faults ≡ (S.state source.old).faults }
 {
     let mut all = Vec::new(alloc);
     let mut piece = [0u8; PIECE];
@@ -63,6 +64,7 @@ fn run_bytes<K: Sink>(alloc: Global, bytes: &[u8], sink: &mut K) -> Status
         × Outcome result (codes "run" ∷ []) bytes.now written [] (Unit {0}) (Rose (K.state sink.old).faults (K.state sink.new).faults → ⊥) }
     ensures no_read { result ≡ Status.ReadFault → ⊥ }
     ensures write_fault { HasCause (K.state sink.old).faults (K.state sink.new).faults (result ≡ Status.WriteFault) }
+    ensures roomy { (script : Meant) → IsScriptSoFar bytes.now script → SaysAtMost script (K.state sink.old).room → (K.state sink.new).faults ≡ (K.state sink.old).faults }
 {
     match read(alloc, bytes) {
         Ok(script) => match run_script(alloc, &script, sink) {
@@ -88,6 +90,9 @@ fn run_words<S: Source, K: Sink>(
     ensures untouched { result ≡ Status.Usage → (S.state source.new ≡ S.state source.old) × (K.state sink.new ≡ K.state sink.old) }
     ensures read_fault { HasCause (S.state source.old).faults (S.state source.new).faults (result ≡ Status.ReadFault) }
     ensures write_fault { HasCause (K.state sink.old).faults (K.state sink.new).faults (result ≡ Status.WriteFault) }
+    ensures unfailing { IsTrue (S.state source.old).unfailing → (S.state source.new).faults ≡ (S.state source.old).faults }
+    ensures roomy { (bytes : List ℕ) (script : Meant) → (S.state source.old).left ≡ Some bytes → IsScriptSoFar bytes script
+        → SaysAtMost script (K.state sink.old).room → (K.state sink.new).faults ≡ (K.state sink.old).faults }
 {
     if !is_run(words) {
         return Status::Usage;
@@ -104,7 +109,8 @@ fn run_words<S: Source, K: Sink>(
 /// behind the program's name; only `run` alone is known.
 ///
 /// The status says what was read and written, as `outcome` has it: for `Done` the lines are those of the plain machine's
-/// whole run on the script. No more than one byte behind the longest script, of 1,048,576 bytes, is asked of the source.
+/// whole run on the script. `unfailing` and `roomy`: neither side fails where the source is known not to, and where the
+/// sink has room for all that the machine says. No more than one byte behind the longest script, of 1,048,576 bytes, is asked of the source.
 pub fn run<S: Source, K: Sink>(
     alloc: Global,
     words: &[String],
@@ -118,6 +124,9 @@ pub fn run<S: Source, K: Sink>(
     ensures untouched { result ≡ Status.Usage → (S.state source.new ≡ S.state source.old) × (K.state sink.new ≡ K.state sink.old) }
     ensures read_fault { HasCause (S.state source.old).faults (S.state source.new).faults (result ≡ Status.ReadFault) }
     ensures write_fault { HasCause (K.state sink.old).faults (K.state sink.new).faults (result ≡ Status.WriteFault) }
+    ensures unfailing { IsTrue (S.state source.old).unfailing → (S.state source.new).faults ≡ (S.state source.old).faults }
+    ensures roomy { (bytes : List ℕ) (script : Meant) → (S.state source.old).left ≡ Some bytes → IsScriptSoFar bytes script
+        → SaysAtMost script (K.state sink.old).room → (K.state sink.new).faults ≡ (K.state sink.old).faults }
     ensures complete { (bytes : List ℕ) (script : Meant) → IsRun (map string_bytes words.now)
         → (S.state source.old).left ≡ Some bytes → IsScriptSoFar bytes script
         → (Rose (S.state source.old).faults (S.state source.new).faults → ⊥) → (Rose (K.state sink.old).faults (K.state sink.new).faults → ⊥)
