@@ -74,12 +74,13 @@ impl<H: Host> Host for Recorder<H> {
         ensures fits { IfOk result (Fits (length into.new)) }
         ensures inner { RecordsOnce (H.state self.old.inner) (H.state self.new.inner) self.old.told self.new.told (λ _. (H.state self.old.inner).kills) (Read child) (got_answer into.new) result }
     {
-        let mut room = ListOf::new(self.log.allocator());
+        let alloc = self.log.allocator();
+        let mut room = ListOf::new(alloc);
         room.reserve(into.len())?;
         self.log.reserve(1)?;
         let got = self.inner.read(child, into)?;
         self.log
-            .put(Ask::Read(child), answer_to_read(got, into, room));
+            .put(Ask::Read(child), answer_to_read(alloc, got, into, room));
         Ok(got)
     }
 
