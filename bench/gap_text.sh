@@ -11,14 +11,10 @@ counts=${*:-200000 400000}
 work=$(mktemp -d "${TMPDIR:-/tmp}/gap_text_bench.XXXXXX")
 trap 'rm -rf "$work"' EXIT
 
-mkdir -p "$work/crates/bench_texts/src"
+mkdir -p "$work/crates/bench_texts/src" "$work/crates/bench_texts/proofs/insertions"
+# With what an earlier check kept, the crates below need no proof again.
 for crate in text_model ek_types text_pool gap_text; do
-    mkdir "$work/crates/$crate"
-    for part in src specs proofs; do
-        if [ -d "$top/crates/$crate/$part" ]; then
-            cp -R "$top/crates/$crate/$part" "$work/crates/$crate/"
-        fi
-    done
+    cp -R "$top/crates/$crate" "$work/crates/"
     grep "^$crate:" "$top/crates.txt" >> "$work/crates.txt"
 done
 echo 'bench_texts: ek_types text_pool gap_text' >> "$work/crates.txt"
@@ -26,6 +22,7 @@ echo 'bench_texts: ek_types text_pool gap_text' >> "$work/crates.txt"
 cat > "$work/crates/bench_texts/src/main.rt" <<'PROGRAM'
 //! Insertions into a text, one character at a time.
 #![tactic(auto)]
+ghost use Rattle.std.specs.Prelude.{◌≤◌};
 
 use ek_types::{Ch, Chars};
 use gap_text::Text;
@@ -44,6 +41,19 @@ fn next(seed: u64) -> u64 {
     seed.wrapping_mul(6364136223846793005).wrapping_add(1442695040888963407)
 }
 
+/// Where the next character goes in a text of `len`.
+fn place(way: Way, seed: u64, last: usize, len: usize) -> usize
+    ensures { result ≤ len }
+{
+    let chance = (seed >> 33) as usize;
+    let wanted = match way {
+        Way::Along => len,
+        Way::Wandering => last.saturating_add(chance % 41).saturating_sub(20),
+        Way::Random => chance % len.saturating_add(1),
+    };
+    wanted.min(len)
+}
+
 fn insertions(rt: &HostRuntime, way: Way, count: usize) -> io::Result<()> {
     let mut pool = Pool::new(rt.alloc());
     let mut text = Text::new(rt.alloc());
@@ -53,20 +63,16 @@ fn insertions(rt: &HostRuntime, way: Way, count: usize) -> io::Result<()> {
         return Ok(());
     }
     let mut seed = 1;
-    let mut place = 0;
+    let mut last = 0usize;
     let start = Instant::now(rt);
-    for len in 0..count {
+    'inserting: for _ in 0..count {
         seed = next(seed);
-        let chance = (seed >> 33) as usize;
-        place = match way {
-            Way::Along => len,
-            Way::Wandering => (place + chance % 41).saturating_sub(20).min(len),
-            Way::Random => chance % (len + 1),
-        };
+        let len = text.len();
+        last = place(way, seed, last, len);
         if text.reserve(&mut pool, 1).is_err() {
             break;
         }
-        text.insert(&mut pool, place, &one);
+        text.insert(&mut pool, last, &one);
     }
     let name = match way {
         Way::Along => "along",
@@ -91,7 +97,19 @@ fn main(rt: HostRuntime) -> io::Result<()> {
 }
 PROGRAM
 
-(cd "$work/crates/bench_texts" && rt try --seconds 3600 -- $counts)
+cat > "$work/crates/bench_texts/proofs/insertions/Invariants.antt" <<'PROOF'
+
+use Rattle.gap_text.specs.Text.{LiesIn}
+use Rattle.bench_texts.proofs.insertions.Given as goal
+
+abbrev pub invariant-inserting : goal.invariant-inserting
+invariant-inserting l = LiesIn l.pool l.text
+PROOF
+
+if ! (cd "$work/crates/bench_texts" && RT_SECONDS=3600 rt run -- $counts) 2> "$work/log"; then
+    cat "$work/log"
+    exit 1
+fi
 
 if command -v emacs > /dev/null; then
     for way in along wandering random; do

@@ -1,9 +1,8 @@
 -- How many kills are due as children are asked.
-use Rattle.std.proofs.Common.{◌≡◌, ℕ, refl, [], ◌∷◌, ◌++◌, length, append-nil, ◌+◌, ◌<◌, Bool, true, false, not, cond, List, get_or, Some, slice_get, slice_set, arith, ap, sym, ◌∙◌}
+use Rattle.std.proofs.Common.{◌≡◌, ℕ, [], ◌∷◌, ◌++◌, length, ◌+◌, Bool, true, false, not, cond, List, get_or, Some, slice_get, slice_set, arith}
 use Rattle.std.proofs.lemmas.List.Sums.{sum_by-set}
 use Rattle.std.proofs.lemmas.Option.{slice_get_within, get_or_from_slice_get}
 use Rattle.std.proofs.lemmas.List.{length-append}
-use Rattle.std.specs.List.{count_by}
 use Rattle.std.proofs.lemmas.List.Sums.{sum_by-append}
 use Rattle.host_link.specs.declared.host.Spawned.{Spawned}
 use Rattle.host_link.specs.declared.host.Spawned.TheVariants as spawned

@@ -1,5 +1,5 @@
 -- A host in memory after an exchange.
-use Rattle.std.proofs.Common.{◌≡◌, ℕ, Bool, nat_lt, List, [], ◌∷◌, ◌++◌, get_or, refl, ap, sym, ◌∙◌}
+use Rattle.std.proofs.Common.{◌≡◌, ℕ, Bool, nat_lt, List, [], ◌∷◌, ◌++◌, get_or}
 use Rattle.std.specs.Bool.{if◌then◌else◌}
 use Rattle.ek_types.specs.Io.{next_count}
 use Rattle.plain_machine.specs.Exchanges.{Ask, Answer, Exchange, Started, Refused}

@@ -1,10 +1,10 @@
 -- How a host in memory keeps what is left of its plays: by how much of each was answered.
-use Rattle.std.specs.Prelude.{◌≡◌, ℕ, ◌+◌, ◌<◌, Bool, if◌then◌else◌, List, [], ◌∷◌, drop, map}
+use Rattle.std.specs.Prelude.{◌≡◌, ℕ, ◌+◌, Bool, if◌then◌else◌, List, [], ◌∷◌, drop, map}
 use Rattle.plain_machine.specs.Exchanges.{Answer, Bytes}
 use Rattle.ek_types.specs.Listing.{items_of}
 use Rattle.host_link.specs.Meaning.{answer_of}
 use Rattle.host_link.specs.Hosts.{Fits, got_answer}
-use Rattle.host_link.specs.Played.{PlayState, read_as, left_of}
+use Rattle.host_link.specs.Played.{PlayState, read_as}
 use Rattle.host_link.specs.declared.host.Spawned.{Spawned}
 use Rattle.host_link.specs.declared.host.Spawned.TheVariants as spawned
 use Rattle.host_link.specs.declared.play.Play.{Play}

@@ -1,5 +1,5 @@
 -- What a host means, and what one call does to it.
-use Rattle.std.specs.Prelude.{◌≡◌, ℕ, ◌≤◌, Bool, true, false, IsTrue, List, [], ◌∷◌, ◌++◌, length, take, Option, Result, MatchResult}
+use Rattle.std.specs.Prelude.{◌≡◌, ℕ, ◌≤◌, Bool, true, false, IsTrue, List, [], ◌∷◌, ◌++◌, take, Option, Result, MatchResult}
 use Rattle.std.specs.Option.{option_map}
 use Rattle.ek_types.specs.Io.{HasCause}
 use Rattle.plain_machine.specs.Exchanges as model

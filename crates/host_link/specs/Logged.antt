@@ -1,5 +1,5 @@
 -- A list of exchanges with places kept for kills.
-use Rattle.std.specs.Prelude.{ℕ, ◌+◌, Bool, true, false, not, List, count_by}
+use Rattle.std.specs.Prelude.{ℕ, Bool, not, List, count_by}
 use Rattle.plain_machine.specs.Exchanges.{Exchange}
 use Rattle.host_link.specs.declared.host.Spawned.{Spawned}
 use Rattle.host_link.specs.declared.host.Spawned.TheVariants as spawned

@@ -1,8 +1,7 @@
 -- A host in memory: what it answers, and what it is afterwards.
-use Rattle.std.specs.Prelude.{◌≡◌, ℕ, ℤ, pos, ◌+◌, nat_lt, Bool, if◌then◌else◌, List, [], ◌∷◌, ◌++◌, length, take, drop, get_or, slice_set, map, Some, Result, MatchResult}
+use Rattle.std.specs.Prelude.{◌≡◌, ℕ, pos, nat_lt, Bool, if◌then◌else◌, List, [], ◌∷◌, ◌++◌, length, take, drop, get_or, slice_set, Some, Result, MatchResult}
 use Rattle.ek_types.specs.Io.{next_count}
 use Rattle.ek_types.specs.MemoryIo.{fails_at}
-use Rattle.ek_types.specs.Listing.{items_of}
 use Rattle.plain_machine.specs.Exchanges.{Ask, Answer, Exchange, Spawn, Started, Refused, Bytes, Nothing, End, Code, Signal, Running, Sent, Broken, Killed, Failed}
 use Rattle.host_link.specs.Hosts.{HostState, after_spawn, is_fault, spawned_answer}
 use Rattle.host_link.specs.declared.host.Spawned.{Spawned}

@@ -4,8 +4,9 @@ ghost use Rattle.ek_types.specs.Listing.{items_of, spare_of};
 ghost use Rattle.host_link.specs.Meaning.{answer_of};
 ghost use Rattle.host_link.specs.Hosts.{Fits, spawned_answer, got_answer, ended_answer, send_answer, kill_answer};
 
-use crate::asking::{Answer, ByteList, fill};
+use crate::asking::{Answer, ByteList, fill, list_of};
 use crate::host::{Ended, Got, KillAnswer, SendAnswer, Spawned};
+use std::alloc::Global;
 
 pub(crate) fn answer_to_spawn(spawned: Spawned) -> Answer
     ensures { answer_of result ≡ spawned_answer spawned }
@@ -16,19 +17,32 @@ pub(crate) fn answer_to_spawn(spawned: Spawned) -> Answer
     }
 }
 
-/// The answer to a read, with its bytes in the room that was set aside for them.
-pub(crate) fn answer_to_read(got: Got, into: &[u8], room: ByteList) -> Answer
+/// A list of these bytes, which takes no more memory than they need where there is memory.
+fn list_or_room(alloc: Global, bytes: &[u8], room: ByteList) -> ByteList
+    requires empty { items_of room ≡ [] }
+    requires spare { length bytes.now ≤ spare_of room }
+    ensures { items_of result ≡ bytes.now }
+{
+    match list_of(alloc, bytes) {
+        Ok(list) => list,
+        Err(_) => {
+            let mut list = room;
+            fill(&mut list, bytes);
+            list
+        }
+    }
+}
+
+/// The answer to a read, with its bytes in a list of their own or, where memory is wanting, in the room that was set
+/// aside for them.
+pub(crate) fn answer_to_read(alloc: Global, got: Got, into: &[u8], room: ByteList) -> Answer
     requires fits { Fits (length into.now) got }
     requires empty { items_of room ≡ [] }
     requires spare { length into.now ≤ spare_of room }
     ensures { answer_of result ≡ got_answer into.now got }
 {
     match got {
-        Got::Bytes(n) => {
-            let mut bytes = room;
-            fill(&mut bytes, &into[..n]);
-            Answer::Bytes(bytes)
-        }
+        Got::Bytes(n) => Answer::Bytes(list_or_room(alloc, &into[..n], room)),
         Got::Nothing => Answer::Nothing,
         Got::End => Answer::End,
         Got::Failed => Answer::Failed,

@@ -60,30 +60,35 @@ pub trait Host {
     /// Starts a program. A child that is started has the next number.
     fn spawn(&mut self, program: &str, args: &[String]) -> Mem<Spawned>
         requires { length (state self.old).kills < 2 ^ 32 - 1 }
-        ensures asked { Asked (state self.old) (state self.new) (after_spawn (state self.old).kills) (Spawn program.now (map string_bytes args.now)) spawned_answer result }
+        ensures asked { Asked (state self.old) (state self.new) (after_spawn (state self.old).kills)
+            (Spawn program.now (map string_bytes args.now)) spawned_answer result }
         ensures number { IfOk result (IsNumbered (length (state self.old).kills)) };
 
     /// Takes bytes of a child's output to the front of `into`.
     fn read(&mut self, child: u32, into: &mut [u8]) -> Mem<Got>
         requires there { child < length (state self.old).kills }
         requires room { 0 < length into.old }
-        ensures asked { Asked (state self.old) (state self.new) (λ _. (state self.old).kills) (Read child) (got_answer into.new) result }
+        ensures asked { Asked (state self.old) (state self.new) (λ _. (state self.old).kills)
+            (Read child) (got_answer into.new) result }
         ensures fits { IfOk result (Fits (length into.new)) };
 
     /// Asks how a child has ended.
     fn end(&mut self, child: u32) -> Mem<Ended>
         requires { child < length (state self.old).kills }
-        ensures { Asked (state self.old) (state self.new) (λ _. (state self.old).kills) (AskEnd child) ended_answer result };
+        ensures { Asked (state self.old) (state self.new) (λ _. (state self.old).kills) (AskEnd child)
+            ended_answer result };
 
     /// Sends bytes to a child's input.
     fn send(&mut self, child: u32, bytes: &[u8]) -> Mem<SendAnswer>
         requires { child < length (state self.old).kills }
-        ensures { Asked (state self.old) (state self.new) (λ _. (state self.old).kills) (Send child bytes.now) send_answer result };
+        ensures { Asked (state self.old) (state self.new) (λ _. (state self.old).kills)
+            (Send child bytes.now) send_answer result };
 
     /// Closes a child's input.
     fn close(&mut self, child: u32) -> Mem<()>
         requires { child < length (state self.old).kills }
-        ensures { Asked (state self.old) (state self.new) (λ _. (state self.old).kills) (Close child) (λ _. Closed) result };
+        ensures { Asked (state self.old) (state self.new) (λ _. (state self.old).kills) (Close child)
+            (λ _. Closed) result };
 
     /// The exchanges so far, exactly where the host tells.
     fn told(&self) -> Option<&Exchanges>
@@ -92,5 +97,6 @@ pub trait Host {
     /// Asks a child to be killed, which is asked at most once of each child. It takes no memory.
     fn kill(&mut self, child: u32) -> KillAnswer
         requires { slice_get (state self.old).kills child ≡ Some false }
-        ensures { Exchanged (state self.old) (state self.new) (slice_set (state self.old).kills child true) (Kill child) (kill_answer result) };
+        ensures { Exchanged (state self.old) (state self.new)
+            (slice_set (state self.old).kills child true) (Kill child) (kill_answer result) };
 }

@@ -48,7 +48,14 @@ impl MemoryHost {
     /// A host that has started no child. It fails at the calls whose numbers, from 0 over all calls but `told`, stand
     /// in `fails`.
     pub fn new(plays: Vec<Play>, fails: Vec<u32>) -> MemoryHost
-        ensures { result ≡ record { plays = map whole_play plays.items; kills = []; fails = fails.items; calls = 0; faults = 0; told = [] } }
+        ensures { result ≡ record {
+          plays = map whole_play plays.items;
+          kills = [];
+          fails = fails.items;
+          calls = 0;
+          faults = 0;
+          told = [];
+        } }
     {
         let alloc = *plays.allocator();
         MemoryHost {
@@ -83,7 +90,8 @@ fn faults_after(faults: u64, answer: &Answer) -> u64
 /// The answer to a spawn where so many of so many children were started.
 fn next_child(fails: bool, started: usize, plays: usize) -> Spawned
     requires { started < 2 ^ 32 }
-    ensures answer { spawned_answer result ≡ (if fails then Refused else (if nat_lt started plays then Started started else Refused)) }
+    ensures answer { spawned_answer result ≡
+        (if fails then Refused else (if nat_lt started plays then Started started else Refused)) }
     ensures room { started ≤ plays → started + due_by result ≤ plays }
 {
     if !fails && started < plays {
@@ -122,10 +130,12 @@ fn read_or_fail(
     into: &mut [u8],
 ) -> Mem<Turn<Got>>
     requires { 0 < length into.old }
-    ensures told { IfOk result (λ t. answer_of t.answer ≡ (if fails then Failed else next_read (length into.old) (rest_of play.now cursor).reads)) }
+    ensures told { IfOk result
+        (λ t. answer_of t.answer ≡ (if fails then Failed else next_read (length into.old) (rest_of play.now cursor).reads)) }
     ensures got { IfOk result (λ t. got_answer into.new t.reply ≡ answer_of t.answer) }
     ensures fits { IfOk result (λ t. Fits (length into.old) t.reply) }
-    ensures rest { IfOk result (λ t. rest_of play.now t.cursor ≡ (if fails then rest_of play.now cursor else record (rest_of play.now cursor) { reads = after_read (length into.old) (rest_of play.now cursor).reads })) }
+    ensures rest { IfOk result
+        (λ t. rest_of play.now t.cursor ≡ (if fails then rest_of play.now cursor else record (rest_of play.now cursor) { reads = after_read (length into.old) (rest_of play.now cursor).reads })) }
 {
     if fails {
         return Ok(Turn {
@@ -139,9 +149,11 @@ fn read_or_fail(
 
 /// The question how a child ended, which may fail by its number.
 fn end_or_fail(fails: bool, play: &Play, cursor: Cursor) -> Turn<Ended>
-    ensures told { answer_of result.answer ≡ (if fails then Failed else next_end (rest_of play.now cursor).ends) }
+    ensures told { answer_of result.answer ≡
+        (if fails then Failed else next_end (rest_of play.now cursor).ends) }
     ensures same { ended_answer result.reply ≡ answer_of result.answer }
-    ensures rest { rest_of play.now result.cursor ≡ (if fails then rest_of play.now cursor else record (rest_of play.now cursor) { ends = drop 1 (rest_of play.now cursor).ends }) }
+    ensures rest { rest_of play.now result.cursor ≡
+        (if fails then rest_of play.now cursor else record (rest_of play.now cursor) { ends = drop 1 (rest_of play.now cursor).ends }) }
 {
     if fails {
         return Turn {
@@ -178,7 +190,8 @@ impl Host for MemoryHost {
 
     fn spawn(&mut self, program: &str, args: &[String]) -> Mem<Spawned>
         requires { length self.old.kills < 2 ^ 32 - 1 }
-        ensures asked { Asked (host_state self.old) (host_state self.new) (after_spawn self.old.kills) (Spawn program.now (map string_bytes args.now)) spawned_answer result }
+        ensures asked { Asked (host_state self.old) (host_state self.new) (after_spawn self.old.kills)
+            (Spawn program.now (map string_bytes args.now)) spawned_answer result }
         ensures number { IfOk result (IsNumbered (length self.old.kills)) }
         ensures exact { PlaysSpawn self.old self.new program.now (map string_bytes args.now) result }
     {
@@ -201,9 +214,13 @@ impl Host for MemoryHost {
     fn read(&mut self, child: u32, into: &mut [u8]) -> Mem<Got>
         requires there { child < length self.old.kills }
         requires room { 0 < length into.old }
-        ensures asked { Asked (host_state self.old) (host_state self.new) (λ _. self.old.kills) (Read child) (got_answer into.new) result }
+        ensures asked { Asked (host_state self.old) (host_state self.new) (λ _. self.old.kills)
+            (Read child) (got_answer into.new) result }
         ensures fits { IfOk result (Fits (length into.new)) }
-        ensures exact { Plays self.old self.new (got_answer into.new) (read_reply self.old child (length into.old)) (after_exchange self.old (plays_after_read self.old child (length into.old)) self.old.kills (Read child) (read_reply self.old child (length into.old))) result }
+        ensures exact { Plays self.old self.new (got_answer into.new)
+            (read_reply self.old child (length into.old))
+            (after_exchange self.old (plays_after_read self.old child (length into.old)) self.old.kills (Read child) (read_reply self.old child (length into.old)))
+            result }
     {
         let number = child as usize;
         let alloc = self.log.allocator();
@@ -225,8 +242,11 @@ impl Host for MemoryHost {
 
     fn end(&mut self, child: u32) -> Mem<Ended>
         requires { child < length self.old.kills }
-        ensures asked { Asked (host_state self.old) (host_state self.new) (λ _. self.old.kills) (AskEnd child) ended_answer result }
-        ensures exact { Plays self.old self.new ended_answer (end_reply self.old child) (after_exchange self.old (plays_after_end self.old child) self.old.kills (AskEnd child) (end_reply self.old child)) result }
+        ensures asked { Asked (host_state self.old) (host_state self.new) (λ _. self.old.kills)
+            (AskEnd child) ended_answer result }
+        ensures exact { Plays self.old self.new ended_answer (end_reply self.old child)
+            (after_exchange self.old (plays_after_end self.old child) self.old.kills (AskEnd child) (end_reply self.old child))
+            result }
     {
         let number = child as usize;
         self.log.reserve(1)?;
@@ -241,8 +261,11 @@ impl Host for MemoryHost {
 
     fn send(&mut self, child: u32, bytes: &[u8]) -> Mem<SendAnswer>
         requires { child < length self.old.kills }
-        ensures asked { Asked (host_state self.old) (host_state self.new) (λ _. self.old.kills) (Send child bytes.now) send_answer result }
-        ensures exact { Plays self.old self.new send_answer (send_reply self.old) (after_exchange self.old self.old.plays self.old.kills (Send child bytes.now) (send_reply self.old)) result }
+        ensures asked { Asked (host_state self.old) (host_state self.new) (λ _. self.old.kills)
+            (Send child bytes.now) send_answer result }
+        ensures exact { Plays self.old self.new send_answer (send_reply self.old)
+            (after_exchange self.old self.old.plays self.old.kills (Send child bytes.now) (send_reply self.old))
+            result }
     {
         let sent_bytes = list_of(self.log.allocator(), bytes)?;
         self.log.reserve(1)?;
@@ -256,8 +279,10 @@ impl Host for MemoryHost {
 
     fn close(&mut self, child: u32) -> Mem<()>
         requires { child < length self.old.kills }
-        ensures asked { Asked (host_state self.old) (host_state self.new) (λ _. self.old.kills) (Close child) (λ _. Closed) result }
-        ensures exact { Plays self.old self.new (λ _. Closed) Closed (after_exchange self.old self.old.plays self.old.kills (Close child) Closed) result }
+        ensures asked { Asked (host_state self.old) (host_state self.new) (λ _. self.old.kills)
+            (Close child) (λ _. Closed) result }
+        ensures exact { Plays self.old self.new (λ _. Closed) Closed
+            (after_exchange self.old self.old.plays self.old.kills (Close child) Closed) result }
     {
         self.log.reserve(1)?;
         self.calls = self.calls.saturating_add(1);
@@ -271,9 +296,11 @@ impl Host for MemoryHost {
 
     fn kill(&mut self, child: u32) -> KillAnswer
         requires { slice_get self.old.kills child ≡ Some false }
-        ensures asked { Exchanged (host_state self.old) (host_state self.new) (slice_set self.old.kills child true) (Kill child) (kill_answer result) }
+        ensures asked { Exchanged (host_state self.old) (host_state self.new)
+            (slice_set self.old.kills child true) (Kill child) (kill_answer result) }
         ensures answer { kill_answer result ≡ kill_reply self.old }
-        ensures after { self.new ≡ after_exchange self.old self.old.plays (slice_set self.old.kills child true) (Kill child) (kill_reply self.old) }
+        ensures after { self.new ≡ after_exchange self.old self.old.plays
+            (slice_set self.old.kills child true) (Kill child) (kill_reply self.old) }
     {
         let killed = kill_or_fail(is_failing(&self.fails, self.calls));
         let answer = answer_to_kill(killed);

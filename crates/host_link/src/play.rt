@@ -55,7 +55,8 @@ fn used_up(got: Got, answer: Answer) -> ReadTurn
 fn read_bytes(alloc: Global, bytes: &[u8], given: usize, into: &mut [u8]) -> Mem<ReadTurn>
     requires { 0 < length into.old }
     ensures turn { IfOk result (IsReadTurn (Bytes (drop given bytes.now)) (length into.old) into.new) }
-    ensures left { IfOk result (λ t. left_of (length into.old) (Bytes (drop given bytes.now)) ≡ (if t.used then [] else Bytes (drop t.given bytes.now) ∷ [])) }
+    ensures left { IfOk result
+        (λ t. left_of (length into.old) (Bytes (drop given bytes.now)) ≡ (if t.used then [] else Bytes (drop t.given bytes.now) ∷ [])) }
 {
     let from = given.min(bytes.len());
     let left = &bytes[from..];
@@ -77,7 +78,8 @@ fn read_bytes(alloc: Global, bytes: &[u8], given: usize, into: &mut [u8]) -> Mem
 fn read_answer(alloc: Global, answer: &Answer, given: usize, into: &mut [u8]) -> Mem<ReadTurn>
     requires { 0 < length into.old }
     ensures turn { IfOk result (IsReadTurn (less given (answer_of answer.now)) (length into.old) into.new) }
-    ensures left { IfOk result (λ t. left_of (length into.old) (less given (answer_of answer.now)) ≡ (if t.used then [] else less t.given (answer_of answer.now) ∷ [])) }
+    ensures left { IfOk result
+        (λ t. left_of (length into.old) (less given (answer_of answer.now)) ≡ (if t.used then [] else less t.given (answer_of answer.now) ∷ [])) }
 {
     match answer {
         Answer::Bytes(bytes) => read_bytes(alloc, bytes.as_slice(), given, into),
@@ -133,10 +135,12 @@ pub(crate) fn read_play(
     into: &mut [u8],
 ) -> Mem<Turn<Got>>
     requires { 0 < length into.old }
-    ensures told { IfOk result (λ t. answer_of t.answer ≡ next_read (length into.old) (rest_of play.now cursor).reads) }
+    ensures told { IfOk result
+        (λ t. answer_of t.answer ≡ next_read (length into.old) (rest_of play.now cursor).reads) }
     ensures got { IfOk result (λ t. got_answer into.new t.reply ≡ answer_of t.answer) }
     ensures fits { IfOk result (λ t. Fits (length into.old) t.reply) }
-    ensures rest { IfOk result (λ t. rest_of play.now t.cursor ≡ record (rest_of play.now cursor) { reads = after_read (length into.old) (rest_of play.now cursor).reads }) }
+    ensures rest { IfOk result
+        (λ t. rest_of play.now t.cursor ≡ record (rest_of play.now cursor) { reads = after_read (length into.old) (rest_of play.now cursor).reads }) }
 {
     if cursor.reads >= play.reads.len() {
         return Ok(Turn {
@@ -157,7 +161,10 @@ pub(crate) fn read_play(
 pub(crate) fn end_play(play: &Play, cursor: Cursor) -> Turn<Ended>
     ensures told { ended_answer result.reply ≡ next_end (rest_of play.now cursor).ends }
     ensures same { answer_of result.answer ≡ ended_answer result.reply }
-    ensures rest { rest_of play.now result.cursor ≡ record (rest_of play.now cursor) { ends = drop 1 (rest_of play.now cursor).ends } }
+    ensures rest { rest_of play.now result.cursor ≡ record (rest_of play.now cursor) {
+      ends = drop 1
+          (rest_of play.now cursor).ends;
+    } }
 {
     if cursor.ends >= play.ends.len() {
         return Turn {

@@ -54,9 +54,14 @@ impl<H: Host> Host for Recorder<H> {
 
     fn spawn(&mut self, program: &str, args: &[String]) -> Mem<Spawned>
         requires { length (H.state self.old.inner).kills < 2 ^ 32 - 1 }
-        ensures asked { Asked (recorded_state (H.state self.old.inner) self.old.told) (recorded_state (H.state self.new.inner) self.new.told) (after_spawn (H.state self.old.inner).kills) (Spawn program.now (map string_bytes args.now)) spawned_answer result }
+        ensures asked { Asked (recorded_state (H.state self.old.inner) self.old.told)
+            (recorded_state (H.state self.new.inner) self.new.told)
+            (after_spawn (H.state self.old.inner).kills) (Spawn program.now (map string_bytes args.now))
+            spawned_answer result }
         ensures number { IfOk result (IsNumbered (length (H.state self.old.inner).kills)) }
-        ensures inner { RecordsOnce (H.state self.old.inner) (H.state self.new.inner) self.old.told self.new.told (after_spawn (H.state self.old.inner).kills) (Spawn program.now (map string_bytes args.now)) spawned_answer result }
+        ensures inner { RecordsOnce (H.state self.old.inner) (H.state self.new.inner) self.old.told
+            self.new.told (after_spawn (H.state self.old.inner).kills)
+            (Spawn program.now (map string_bytes args.now)) spawned_answer result }
     {
         let alloc = self.log.allocator();
         let program_bytes = list_of(alloc, program.as_bytes())?;
@@ -70,23 +75,30 @@ impl<H: Host> Host for Recorder<H> {
     fn read(&mut self, child: u32, into: &mut [u8]) -> Mem<Got>
         requires there { child < length (H.state self.old.inner).kills }
         requires room { 0 < length into.old }
-        ensures asked { Asked (recorded_state (H.state self.old.inner) self.old.told) (recorded_state (H.state self.new.inner) self.new.told) (λ _. (H.state self.old.inner).kills) (Read child) (got_answer into.new) result }
+        ensures asked { Asked (recorded_state (H.state self.old.inner) self.old.told)
+            (recorded_state (H.state self.new.inner) self.new.told) (λ _. (H.state self.old.inner).kills)
+            (Read child) (got_answer into.new) result }
         ensures fits { IfOk result (Fits (length into.new)) }
-        ensures inner { RecordsOnce (H.state self.old.inner) (H.state self.new.inner) self.old.told self.new.told (λ _. (H.state self.old.inner).kills) (Read child) (got_answer into.new) result }
+        ensures inner { RecordsOnce (H.state self.old.inner) (H.state self.new.inner) self.old.told
+            self.new.told (λ _. (H.state self.old.inner).kills) (Read child) (got_answer into.new) result }
     {
-        let mut room = ListOf::new(self.log.allocator());
+        let alloc = self.log.allocator();
+        let mut room = ListOf::new(alloc);
         room.reserve(into.len())?;
         self.log.reserve(1)?;
         let got = self.inner.read(child, into)?;
         self.log
-            .put(Ask::Read(child), answer_to_read(got, into, room));
+            .put(Ask::Read(child), answer_to_read(alloc, got, into, room));
         Ok(got)
     }
 
     fn end(&mut self, child: u32) -> Mem<Ended>
         requires { child < length (H.state self.old.inner).kills }
-        ensures asked { Asked (recorded_state (H.state self.old.inner) self.old.told) (recorded_state (H.state self.new.inner) self.new.told) (λ _. (H.state self.old.inner).kills) (AskEnd child) ended_answer result }
-        ensures inner { RecordsOnce (H.state self.old.inner) (H.state self.new.inner) self.old.told self.new.told (λ _. (H.state self.old.inner).kills) (AskEnd child) ended_answer result }
+        ensures asked { Asked (recorded_state (H.state self.old.inner) self.old.told)
+            (recorded_state (H.state self.new.inner) self.new.told) (λ _. (H.state self.old.inner).kills)
+            (AskEnd child) ended_answer result }
+        ensures inner { RecordsOnce (H.state self.old.inner) (H.state self.new.inner) self.old.told
+            self.new.told (λ _. (H.state self.old.inner).kills) (AskEnd child) ended_answer result }
     {
         self.log.reserve(1)?;
         let ended = self.inner.end(child)?;
@@ -96,8 +108,11 @@ impl<H: Host> Host for Recorder<H> {
 
     fn send(&mut self, child: u32, bytes: &[u8]) -> Mem<SendAnswer>
         requires { child < length (H.state self.old.inner).kills }
-        ensures asked { Asked (recorded_state (H.state self.old.inner) self.old.told) (recorded_state (H.state self.new.inner) self.new.told) (λ _. (H.state self.old.inner).kills) (Send child bytes.now) send_answer result }
-        ensures inner { RecordsOnce (H.state self.old.inner) (H.state self.new.inner) self.old.told self.new.told (λ _. (H.state self.old.inner).kills) (Send child bytes.now) send_answer result }
+        ensures asked { Asked (recorded_state (H.state self.old.inner) self.old.told)
+            (recorded_state (H.state self.new.inner) self.new.told) (λ _. (H.state self.old.inner).kills)
+            (Send child bytes.now) send_answer result }
+        ensures inner { RecordsOnce (H.state self.old.inner) (H.state self.new.inner) self.old.told
+            self.new.told (λ _. (H.state self.old.inner).kills) (Send child bytes.now) send_answer result }
     {
         let sent_bytes = list_of(self.log.allocator(), bytes)?;
         self.log.reserve(1)?;
@@ -109,8 +124,11 @@ impl<H: Host> Host for Recorder<H> {
 
     fn close(&mut self, child: u32) -> Mem<()>
         requires { child < length (H.state self.old.inner).kills }
-        ensures asked { Asked (recorded_state (H.state self.old.inner) self.old.told) (recorded_state (H.state self.new.inner) self.new.told) (λ _. (H.state self.old.inner).kills) (Close child) (λ _. Closed) result }
-        ensures inner { RecordsOnce (H.state self.old.inner) (H.state self.new.inner) self.old.told self.new.told (λ _. (H.state self.old.inner).kills) (Close child) (λ _. Closed) result }
+        ensures asked { Asked (recorded_state (H.state self.old.inner) self.old.told)
+            (recorded_state (H.state self.new.inner) self.new.told) (λ _. (H.state self.old.inner).kills)
+            (Close child) (λ _. Closed) result }
+        ensures inner { RecordsOnce (H.state self.old.inner) (H.state self.new.inner) self.old.told
+            self.new.told (λ _. (H.state self.old.inner).kills) (Close child) (λ _. Closed) result }
     {
         self.log.reserve(1)?;
         self.inner.close(child)?;
@@ -124,8 +142,12 @@ impl<H: Host> Host for Recorder<H> {
 
     fn kill(&mut self, child: u32) -> KillAnswer
         requires { slice_get (H.state self.old.inner).kills child ≡ Some false }
-        ensures asked { Exchanged (recorded_state (H.state self.old.inner) self.old.told) (recorded_state (H.state self.new.inner) self.new.told) (slice_set (H.state self.old.inner).kills child true) (Kill child) (kill_answer result) }
-        ensures inner { Records (H.state self.old.inner) (H.state self.new.inner) self.old.told self.new.told (slice_set (H.state self.old.inner).kills child true) (Kill child) (kill_answer result) }
+        ensures asked { Exchanged (recorded_state (H.state self.old.inner) self.old.told)
+            (recorded_state (H.state self.new.inner) self.new.told)
+            (slice_set (H.state self.old.inner).kills child true) (Kill child) (kill_answer result) }
+        ensures inner { Records (H.state self.old.inner) (H.state self.new.inner) self.old.told
+            self.new.told (slice_set (H.state self.old.inner).kills child true) (Kill child)
+            (kill_answer result) }
     {
         let killed = self.inner.kill(child);
         self.log.put_kill(Ask::Kill(child), answer_to_kill(killed));

@@ -12,7 +12,7 @@ use Rattle.editor_model.specs.Values.{Value, Int, Prim, Insert, GotoChar, Delete
 use Rattle.editor_model.specs.Prims.{word}
 use Rattle.plain_machine.specs.Natives.{takes}
 use Rattle.plain_machine.specs.Words.{Word, Plain, Named, is_blank, names, opening, closing, IsInt}
-use Rattle.plain_machine.specs.Atoms.{bare, AreArgs}
+use Rattle.plain_machine.specs.Atoms.{AreArgs}
 use Rattle.plain_machine.specs.Grammar.{IsForm, Run}
 use Rattle.script_read.specs.GrammarSoFar.{call_on, IsCallSoFar, IsTopSoFar, is_word_so_far}
 use Rattle.script_read.specs.Reading.{◌>>=◌, skipped, word_length, word_at, behind, inside_of, number_of, string_at, number_at, text_of, closed, insert_at, goto_at, delete_at, call_at, form_at}

@@ -1,6 +1,5 @@
-use Rattle.std.proofs.Common.{◌≡◌, ◌+◌, ◌<◌, ◌≤◌, arith, ap, sym, subst, ◌∙◌, true, false, Some, slice_get, slice_set}
+use Rattle.std.proofs.Common.{◌≡◌, arith, sym, subst, false, Some, slice_get}
 use Rattle.host_link.specs.Played.{MemoryHostState}
-use Rattle.host_link.specs.Logged.{kills_due}
 use Rattle.host_link.proofs.Due.{due_after_kill}
 use Rattle.host_link.proofs.memory_host.MemoryHostHost.kill.Goals as goal
 

@@ -1,9 +1,9 @@
-use Rattle.std.proofs.Common.{◌≡◌, ◌<◌, length, [], drop, ap, sym, ◌∙◌, arith, slice_set, get_or}
+use Rattle.std.proofs.Common.{◌≡◌, ◌<◌, length, [], ap, sym, ◌∙◌, arith, get_or}
 use Rattle.std.proofs.lemmas.Grind.{common_steps}
 use Rattle.ek_types.specs.MemoryIo.{fails_at}
 use Rattle.plain_machine.specs.Exchanges as model
 use Rattle.host_link.specs.Meaning.{answer_of}
-use Rattle.host_link.specs.Played.{PlayState, MemoryHostState, fails_now, play_of, read_reply, plays_after_read, next_read, after_read, end_reply, plays_after_end, next_end}
+use Rattle.host_link.specs.Played.{PlayState, MemoryHostState, fails_now, next_read, after_read}
 use Rattle.host_link.specs.Cursors.{rests, rest_of}
 use Rattle.host_link.proofs.Plays.{rest_at, rests_step}
 use Rattle.host_link.proofs.Hosted.{answer_as, host_after}

@@ -1,4 +1,4 @@
-use Rattle.std.proofs.Common.{◌≡◌, ◌≤◌, ◌+◌, [], ◌∷◌, ◌++◌, ap, sym, ◌∙◌, arith, length, map, slice_set, vec_len}
+use Rattle.std.proofs.Common.{◌≡◌, ◌+◌, [], ◌∷◌, ◌++◌, ap, sym, ◌∙◌, arith, length, map}
 use Rattle.std.proofs.lemmas.Grind.{common_steps}
 use Rattle.std.specs.String.{string_bytes}
 use Rattle.ek_types.specs.Listing.{items_of}
@@ -8,8 +8,8 @@ use Rattle.plain_machine.specs.Exchanges.{Exchange}
 use Rattle.host_link.specs.Hosts.{spawned_answer, after_spawn}
 use Rattle.host_link.specs.Meaning.{answer_of, words_of}
 use Rattle.host_link.specs.Logged.{kills_due, due_by}
-use Rattle.host_link.specs.Played.{PlayState, MemoryHostState, fails_now, spawn_reply}
-use Rattle.host_link.specs.Cursors.{rests, rest_of, cursors_by}
+use Rattle.host_link.specs.Played.{MemoryHostState, fails_now, spawn_reply}
+use Rattle.host_link.specs.Cursors.{rests, cursors_by}
 use Rattle.host_link.proofs.Due.{due_after_spawn, length-after_spawn, length-cursors}
 use Rattle.host_link.proofs.Plays.{length-rests, rests_by}
 use Rattle.host_link.proofs.Hosted.{host_after, spawn_as}

@@ -1,4 +1,4 @@
-use Rattle.std.proofs.Common.{◌≡◌, ◌+◌, ◌<◌, arith, ap, sym, ◌∙◌, true, slice_set}
+use Rattle.std.proofs.Common.{◌≡◌, arith, ap, ◌∙◌, true, slice_set}
 use Rattle.host_link.specs.Logged.{kills_due}
 use Rattle.host_link.proofs.Due.{due_after_kill}
 use Rattle.host_link.proofs.recorder.RecorderHost.kill.Goals as goal
