@@ -7,7 +7,7 @@ use Rattle.editor_model.specs.Values.{Script}
 use Rattle.plain_machine.specs.Exchanges.{Exchange}
 use Rattle.plain_machine.specs.Grammar.{longest_script}
 use Rattle.script_read.specs.GrammarSoFar.{IsScriptSoFar, IsNoScript}
-use Rattle.kernel_top.specs.Outcomes.{IsRun, Outcome, HasEnded}
+use Rattle.kernel_top.specs.Outcomes.{IsRun, Outcome, HasEnded, SaysAtMost}
 use Rattle.kernel_top.specs.declared.status.Status.{Status}
 use Rattle.kernel_top.specs.declared.status.Status.TheVariants as status
 
@@ -27,7 +27,7 @@ of_bytes status.NoMemory words read written exchanges ended unfaulted run end (f
 of_bytes status.NoMemory words read written exchanges ended unfaulted run end (first, inr (second, of_script)) = (run, inr (end, of_script))
 
 -- what was read of a source whose end was met is all that it told
-all_read : (bytes read : List ℕ) (now : Option (List ℕ)) → Consumes (Some bytes) now read → IsAtEnd now → bytes ≡ read
+pub all_read : (bytes read : List ℕ) (now : Option (List ℕ)) → Consumes (Some bytes) now read → IsAtEnd now → bytes ≡ read
 all_read bytes read None taken end = absurd taken
 all_read bytes read (Some left) taken end = taken ∙ ap (λ l. read ++ l) end ∙ append-nil read
 
@@ -51,3 +51,6 @@ module _ (words : List (List ℕ)) (read written bytes : List ℕ) (exchanges : 
   completes (status.Script line) (first, ended, none, zero_line, nothing, alone) r w nr nw = absurd (no_script_read bytes read script now (rw told at taken) (rw told at ended) is none)
   completes status.ReadFault o r w nr nw = absurd (nr (r refl))
   completes status.WriteFault o r w nr nw = absurd (nw (w refl))
+
+pub few_as : (a b : Script) (most : ℕ) → a ≡ b → SaysAtMost b most → SaysAtMost a most
+few_as a b most e few = rw e few
