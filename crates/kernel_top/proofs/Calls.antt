@@ -1,20 +1,18 @@
 -- What the machine does at one call of the first path: the steps from one form at top level to the next.
-use Rattle.std.proofs.Common.{◌≡◌, ℕ, ◌+◌, ◌-◌, drop, true, false, List, [], ◌∷◌, length, refl, ap, ◌∙◌}
-use Rattle.std.specs.Prelude.{ℤ, pos, Bool, Some, None}
+use Rattle.std.proofs.Common.{◌≡◌, ℕ, ◌+◌, ◌-◌, drop, true, false, List, [], ◌∷◌, length, refl, ap}
+use Rattle.std.specs.Prelude.{ℤ, pos, Bool, None}
 use Rattle.text_model.specs.Properties.{Cell}
 use Rattle.text_model.specs.Marks.{Pending, Marks}
 use Rattle.text_model.specs.Commit.{Buffer, Site}
 use Rattle.editor_model.specs.Editor.{Editor}
-use Rattle.editor_model.specs.Values.{at_place, Value, Nil, Int, Str, Fault, Reply, Answered, Refused, Prim, Insert, GotoChar, DeleteRegion, Arg, Const, Call, Form, Do, Forms, Then}
-use Rattle.editor_model.specs.Answers.{first_fault, Change, Put, Prepared, Changes, Nothing, Barred, Commit, Done, Failed}
-use Rattle.editor_model.specs.Arguments.{place, has_room}
-use Rattle.editor_model.specs.Table.{prepare}
+use Rattle.editor_model.specs.Values.{at_place, Value, Nil, Int, Fault, Answered, Refused, Prim, GotoChar, Arg, Const, Forms, Then}
+use Rattle.editor_model.specs.Answers.{first_fault, Change, Put, Changes, Nothing, Barred, Commit}
+use Rattle.editor_model.specs.Arguments.{place}
 use Rattle.editor_model.specs.TextCalls.{point_at}
 use Rattle.editor_model.specs.Commits.{put_site, commit_tests, commit_of}
 use Rattle.plain_machine.specs.State.{State, Program, new_state}
-use Rattle.plain_machine.specs.Exchanges.{Exchange}
-use Rattle.plain_machine.specs.Items.{Item, Top, MakeCall, GiveAnswer, Refuse, Hooks, Calm, CommitChange, Config, Nowhere, Step}
-use Rattle.plain_machine.specs.Calls.{on, with_editor, change_call}
+use Rattle.plain_machine.specs.Items.{Item, Top, MakeCall, GiveAnswer, Hooks, Calm, CommitChange, Nowhere, Step}
+use Rattle.plain_machine.specs.Calls.{on, change_call}
 use Rattle.plain_machine.specs.Forms.{after_commit}
 use Rattle.plain_machine.specs.Lines.{OfAfter}
 use Rattle.plain_machine.specs.Step.{step}

@@ -1,6 +1,6 @@
 -- What each call of the first path comes to.
-use Rattle.std.proofs.Common.{◌≡◌, ℕ, ◌+◌, ◌-◌, ◌≤◌, ◌<◌, Bool, true, false, List, [], ◌∷◌, ◌++◌, length, refl, ap, sym, ◌∙◌, arith, subst}
-use Rattle.std.specs.Prelude.{ℤ, min, max, nat_le, ◌==◌, ◌||◌, ◌&&◌, if◌then◌else◌, Option, Some, None}
+use Rattle.std.proofs.Common.{◌≡◌, ℕ, ◌+◌, ◌≤◌, ◌<◌, Bool, true, false, List, [], ◌∷◌, length, refl, ap, sym, ◌∙◌, arith, subst}
+use Rattle.std.specs.Prelude.{ℤ, min, max, nat_le, ◌==◌, ◌||◌, ◌&&◌, if◌then◌else◌, Some, None}
 use Rattle.std.proofs.lemmas.List.{length-map}
 use Rattle.std.proofs.lemmas.Bool.{le-leb, lt-leb, leb-true, ne_eqb, eq-eqb}
 use Rattle.std.proofs.lemmas.Grind.{common_steps}
@@ -8,8 +8,7 @@ use Rattle.text_model.specs.Characters.{Ch}
 use Rattle.text_model.specs.Properties.{Cell, bare}
 use Rattle.text_model.specs.Places.{clip}
 use Rattle.text_model.specs.Undo.{Undo}
-use Rattle.text_model.specs.Commit.{Site}
-use Rattle.editor_model.specs.Values.{Reply, Answered, Nil, Int, Str, Insert, GotoChar, DeleteRegion, BufferFull, ArgsOutOfRange, Arg, Const, Form, Forms, Then}
+use Rattle.editor_model.specs.Values.{Reply, Nil, Int, Str, Insert, GotoChar, DeleteRegion, BufferFull, ArgsOutOfRange, Arg, Const, Form, Forms, Then}
 use Rattle.editor_model.specs.Answers.{Prepared, Changes, Nothing}
 use Rattle.editor_model.specs.Limits.{longest_text, longest_texts}
 use Rattle.editor_model.specs.Arguments.{has_room, position_of}
@@ -19,10 +18,9 @@ use Rattle.plain_machine.specs.Calls.{change_call}
 use Rattle.plain_machine.specs.Run.{Reaches, goes}
 use Rattle.ek_call.specs.declared.fault.Fault.TheVariants as fault
 use Rattle.kernel_top.specs.Plain.{plain_editor, plain_state, at_top, reply_said, Content, buffer_with, inserted, deleted, characters}
-use Rattle.kernel_top.specs.Answers.{replied, called, ComesTo, place_of, is_within, place_within}
-use Rattle.kernel_top.specs.declared.answer.Answer.{Answer}
+use Rattle.kernel_top.specs.Answers.{called, ComesTo, place_of, is_within, place_within}
 use Rattle.kernel_top.specs.declared.answer.Answer.TheVariants as answer
-use Rattle.kernel_top.proofs.Calls.{put, change, committed_state, goto_char_steps, nothing_steps, barred_steps, change_steps}
+use Rattle.kernel_top.proofs.Calls.{put, change, goto_char_steps, nothing_steps, barred_steps, change_steps}
 use Rattle.kernel_top.proofs.Contents.{text_alone, inserted_content, insertion_pops, deleted_content, deletion_pops}
 use Rattle.kernel_top.proofs.Prepared.{no_room, room, room_at_commit, empty_insertion, outside_first, outside_second, inside}
 

@@ -1,17 +1,16 @@
 -- What a change of the first path makes of a buffer's content.
-use Rattle.std.proofs.Common.{◌≡◌, ℕ, zero, suc, ◌+◌, ◌-◌, ◌≤◌, ◌<◌, Bool, true, false, List, [], ◌∷◌, ◌++◌, length, map, take, drop, refl, ap, sym, ◌∙◌, arith, length-append, append-nil, subst}
-use Rattle.std.specs.Prelude.{min, max, nat_lt, nat_le, ◌==◌, if◌then◌else◌, Some, None}
+use Rattle.std.proofs.Common.{◌≡◌, ℕ, zero, suc, ◌+◌, ◌-◌, ◌≤◌, ◌<◌, Bool, true, false, List, [], ◌∷◌, ◌++◌, length, map, take, drop, refl, ap, sym, ◌∙◌, arith, length-append}
+use Rattle.std.specs.Prelude.{nat_lt, nat_le, ◌==◌, if◌then◌else◌}
 use Rattle.std.proofs.lemmas.List.{length-map, map-append, take-map, drop-map, length-take, length-drop}
 use Rattle.std.proofs.lemmas.Bool.{ne_eqb, lt-ltb, le-ltb, ltb-false, lt-leb, le-leb}
 use Rattle.text_model.specs.Characters.{Ch}
 use Rattle.text_model.specs.Properties.{Cell, bare}
 use Rattle.text_model.specs.Places.{after_insert, after_delete, clip}
-use Rattle.text_model.specs.Marks.{Marks}
 use Rattle.text_model.specs.Undo.{Undo}
-use Rattle.text_model.specs.Commit.{Buffer, Site, no_pending, inserted as inserted_site, deleted as deleted_site}
+use Rattle.text_model.specs.Commit.{Buffer}
 use Rattle.editor_model.specs.TextCalls.{with_inherited}
 use Rattle.kernel_top.specs.Plain.{plain_state, Content, buffer_with, inserted, deleted}
-use Rattle.kernel_top.proofs.Calls.{kept, put, committed_state}
+use Rattle.kernel_top.proofs.Calls.{put, committed_state}
 
 -- characters without properties inherit nothing where nothing is offered
 pub inherits_nothing : (text : List Ch) → with_inherited [] (bare text) ≡ bare text

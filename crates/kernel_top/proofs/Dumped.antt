@@ -1,13 +1,13 @@
 -- The lines of a run with one buffer.
-use Rattle.std.proofs.Common.{◌≡◌, ℕ, ◌+◌, List, [], ◌∷◌, ◌++◌, length, map, refl, ap, sym, ◌∙◌, append-nil, append_assoc}
-use Rattle.std.specs.Prelude.{codes, decimal, Bool, if◌then◌else◌, flat_map, Option, Some}
+use Rattle.std.proofs.Common.{◌≡◌, ℕ, ◌+◌, List, [], ◌∷◌, ◌++◌, length, map, refl, ap, sym, ◌∙◌, append-nil}
+use Rattle.std.specs.Prelude.{codes, decimal, if◌then◌else◌, Option, Some}
 use Rattle.std.specs.Fmt.{digits}
 use Rattle.std.specs.Char.{encode_utf8}
 use Rattle.text_model.specs.Characters.{Ch}
-use Rattle.text_model.specs.Properties.{Cell, PropSet, bare, stretch_more, stretches, same_set}
+use Rattle.text_model.specs.Properties.{PropSet, bare, stretch_more, stretches, same_set}
 use Rattle.text_model.specs.Undo.{Undo}
 use Rattle.editor_model.specs.Editor.{Live, scratch}
-use Rattle.plain_machine.specs.State.{State, new_state}
+use Rattle.plain_machine.specs.State.{State}
 use Rattle.plain_machine.specs.Lines.{Replied, line, fault_words, quoted, run_words, shown_text, shown_live, dump}
 use Rattle.ek_call.specs.Faults.{fault_of, fault_number, fault_name}
 use Rattle.ek_call.specs.declared.fault.Fault.{Fault}

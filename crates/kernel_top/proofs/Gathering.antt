@@ -1,5 +1,5 @@
 -- What is gathered of a text, part by part.
-use Rattle.std.proofs.Common.{◌≡◌, ℕ, ◌+◌, ◌≤◌, ◌<◌, List, [], ◌∷◌, ◌++◌, length, take, drop, flat_map, Some, slice_get, refl, ap, sym, ◌∙◌, arith, append-nil, take-append-drop}
+use Rattle.std.proofs.Common.{◌≡◌, ℕ, ◌+◌, ◌≤◌, List, [], ◌∷◌, ◌++◌, take, drop, flat_map, Some, slice_get, ap, sym, ◌∙◌, arith, append-nil, take-append-drop}
 use Rattle.std.proofs.lemmas.List.{drop-append-le, length-take}
 use Rattle.std.proofs.lemmas.Option.{slice_get_within}
 use Rattle.std.proofs.lemmas.Grind.{flat_map-append, common_steps}

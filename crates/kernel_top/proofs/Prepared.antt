@@ -1,18 +1,16 @@
 -- How the calls of the first path are prepared.
-use Rattle.std.proofs.Common.{◌≡◌, ℕ, ◌+◌, ◌-◌, ◌≤◌, true, false, List, [], ◌∷◌, ◌++◌, length, map, refl, ap, sym, ◌∙◌, append-nil}
-use Rattle.std.specs.Prelude.{ℤ, Bool, pos, min, max, ◌==◌, if◌then◌else◌, Some, None}
-use Rattle.std.proofs.lemmas.List.{length-map}
+use Rattle.std.proofs.Common.{◌≡◌, true, false, List, [], ◌∷◌, ◌++◌, length, refl, ap, ◌∙◌, append-nil}
+use Rattle.std.specs.Prelude.{ℤ, Bool, None}
 use Rattle.text_model.specs.Characters.{Ch}
 use Rattle.text_model.specs.Properties.{bare}
-use Rattle.text_model.specs.Undo.{Undo}
 use Rattle.text_model.specs.Commit.{Buffer}
 use Rattle.editor_model.specs.Values.{Nil, Int, Str, ArgsOutOfRange, BufferFull, Insert, DeleteRegion}
-use Rattle.editor_model.specs.Answers.{first_fault, refuse, Put, Prepared, Changes, Nothing, Barred, prepared, prepared_of}
-use Rattle.editor_model.specs.Arguments.{has_room, accessible, place, must_have_room}
+use Rattle.editor_model.specs.Answers.{first_fault, refuse, Put, Prepared, Changes, Nothing, Barred, prepared}
+use Rattle.editor_model.specs.Arguments.{has_room, accessible}
 use Rattle.editor_model.specs.Commits.{commit_tests}
-use Rattle.editor_model.specs.TextCalls.{insertion, inserted_piece, region_deletion, deletion}
+use Rattle.editor_model.specs.TextCalls.{insertion, inserted_piece, region_deletion}
 use Rattle.editor_model.specs.Table.{prepare}
-use Rattle.kernel_top.specs.Plain.{plain_editor, Content, buffer_with}
+use Rattle.kernel_top.specs.Plain.{plain_editor}
 use Rattle.kernel_top.proofs.Calls.{change, kept_editor}
 use Rattle.kernel_top.proofs.Contents.{inherits_nothing}
 

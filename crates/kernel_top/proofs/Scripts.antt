@@ -1,26 +1,25 @@
 -- A script, form by form.
-use Rattle.std.proofs.Common.{◌≡◌, ℕ, ◌+◌, ◌≤◌, ◌<◌, List, [], ◌∷◌, ◌++◌, map, drop, length, Ok, Err, Result, Some, slice_get, option_map, sym, ap, ◌∙◌, append-nil, append_assoc, refl, arith, IsOk, length-append}
+use Rattle.std.proofs.Common.{◌≡◌, ℕ, ◌+◌, ◌≤◌, List, [], ◌∷◌, ◌++◌, drop, length, Ok, Err, Result, Some, slice_get, sym, ap, ◌∙◌, append-nil, append_assoc, refl, arith, IsOk, length-append}
 use Rattle.std.specs.declared.option.Option.{Option}
 use Rattle.std.specs.Io.KnownBytes.{Appends}
 use Rattle.std.proofs.KnownBytes.{Appends-nil, Appends-trans}
 use Rattle.std.proofs.lemmas.Bool.{false≢true}
-use Rattle.std.proofs.lemmas.List.{drop_more, drop_all, length-map}
-use Rattle.std.proofs.lemmas.Option.{slice_get_within, get_or_from_slice_get, slice_get-map}
+use Rattle.std.proofs.lemmas.List.{drop_more, drop_all}
+use Rattle.std.proofs.lemmas.Option.{slice_get_within, get_or_from_slice_get}
 use Rattle.std.proofs.lemmas.Grind.{flat_map-append}
 use Rattle.text_model.specs.Undo.{Undo}
-use Rattle.editor_model.specs.Values.{Script, Form, Forms, NoForms, Then}
+use Rattle.editor_model.specs.Values.{Script, Form, NoForms, Then}
 use Rattle.editor_model.specs.Editor.{empty_buffer}
 use Rattle.plain_machine.specs.State.{State, Program}
-use Rattle.plain_machine.specs.Exchanges.{Exchange}
 use Rattle.plain_machine.specs.Lines.{Replied, line, Dumped, dump}
-use Rattle.plain_machine.specs.Items.{Said, Config, Top}
+use Rattle.plain_machine.specs.Items.{Said, Config}
 use Rattle.plain_machine.specs.Run.{Reaches, stays, goes, start, lines}
-use Rattle.plain_machine.specs.WholeRuns.{Ran, BrokenOff, IsBetweenEntries}
+use Rattle.plain_machine.specs.WholeRuns.{IsBetweenEntries}
 use Rattle.plain_machine.proofs.Composed.{reaches_then}
 use Rattle.ek_types.specs.Io.{SinkState, Writes}
 use Rattle.ek_types.specs.Io.{IsPrefixOf as IsFront}
 use Rattle.ek_call.specs.Meaning.{joined}
-use Rattle.kernel_top.specs.Plain.{Content, new_content, plain_state, buffer_with, at_top, reply_said}
+use Rattle.kernel_top.specs.Plain.{Content, new_content, plain_state, buffer_with, at_top}
 use Rattle.kernel_top.specs.Answers.{ComesTo, replied}
 use Rattle.kernel_top.specs.Outcomes.{program_for, RanScript, StoppedScript, SaysAtMost}
 use Rattle.kernel_top.specs.declared.answer.Answer.{Answer}

@@ -1,5 +1,5 @@
 -- The calls of the first path, their answers, and what they make of the content.
-use Rattle.std.specs.Prelude.{ℕ, ◌+◌, ◌-◌, ℤ, Bool, ◌&&◌, nat_le, List, [], ◌∷◌, ◌++◌, length, codes, if◌then◌else◌, Option, Some, None}
+use Rattle.std.specs.Prelude.{ℕ, ◌+◌, ◌-◌, ℤ, Bool, ◌&&◌, nat_le, List, [], ◌++◌, length, codes, if◌then◌else◌, Option, Some, None}
 use Rattle.text_model.specs.Undo.{Undo}
 use Rattle.editor_model.specs.Values.{Reply, Answered, Refused, Nil, Int, Prim, Arg, Form, Do, Forms, Then}
 use Rattle.editor_model.specs.Arguments.{position_of}

@@ -5,7 +5,7 @@ use Rattle.text_model.specs.Properties.{Cell, bare}
 use Rattle.text_model.specs.Places.{after_delete}
 use Rattle.text_model.specs.Undo.{Undo}
 use Rattle.text_model.specs.Commit.{Buffer}
-use Rattle.editor_model.specs.Values.{Reply, Form, Forms, Then}
+use Rattle.editor_model.specs.Values.{Reply, Forms}
 use Rattle.editor_model.specs.Editor.{Editor, scratch, new_editor}
 use Rattle.plain_machine.specs.State.{State, Program, new_state}
 use Rattle.plain_machine.specs.Lines.{Replied, line}

@@ -1,7 +1,6 @@
-use Rattle.std.proofs.Common.{◌≡◌, ◌≤◌, ap, sym, ◌∙◌, arith, rules, length, None, Some, SFits, w64}
+use Rattle.std.proofs.Common.{sym, ◌∙◌, arith, rules, SFits, w64}
 use Rattle.std.proofs.lemmas.Int.{to_z-of_z}
 use Rattle.ek_call.specs.Meaning.{arg_of}
-use Rattle.kernel_top.specs.Answers.{place_within}
 use Rattle.kernel_top.proofs.Coming.{found, not_found, place_fits, came_outside_first, came_outside_second, came_nothing, came_deleted}
 use Rattle.kernel_top.proofs.apply.delete_region.Goals as goal
 

@@ -1,4 +1,4 @@
-use Rattle.std.proofs.Common.{◌≡◌, ap, sym, ◌∙◌, rules, subst, length, SFits, w64}
+use Rattle.std.proofs.Common.{rules, SFits, w64}
 use Rattle.std.proofs.lemmas.Int.{to_z-of_z}
 use Rattle.ek_call.specs.Meaning.{arg_of}
 use Rattle.kernel_top.proofs.Coming.{came_gone}

@@ -1,7 +1,6 @@
-use Rattle.std.proofs.Common.{◌≡◌, length, sym, ◌∙◌, arith}
+use Rattle.std.proofs.Common.{sym, ◌∙◌, arith}
 use Rattle.text_model.specs.Properties.{bare}
 use Rattle.ek_call.specs.Meaning.{arg_of}
-use Rattle.kernel_top.specs.Plain.{inserted, characters}
 use Rattle.kernel_top.proofs.Coming.{same_string, came_empty, came_full, came_inserted}
 use Rattle.kernel_top.proofs.apply.insert.Goals as goal
 

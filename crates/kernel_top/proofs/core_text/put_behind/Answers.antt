@@ -1,4 +1,4 @@
-use Rattle.std.proofs.Common.{◌≡◌, ◌+◌, ◌-◌, length, arith}
+use Rattle.std.proofs.Common.{◌≡◌, ◌+◌, ◌-◌, arith}
 use Rattle.kernel_top.proofs.Rotating.{rotated}
 use Rattle.kernel_top.proofs.core_text.put_behind.Goals as goal
 

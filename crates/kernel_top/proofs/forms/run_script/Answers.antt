@@ -1,4 +1,4 @@
-use Rattle.std.proofs.Common.{◌≤◌, map, refl, arith, []}
+use Rattle.std.proofs.Common.{map, refl, arith, []}
 use Rattle.std.proofs.lemmas.Bool.{false≢true}
 use Rattle.std.proofs.lemmas.List.{length-map}
 use Rattle.ek_types.specs.Listing.{items_of}
@@ -6,7 +6,7 @@ use Rattle.ek_call.specs.Meaning.{form_of, script_of}
 use Rattle.plain_machine.specs.State.{new_state}
 use Rattle.editor_model.specs.Editor.{new_undo}
 use Rattle.kernel_top.proofs.SoFar.{form_at, mapped_at}
-use Rattle.kernel_top.proofs.Scripts.{SoFar, so_far_start, so_far_more, stopped_between, stopped_writing, ran_all, stopped_dumping, no_fault_in_reply, no_fault_in_dump}
+use Rattle.kernel_top.proofs.Scripts.{so_far_start, so_far_more, stopped_between, stopped_writing, ran_all, stopped_dumping, no_fault_in_reply, no_fault_in_dump}
 use Rattle.kernel_top.proofs.forms.run_script.Goals as goal
 
 pub loop-i-init : goal.loop-i-init

@@ -1,4 +1,4 @@
-use Rattle.std.proofs.Common.{◌≡◌, ◌≤◌, ◌*◌, ◌-◌, ◌+◌, take, drop, flat_map}
+use Rattle.std.proofs.Common.{◌≡◌, ◌≤◌, ◌*◌, ◌+◌, take, drop, flat_map}
 use Rattle.plain_machine.specs.Lines.{shown_ch}
 use Rattle.kernel_top.proofs.print.gather.Given as goal
 

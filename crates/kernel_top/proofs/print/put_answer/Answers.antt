@@ -1,4 +1,4 @@
-use Rattle.std.proofs.Common.{◌≡◌, ◌++◌, codes, ap, sym, ◌∙◌, rules, SFits, w64}
+use Rattle.std.proofs.Common.{◌++◌, codes, ap, sym, ◌∙◌, rules, SFits, w64}
 use Rattle.std.proofs.lemmas.Int.{to_z-of_z}
 use Rattle.plain_machine.specs.Lines.{shown_int}
 use Rattle.kernel_top.specs.Answers.{answer_words}

@@ -1,8 +1,8 @@
-use Rattle.std.proofs.Common.{◌≡◌, ◌≤◌, ◌+◌, ℕ, take, length, ap, arith}
+use Rattle.std.proofs.Common.{◌+◌, ap, arith}
 use Rattle.std.specs.List.{flat_map}
 use Rattle.std.proofs.lemmas.List.{take_all}
 use Rattle.plain_machine.specs.Lines.{shown_ch}
-use Rattle.ek_types.proofs.Printing.{continues_then, continues_same, continues_nothing}
+use Rattle.ek_types.proofs.Printing.{continues_then, continues_same}
 use Rattle.kernel_top.proofs.Gathering.{gathered_on}
 use Rattle.kernel_top.proofs.print.put_inside.Goals as goal
 

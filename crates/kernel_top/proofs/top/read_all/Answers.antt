@@ -1,4 +1,4 @@
-use Rattle.std.proofs.Common.{◌≤◌, ◌+◌, ◌++◌, take, length, arith, length-append}
+use Rattle.std.proofs.Common.{◌++◌, take, arith, length-append}
 use Rattle.std.proofs.lemmas.List.{length-take}
 use Rattle.kernel_top.proofs.Taking.{ended, consumes_kept, consumes_more}
 use Rattle.kernel_top.proofs.top.read_all.Goals as goal
