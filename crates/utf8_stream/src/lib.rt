@@ -5,6 +5,8 @@
 mod decoder;
 mod laws;
 mod sequence;
+#[cfg(test)]
+mod tests;
 
 pub use decoder::Decoder;
 pub use laws::{all_in_pieces, characters_in_pieces, tail_in_pieces};
