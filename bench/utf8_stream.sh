@@ -1,17 +1,18 @@
 #!/bin/sh
-# How fast UTF-8 is decoded in pieces of 4,096 bytes, beside `bstr`'s own decoding of the same bytes in one piece; both
-# put their characters into a list. Of ASCII, of two-byte and four-byte characters, and of bytes that are no UTF-8. The
-# ratio of the two times is what counts, and should stay below 2. `rt try` builds with checks, which take most of the time.
+# How long UTF-8 takes to decode in pieces of 4,096 bytes into a list, beside `bstr`'s own decoding of the same bytes in
+# one piece, which keeps nothing: ASCII, characters of two and of four bytes, and bytes that are no UTF-8. The ratio of
+# the two times is what counts: it should stay below 2. The program is proved and built first, which takes a minute.
 #
-#     bench/utf8_stream.sh [ROUNDS]        (of 256 KiB each; 4 if none is given)
+#     bench/utf8_stream.sh [ROUNDS]        (of 256 KiB each; 200 if none is given)
 set -eu
 
 top=$(cd "$(dirname "$0")/.." && pwd)
-rounds=${1:-4}
+rounds=${1:-200}
 work=$(mktemp -d "${TMPDIR:-/tmp}/utf8_stream_bench.XXXXXX")
 trap 'rm -rf "$work"' EXIT
 
 mkdir -p "$work/crates/bench_decoding/src"
+cp "$top/HANDLES" "$work/"
 for crate in text_model ek_types utf8_stream; do
     mkdir "$work/crates/$crate"
     for part in src specs proofs; do
@@ -28,71 +29,73 @@ cat > "$work/crates/bench_decoding/src/main.rt" <<'PROGRAM'
 #![tactic(auto)]
 
 use bstr::ByteSlice;
-use ek_types::{Ch, Chars};
+use ek_types::{Ch, Chars, Mem};
+use std::alloc::Global;
+use std::env;
 use std::io;
 use std::time::Instant;
-use std::env;
 use utf8_stream::Decoder;
 
 const LENGTH: usize = 262_144;
 
 const PIECE: usize = 4096;
 
-fn in_pieces(bytes: &[u8], out: &mut Chars) {
+fn in_pieces(alloc: Global, bytes: &[u8]) -> Mem<usize> {
+    let mut out = Chars::new(alloc);
+    out.reserve(bytes.len())?;
     let mut decoder = Decoder::new();
-    let mut rest = bytes;
-    while !rest.is_empty() {
-        let (piece, more) = rest.split_at(PIECE.min(rest.len()));
-        decoder.feed(piece, out);
-        rest = more;
-    }
-    decoder.finish(out);
-}
-
-fn in_one_piece(bytes: &[u8], out: &mut Chars) {
-    for c in bytes.chars() {
-        out.push_spare(Ch::Scalar(c));
-    }
-}
-
-fn compare(rt: &HostRuntime, name: &str, unit: &[u8], rounds: usize) -> io::Result<()> {
-    let mut text = Vec::new(rt.alloc());
-    while text.len() < LENGTH {
-        if text.extend_from_slice(unit).is_err() {
-            return Ok(());
+    for piece in bytes.chunks(PIECE) {
+        if piece.len() <= PIECE {
+            out.reserve(decoder.held().len() + piece.len())?;
+            decoder.feed(piece, &mut out);
         }
     }
-    let mut characters = 0;
+    out.reserve(decoder.held().len())?;
+    decoder.finish(&mut out);
+    Ok(out.len())
+}
+
+fn in_one_piece(bytes: &[u8]) -> u32 {
+    let mut all = 0;
+    for c in bytes.chars() {
+        all ^= u32::from(c);
+    }
+    all
+}
+
+fn text_of(alloc: Global, unit: &[u8]) -> Mem<Vec<u8>> {
+    let mut text = Vec::new(alloc);
+    for _ in 0..LENGTH {
+        if text.len() < LENGTH {
+            text.extend_from_slice(unit)?;
+        }
+    }
+    Ok(text)
+}
+
+fn compare(rt: &HostRuntime, name: &str, unit: &[u8], rounds: u32) -> io::Result<()> {
+    let Ok(text) = text_of(rt.alloc(), unit) else {
+        return Ok(());
+    };
+    let mut characters = 0usize;
     let start = Instant::now(rt);
     for _ in 0..rounds {
-        let mut out = Chars::new(rt.alloc());
-        if out.reserve(text.len()).is_err() {
-            return Ok(());
-        }
-        in_pieces(text.as_slice(), &mut out);
-        characters += out.len();
+        characters = characters.wrapping_add(in_pieces(rt.alloc(), text.as_slice()).unwrap_or(0));
     }
     let pieces = start?.elapsed(rt)?.as_micros();
+    let mut codes = 0;
     let start = Instant::now(rt);
     for _ in 0..rounds {
-        let mut out = Chars::new(rt.alloc());
-        if out.reserve(text.len()).is_err() {
-            return Ok(());
-        }
-        in_one_piece(text.as_slice(), &mut out);
-        characters += out.len();
+        codes ^= in_one_piece(text.as_slice());
     }
     let whole = start?.elapsed(rt)?.as_micros();
-    let bytes = (text.len() * rounds) as u128 * 1_000_000;
-    let fed = bytes / pieces.max(1);
-    let read = bytes / whole.max(1);
-    let ratio = pieces * 100 / whole.max(1);
-    println!(rt; "{name}: {fed} bytes a second in pieces, {read} by bstr in one, ratio {ratio} in 100 ({characters} characters)")
+    let length = text.len();
+    println!(rt; "{name}: {rounds} times {length} bytes: {pieces} microseconds in pieces, {whole} by bstr in one ({characters} characters, {codes})")
 }
 
 fn main(rt: HostRuntime) -> io::Result<()> {
     for word in env::args(&rt)? {
-        if let Ok(rounds) = word.parse::<usize>() {
+        if let Ok(rounds) = word.parse::<u32>() {
             compare(&rt, "ASCII", b"a letter to no one, ", rounds)?;
             compare(&rt, "two bytes", b"\xC3\xA9\xCE\xBB\xD0\x96", rounds)?;
             compare(&rt, "four bytes", b"\xF0\x9F\x98\x80\xF0\x90\x8D\x88", rounds)?;
@@ -103,4 +106,7 @@ fn main(rt: HostRuntime) -> io::Result<()> {
 }
 PROGRAM
 
-(cd "$work/crates/bench_decoding" && rt try --steps 1000 --seconds 3600 -- "$rounds")
+(cd "$work/crates/bench_decoding" && rt run -- "$rounds" 2> "$work/log") || {
+    tail -n 20 "$work/log" >&2
+    exit 1
+}
