@@ -1,0 +1,112 @@
+#!/bin/sh
+# How long UTF-8 takes to decode in pieces of 4,096 bytes into a list, beside `bstr`'s own decoding of the same bytes in
+# one piece, which keeps nothing: ASCII, characters of two and of four bytes, and bytes that are no UTF-8. The ratio of
+# the two times is what counts: it should stay below 2. The program is proved and built first, which takes a minute.
+#
+#     bench/utf8_stream.sh [ROUNDS]        (of 256 KiB each; 200 if none is given)
+set -eu
+
+top=$(cd "$(dirname "$0")/.." && pwd)
+rounds=${1:-200}
+work=$(mktemp -d "${TMPDIR:-/tmp}/utf8_stream_bench.XXXXXX")
+trap 'rm -rf "$work"' EXIT
+
+mkdir -p "$work/crates/bench_decoding/src"
+cp "$top/HANDLES" "$work/"
+for crate in text_model ek_types utf8_stream; do
+    mkdir "$work/crates/$crate"
+    for part in src specs proofs; do
+        if [ -d "$top/crates/$crate/$part" ]; then
+            cp -R "$top/crates/$crate/$part" "$work/crates/$crate/"
+        fi
+    done
+    grep "^$crate:" "$top/crates.txt" >> "$work/crates.txt"
+done
+echo 'bench_decoding: ek_types utf8_stream bstr' >> "$work/crates.txt"
+
+cat > "$work/crates/bench_decoding/src/main.rt" <<'PROGRAM'
+//! The time of decoding in pieces, and of `bstr`'s decoding.
+#![tactic(auto)]
+
+use bstr::ByteSlice;
+use ek_types::{Ch, Chars, Mem};
+use std::alloc::Global;
+use std::env;
+use std::io;
+use std::time::Instant;
+use utf8_stream::Decoder;
+
+const LENGTH: usize = 262_144;
+
+const PIECE: usize = 4096;
+
+fn in_pieces(alloc: Global, bytes: &[u8]) -> Mem<usize> {
+    let mut out = Chars::new(alloc);
+    out.reserve(bytes.len())?;
+    let mut decoder = Decoder::new();
+    for piece in bytes.chunks(PIECE) {
+        if piece.len() <= PIECE {
+            out.reserve(decoder.held().len() + piece.len())?;
+            decoder.feed(piece, &mut out);
+        }
+    }
+    out.reserve(decoder.held().len())?;
+    decoder.finish(&mut out);
+    Ok(out.len())
+}
+
+fn in_one_piece(bytes: &[u8]) -> u32 {
+    let mut all = 0;
+    for c in bytes.chars() {
+        all ^= u32::from(c);
+    }
+    all
+}
+
+fn text_of(alloc: Global, unit: &[u8]) -> Mem<Vec<u8>> {
+    let mut text = Vec::new(alloc);
+    for _ in 0..LENGTH {
+        if text.len() < LENGTH {
+            text.extend_from_slice(unit)?;
+        }
+    }
+    Ok(text)
+}
+
+fn compare(rt: &HostRuntime, name: &str, unit: &[u8], rounds: u32) -> io::Result<()> {
+    let Ok(text) = text_of(rt.alloc(), unit) else {
+        return Ok(());
+    };
+    let mut characters = 0usize;
+    let start = Instant::now(rt);
+    for _ in 0..rounds {
+        characters = characters.wrapping_add(in_pieces(rt.alloc(), text.as_slice()).unwrap_or(0));
+    }
+    let pieces = start?.elapsed(rt)?.as_micros();
+    let mut codes = 0;
+    let start = Instant::now(rt);
+    for _ in 0..rounds {
+        codes ^= in_one_piece(text.as_slice());
+    }
+    let whole = start?.elapsed(rt)?.as_micros();
+    let length = text.len();
+    println!(rt; "{name}: {rounds} times {length} bytes: {pieces} microseconds in pieces, {whole} by bstr in one ({characters} characters, {codes})")
+}
+
+fn main(rt: HostRuntime) -> io::Result<()> {
+    for word in env::args(&rt)? {
+        if let Ok(rounds) = word.parse::<u32>() {
+            compare(&rt, "ASCII", b"a letter to no one, ", rounds)?;
+            compare(&rt, "two bytes", b"\xC3\xA9\xCE\xBB\xD0\x96", rounds)?;
+            compare(&rt, "four bytes", b"\xF0\x9F\x98\x80\xF0\x90\x8D\x88", rounds)?;
+            compare(&rt, "malformed", b"\xFF\xE2\x82\xC0\x80\xF0\x9F\x98", rounds)?;
+        }
+    }
+    Ok(())
+}
+PROGRAM
+
+(cd "$work/crates/bench_decoding" && rt run -- "$rounds" 2> "$work/log") || {
+    tail -n 20 "$work/log" >&2
+    exit 1
+}

@@ -1,0 +1,5 @@
+pub mod Cuttings
+pub mod Fronts
+pub mod Readings
+pub mod Steps
+pub mod Tails

@@ -1,0 +1,12 @@
+//! Decoding of UTF-8 that comes in pieces: characters as soon as their bytes are there, and no byte lost between two
+//! pieces.
+#![tactic(auto)]
+
+mod decoder;
+mod laws;
+mod sequence;
+#[cfg(test)]
+mod tests;
+
+pub use decoder::Decoder;
+pub use laws::{all_in_pieces, characters_in_pieces, tail_in_pieces};
