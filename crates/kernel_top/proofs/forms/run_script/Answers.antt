@@ -34,7 +34,7 @@ returns-in_default-reply-clause-cause g c = record {
 pub loop-i-preserved : goal.loop-i-preserved
 loop-i-preserved g c =
     so_far_more (script_of c.args.script.now) (map form_of (items_of c.args.script.now.forms)) refl c.loop-i.i (form_of c.at.result.now) c.loop-i.core c.run_form.new.core c.in-Ok.answer c.in-Ok-reply.field-0 _ _ _
-      (mapped_at form_of (items_of c.args.script.now.forms) c.loop-i.i c.at.result.now c.at.ensures) c.in-Ok.ensures.ok c.loop-i.invariant c.in-Ok-reply.ensures
+    (mapped_at form_of (items_of c.args.script.now.forms) c.loop-i.i c.at.result.now c.at.ensures) c.in-Ok.ensures.ok c.loop-i.invariant c.in-Ok-reply.ensures
 
 pub returns-in-Ok-dump-clause-ok : goal.returns-in-Ok-dump-clause-ok
 returns-in-Ok-dump-clause-ok g c =
