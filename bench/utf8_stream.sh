@@ -106,7 +106,14 @@ fn main(rt: HostRuntime) -> io::Result<()> {
 }
 PROGRAM
 
-(cd "$work/crates/bench_decoding" && rt run -- "$rounds" 2> "$work/log") || {
+(cd "$work/crates/bench_decoding" && rt run -- "$rounds" > "$work/times" 2> "$work/log") || {
     tail -n 20 "$work/log" >&2
     exit 1
 }
+
+# NAME: ROUNDS times LENGTH bytes: MICROSECONDS microseconds in pieces, MICROSECONDS by bstr in one (..)
+sed -nE 's/^(.*): ([0-9]+) times ([0-9]+) bytes: ([0-9]+) microseconds in pieces, ([0-9]+) by bstr.*/\1:\2:\3:\4:\5/p' "$work/times" |
+awk -F: '{
+    bytes = $2 * $3
+    printf "%s: %.0f bytes per second in pieces, %.0f by bstr in one: ratio %.2f\n", $1, bytes * 1e6 / $4, bytes * 1e6 / $5, $4 / $5
+}'
