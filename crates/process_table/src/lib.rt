@@ -1,0 +1,8 @@
+//! The processes of a run by number: names, handlers, states, and the decoder of each one's output.
+#![tactic(auto)]
+
+mod process;
+mod processes;
+
+pub use process::{Filter, Process, Status};
+pub use processes::Processes;
