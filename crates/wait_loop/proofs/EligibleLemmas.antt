@@ -3,8 +3,7 @@ use Rattle.std.proofs.Common.{◌≡◌, ℕ, zero, suc, ◌+◌, ◌<◌, ◌�
 use Rattle.std.specs.Prelude.{find}
 use Rattle.std.specs.List.{position, position_or_len, enumerate_from, range_with_len}
 use Rattle.std.proofs.lemmas.List.{append-nil, drop_all}
-use Rattle.std.proofs.lemmas.Bool.Decides.{nat_tests}
-use Rattle.std.proofs.lemmas.Bool.{ltb-true, ltb-false}
+use Rattle.std.proofs.lemmas.Bool.{ltb-true, ltb-false, eq-eqb, ne_eqb}
 use Rattle.std.proofs.lemmas.List.Elements.{filter-append, filter_passes, All-head}
 use Rattle.std.proofs.lemmas.Option.{same_Some}
 use Rattle.plain_machine.specs.State.{State, Process, process}
@@ -34,10 +33,10 @@ found_is_first test (x ∷ xs) = go (test x) (found_is_first test xs)
     go false later = later
 
 not_itself : (p : ℕ) → not (p == p) ≡ false
-not_itself p = grind (arith, nat_tests)
+not_itself p = ap not (eq-eqb p p refl)
 
-not_another : (p j : ℕ) → j < p → not (p == j) ≡ true
-not_another p j h = grind (arith, nat_tests)
+pub not_another : (p j : ℕ) → (p ≡ j → ⊥) → not (p == j) ≡ true
+not_another p j h = ap not (ne_eqb p j h)
 
 -- no number from k on is one below k
 none_below : (test : ℕ → Bool) (j k n : ℕ) → j < k → others test j (range_with_len k n) ≡ filter test (range_with_len k n)
@@ -45,7 +44,7 @@ none_below test j k zero h = refl
 none_below test j k (suc n) h = go (test k) (none_below test j (k + 1) n (omega arith))
   where
     go : (passes : Bool) → others test j (range_with_len (k + 1) n) ≡ filter test (range_with_len (k + 1) n) → filter (λ p. not (p == j)) (cond passes (k ∷ filter test (range_with_len (k + 1) n)) (filter test (range_with_len (k + 1) n))) ≡ cond passes (k ∷ filter test (range_with_len (k + 1) n)) (filter test (range_with_len (k + 1) n))
-    go true more = rw (not_another k j h) (ap (λ rest. k ∷ rest) more)
+    go true more = rw (not_another k j (λ e. omega (arith, e))) (ap (λ rest. k ∷ rest) more)
     go false more = more
 
 -- the first number that passes is none of the others
@@ -89,16 +88,24 @@ one_more test first p =
     ∙ ap (filter (λ q. not (q == first))) (filter-append test (range_with_len 0 p) (p ∷ []))
     ∙ filter-append (λ q. not (q == first)) (filter test (range_with_len 0 p)) (filter test (p ∷ []))
 
-pub one_more_passes : (test : ℕ → Bool) (first p : ℕ) → not (p == first) ≡ true → test p ≡ true → others test first (range_with_len 0 p) ++ p ∷ [] ≡ others test first (range_with_len 0 (p + 1))
-one_more_passes test first p other passes = sym (one_more test first p ∙ rw (passes, other) refl)
+pub one_more_passes : (test : ℕ → Bool) (first p : ℕ) → (p ≡ first → ⊥) → test p ≡ true → others test first (range_with_len 0 p) ++ p ∷ [] ≡ others test first (range_with_len 0 (p + 1))
+one_more_passes test first p other passes = sym (one_more test first p ∙ rw (passes, not_another p first other) refl)
 
-pub one_more_fails : (test : ℕ → Bool) (first p : ℕ) → not (p == first) && test p ≡ false → others test first (range_with_len 0 p) ≡ others test first (range_with_len 0 (p + 1))
-one_more_fails test first p fails = sym (one_more test first p ∙ ap (λ xs. others test first (range_with_len 0 p) ++ xs) (go (test p) (not (p == first)) fails refl refl) ∙ append-nil (others test first (range_with_len 0 p)))
+none_more : (test : ℕ → Bool) (first p : ℕ) → others test first (p ∷ []) ≡ [] → others test first (range_with_len 0 p) ≡ others test first (range_with_len 0 (p + 1))
+none_more test first p none = sym (one_more test first p ∙ ap (λ xs. others test first (range_with_len 0 p) ++ xs) none ∙ append-nil (others test first (range_with_len 0 p)))
+
+pub none_more_fails : (test : ℕ → Bool) (first p : ℕ) → test p ≡ false → others test first (range_with_len 0 p) ≡ others test first (range_with_len 0 (p + 1))
+none_more_fails test first p fails = none_more test first p (rw fails refl)
+
+pub none_more_first : (test : ℕ → Bool) (first p : ℕ) → p ≡ first → others test first (range_with_len 0 p) ≡ others test first (range_with_len 0 (p + 1))
+none_more_first test first p same = none_more test first p (go (test p))
   where
-    go : (passes other : Bool) → other && passes ≡ false → test p ≡ passes → not (p == first) ≡ other → others test first (p ∷ []) ≡ []
-    go false other h e f = rw e refl
-    go true true h e f = cc
-    go true false h e f = rw (e, f) refl
+    itself : not (p == first) ≡ false
+    itself = ap (λ q. not (p == q)) (sym same) ∙ not_itself p
+
+    go : (passes : Bool) → filter (λ q. not (q == first)) (cond passes (p ∷ []) []) ≡ []
+    go false = refl
+    go true = rw itself refl
 
 -- THE REST OF A ROUND
 from_place : (s : State) (w : Waiting) (asking : List ℕ) → from_eligible s w asking ≡ drop (position_or_len (is_eligible s w) asking) asking
@@ -152,3 +159,11 @@ first_is_eligible s w p rest fit first = go w.target refl
     go (Some t) e =
         let same : t ≡ p = same_Some t p (first_is_target s w t e ∙ ap (λ all. slice_get all 0) first) in
         ap (is_eligible s w) (sym same) ∙ ap (fits (is_eligible s w)) (sym e) ∙ sym (target_fits s w) ∙ fit
+
+pub first_left_is_eligible : (s : State) (w : Waiting) (p : ℕ) (rest asking : List ℕ) → from_eligible s w asking ≡ p ∷ rest → is_eligible s w p ≡ true
+first_left_is_eligible s w p rest [] first = cc
+first_left_is_eligible s w p rest (q ∷ asking) first = go (is_eligible s w q) refl first (first_left_is_eligible s w p rest asking)
+  where
+    go : (passes : Bool) → is_eligible s w q ≡ passes → elim passes [ true ↦ q ∷ asking | false ↦ from_eligible s w asking ] ≡ p ∷ rest → (from_eligible s w asking ≡ p ∷ rest → is_eligible s w p ≡ true) → is_eligible s w p ≡ true
+    go true e same later = let is : q ≡ p = cc in ap (is_eligible s w) (sym is) ∙ e
+    go false e same later = later same

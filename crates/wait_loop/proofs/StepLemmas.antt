@@ -1,20 +1,19 @@
 -- What the rules of a wait come to in the machine.
-use Rattle.std.proofs.Common.{◌≡◌, ℕ, zero, suc, Bool, true, false, not, ◌&&◌, ◌||◌, List, [], ◌∷◌, map, filter, length, slice_get, Option, Some, None, option_map, refl, ap, subst, sym, ◌∙◌, ◌⊎◌, inl, inr}
+use Rattle.std.proofs.Common.{◌≡◌, ℕ, zero, suc, ◌<◌, Bool, true, false, not, ◌&&◌, ◌||◌, List, [], ◌∷◌, map, filter, length, slice_get, Option, Some, None, option_map, refl, ap, subst, sym, ◌∙◌, ◌⊎◌, inl, inr}
 use Rattle.std.specs.List.{enumerate_from, range_with_len}
 use Rattle.std.proofs.lemmas.List.{length-map}
 use Rattle.std.proofs.lemmas.List.Elements.{filter_agree}
-use Rattle.std.proofs.lemmas.Option.{slice_get-map}
+use Rattle.std.proofs.lemmas.Option.{slice_get-map, slice_get_within}
 use Rattle.plain_machine.specs.State.{State, Process, process}
 use Rattle.plain_machine.specs.Arguments.{runs}
-use Rattle.editor_model.specs.Values.{T, Nil}
+use Rattle.editor_model.specs.Values.{Nil}
 use Rattle.plain_machine.specs.Items.{Item, GiveAnswer, Target, Waiting}
 use Rattle.plain_machine.specs.Calls.{on}
 use Rattle.plain_machine.specs.Waits.{is_heard, is_target, is_eligible, is_eligible_one, eligible, from_eligible, target_first, target_is_eligible, ask_process, wait, wait_case}
 use Rattle.process_table.specs.Table.{StandsFor, kept, with_table}
-use Rattle.wait_loop.specs.declared.rounds.Step.{Step}
-use Rattle.wait_loop.specs.declared.rounds.Step.TheVariants.{Ask, Done}
-use Rattle.wait_loop.specs.Rounds.{GivesNil, Takes, BeginsRound, AsksNext, StaysDone, Answers, GoesOn, AsksProcess, Leads}
-use Rattle.wait_loop.proofs.EligibleLemmas.{numbers, fits, target_fits, first_is_eligible, at_front}
+use Rattle.wait_loop.specs.declared.rounds.Step.TheVariants.{Ask}
+use Rattle.wait_loop.specs.Rounds.{GivesNil, Takes, BeginsRound, AsksNext, Answers, GoesOn, AsksProcess, Leads}
+use Rattle.wait_loop.proofs.EligibleLemmas.{numbers, fits, target_fits, first_is_eligible, first_left_is_eligible, at_front}
 
 -- two states and waits in which the same processes are eligible
 pub record Alike (s : State) (w : Waiting) (t : State) (v : Waiting) : Type 0 where
@@ -70,11 +69,12 @@ nil_alike a (quiet, inl unfit) = (quiet, inl (sym (target_alike a) ∙ unfit))
 nil_alike {s} {t} {w} a (quiet, inr (over, inl none)) = (quiet, inr (sym (from_alike a w.asking) ∙ over, inl (sym (eligible_alike a) ∙ none)))
 nil_alike {s} {t} {w} a (quiet, inr (over, inr last)) = (quiet, inr (sym (from_alike a w.asking) ∙ over, inr last))
 
-pub next_alike : {s t : State} {w : Waiting} (p : ℕ) (v : Waiting) → Alike s w t w → AsksNext s w (Ask p) v → AsksNext t w (Ask p) v
-next_alike {s} {t} {w} p v a (quiet, fit, inl takes) =
-    (quiet, sym (target_alike a) ∙ fit, inl (record { first = sym (from_alike a w.asking) ∙ takes.first; same = takes.same }))
-next_alike {s} {t} {w} p v a (quiet, fit, inr begins) =
-    (quiet, sym (target_alike a) ∙ fit, inr (record { over = sym (from_alike a w.asking) ∙ begins.over; first = sym (eligible_alike a) ∙ begins.first; one_less = begins.one_less; same = begins.same }))
+pub next_alike : {s t : State} {w : Waiting} (p : ℕ) (v : Waiting) → Alike s w t w → AsksNext s w p v → AsksNext t w p v
+next_alike {s} {t} {w} p v a asks = record { quiet = asks.quiet; fit = sym (target_alike a) ∙ asks.fit; taken = go asks.taken }
+  where
+    go : Takes s w p v ⊎ BeginsRound s w p v → Takes t w p v ⊎ BeginsRound t w p v
+    go (inl takes) = inl (record { first = sym (from_alike a w.asking) ∙ takes.first; same = takes.same })
+    go (inr begins) = inr (record { over = sym (from_alike a w.asking) ∙ begins.over; first = sym (eligible_alike a) ∙ begins.first; one_less = begins.one_less; same = begins.same })
 
 -- THE MACHINE'S STEPS
 case_is : (s : State) (w : Waiting) (target : Target) (rest : List Item) (counted fit : Bool) (asking all : List ℕ) (rounds : ℕ) →
@@ -86,10 +86,7 @@ case_is s w target rest counted fit asking all rounds a b c d e =
     ∙ ap (λ x. wait_case counted fit asking x w.rounds s w target rest) d
     ∙ ap (λ x. wait_case counted fit asking all x s w target rest) e
 
-leads_true : (s : State) (w : Waiting) → w.counted ≡ true → Answers s w T
-leads_true s w heard target rest = case_is s w target rest true (target_is_eligible s w) (from_eligible s w w.asking) (eligible s w) w.rounds heard refl refl refl refl
-
-leads_nil : (s : State) (w : Waiting) → GivesNil s w → Answers s w Nil
+pub leads_nil : (s : State) (w : Waiting) → GivesNil s w → Answers s w Nil
 leads_nil s w (quiet, inl unfit) target rest = case_is s w target rest false false (from_eligible s w w.asking) (eligible s w) w.rounds quiet unfit refl refl refl
 leads_nil s w (quiet, inr (over, inl none)) target rest = case_is s w target rest false (target_is_eligible s w) [] [] w.rounds quiet refl over none refl ∙ go (target_is_eligible s w)
   where
@@ -103,19 +100,34 @@ leads_nil s w (quiet, inr (over, inr last)) target rest = case_is s w target res
     go true [] = refl
     go true (p ∷ more) = refl
 
-leads_asks : (s : State) (w : Waiting) (p : ℕ) (v : Waiting) → AsksNext s w (Ask p) v → Leads s w (Ask p) v
-leads_asks s w p v (quiet, fit, inl takes) =
-    inl (λ target rest. case_is s w target rest false true (p ∷ v.asking) (eligible s w) w.rounds quiet fit takes.first refl refl ∙ ap (λ u. ask_process s u target rest p) (sym takes.same))
-leads_asks s w p v (quiet, fit, inr begins) =
-    let u : Waiting = record w { rounds = v.rounds; asking = p ∷ v.asking } in
-    let alike : Alike s w s u = later_alike s w u refl refl in
-    let passes : is_eligible s u p ≡ true = sym (alike.each p) ∙ first_is_eligible s w p v.asking fit begins.first in
-    inr (u, (
-      λ target rest. case_is s w target rest false true [] (p ∷ v.asking) (suc v.rounds) quiet fit begins.over begins.first begins.one_less,
-      λ target rest. case_is s u target rest false true (p ∷ v.asking) (eligible s u) u.rounds quiet (sym (target_alike alike) ∙ fit) (at_front s u p v.asking passes) refl refl ∙ ap (λ x. ask_process s x target rest p) (sym begins.same),
-    ))
+pub leads_asks : (s : State) (w : Waiting) (p : ℕ) (v : Waiting) → AsksNext s w p v → Leads s w (Ask p) v
+leads_asks s w p v asks = go asks.taken
+  where
+    go : Takes s w p v ⊎ BeginsRound s w p v → Leads s w (Ask p) v
+    go (inl takes) = inl (λ target rest. case_is s w target rest false true (p ∷ v.asking) (eligible s w) w.rounds asks.quiet asks.fit takes.first refl refl ∙ ap (λ u. ask_process s u target rest p) (sym takes.same))
+    go (inr begins) =
+        let u : Waiting = record w { rounds = v.rounds; asking = p ∷ v.asking } in
+        let alike : Alike s w s u = later_alike s w u refl refl in
+        let passes : is_eligible s u p ≡ true = sym (alike.each p) ∙ first_is_eligible s w p v.asking asks.fit begins.first in
+        inr (
+          u,
+          (
+            λ target rest. case_is s w target rest false true [] (p ∷ v.asking) (suc v.rounds) asks.quiet asks.fit begins.over begins.first begins.one_less,
+            λ target rest. case_is s u target rest false true (p ∷ v.asking) (eligible s u) u.rounds asks.quiet (sym (target_alike alike) ∙ asks.fit) (at_front s u p v.asking passes) refl refl ∙ ap (λ x. ask_process s x target rest p) (sym begins.same),
+          ),
+        )
 
-pub leads : (s t : State) (w : Waiting) (next : Step) (v : Waiting) → Alike s w t w → (next ≡ Done true → w.counted ≡ true) → (next ≡ Done false → GivesNil s w) → AsksNext s w next v → Leads t w next v
-leads s t w (Ask p) v a heard nil asks = leads_asks t w p v (next_alike p v a asks)
-leads s t w (Done true) v a heard nil asks = leads_true t w (heard refl)
-leads s t w (Done false) v a heard nil asks = leads_nil t w (nil_alike a (nil refl))
+-- who is asked is eligible, and was made
+pub asked_is_eligible : (s : State) (w : Waiting) (p : ℕ) (v : Waiting) → AsksNext s w p v → is_eligible s w p ≡ true
+asked_is_eligible s w p v asks = go asks.taken
+  where
+    go : Takes s w p v ⊎ BeginsRound s w p v → is_eligible s w p ≡ true
+    go (inl takes) = first_left_is_eligible s w p v.asking w.asking takes.first
+    go (inr begins) = first_is_eligible s w p v.asking asks.fit begins.first
+
+pub eligible_is_made : (table : List Process) (w : Waiting) (p : ℕ) → is_eligible (with_table table) w p ≡ true → p < length table
+eligible_is_made table w p h = go (slice_get table p) refl h
+  where
+    go : (x : Option Process) → slice_get table p ≡ x → is_eligible_one w p x ≡ true → p < length table
+    go None e h = cc
+    go (Some x) e h = slice_get_within table p x e

@@ -9,31 +9,35 @@ use Rattle.wait_loop.specs.declared.rounds.Step.{Step}
 use Rattle.wait_loop.specs.declared.rounds.Step.TheVariants.{Ask, Done}
 
 -- WHAT COMES NEXT
+abbrev pub IfAsk : Step → (ℕ → Type 0) → Type 0
+IfAsk (Ask p) P = P p
+IfAsk (Done answer) P = Unit {0}
+
+abbrev pub IfDone : Step → Type 0 → Type 0
+IfDone (Ask p) P = Unit {0}
+IfDone (Done answer) P = P
+
 -- the wait answers nil: its target isn't eligible, or nobody is left in this round and none is eligible or no round is left
 abbrev pub GivesNil : State → Waiting → Type 0
 GivesNil s w = (w.counted ≡ false) × ((target_is_eligible s w ≡ false) ⊎ ((from_eligible s w w.asking ≡ []) × ((eligible s w ≡ []) ⊎ (w.rounds ≡ 0))))
 
--- the first of this round that is eligible is taken
+-- p is the first eligible one of those left in this round, and is taken
 pub record Takes (s : State) (w : Waiting) (p : ℕ) (v : Waiting) : Type 0 where
   pub first : from_eligible s w w.asking ≡ p ∷ v.asking
   pub same : v ≡ record w { asking = v.asking }
 
--- nobody is left in this round; another one begins with the eligible processes, and the first of them is taken
+-- nobody is left in this round; another one begins with the eligible processes, and the first of them, p, is taken
 pub record BeginsRound (s : State) (w : Waiting) (p : ℕ) (v : Waiting) : Type 0 where
   pub over : from_eligible s w w.asking ≡ []
   pub first : eligible s w ≡ p ∷ v.asking
   pub one_less : w.rounds ≡ suc v.rounds
   pub same : v ≡ record w { rounds = v.rounds; asking = v.asking }
 
--- a process is to be asked, and the wait is left with the others
-abbrev pub AsksNext : State → Waiting → Step → Waiting → Type 0
-AsksNext s w (Ask p) v = (w.counted ≡ false) × (target_is_eligible s w ≡ true) × (Takes s w p v ⊎ BeginsRound s w p v)
-AsksNext s w (Done answer) v = Unit {0}
-
--- a wait that is done stays as it is
-abbrev pub StaysDone : Waiting → Step → Waiting → Type 0
-StaysDone w (Ask p) v = Unit {0}
-StaysDone w (Done answer) v = v ≡ w
+-- p is to be asked, and the wait is left with the others
+pub record AsksNext (s : State) (w : Waiting) (p : ℕ) (v : Waiting) : Type 0 where
+  pub quiet : w.counted ≡ false
+  pub fit : target_is_eligible s w ≡ true
+  pub taken : Takes s w p v ⊎ BeginsRound s w p v
 
 -- THE MACHINE'S STEPS, whatever the target of the answer and the work behind the wait
 abbrev pub Answers : State → Waiting → Value → Type 0

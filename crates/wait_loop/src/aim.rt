@@ -1,6 +1,6 @@
 //! Whom a wait is for, and which processes it may ask.
-ghost use Rattle.std.specs.Prelude.{◌≡◌, ◌≤◌, length, drop, slice_get, Some, vec_capacity};
-ghost use Rattle.std.specs.List.{position};
+ghost use Rattle.std.specs.Prelude.{◌≡◌, ◌≤◌, length, drop, find, slice_get, vec_capacity};
+ghost use Rattle.std.specs.List.{position, range_with_len};
 ghost use Rattle.plain_machine.specs.Waits.{is_target, is_eligible, eligible, target_is_eligible};
 ghost use Rattle.process_table.specs.Table.{with_table};
 ghost use Rattle.wait_loop.specs.Aims.{waiting_for};
@@ -55,8 +55,15 @@ impl Aim {
     {
         match self.target {
             Some(target) => Some(target),
-            None => (0..table.count()).find(|p| self.may_ask(table, *p)),
+            None => self.first_of_all(table),
         }
+    }
+
+    /// The first of all processes that may be asked.
+    fn first_of_all(self, table: &Processes) -> Option<u32>
+        ensures { result ≡ find (is_eligible (with_table table.now) (waiting_for self)) (range_with_len 0 (length table.now)) }
+    {
+        (0..table.count()).find(|p| self.may_ask(table, *p))
     }
 
     /// Makes `asking` the processes of a round behind the first one, by rising number.

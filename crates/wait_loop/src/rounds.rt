@@ -18,9 +18,12 @@ pub enum Step {
 #[derive(Drop)]
 pub struct Wait {
     aim: Aim,
+    /// How many rounds may still begin.
     rounds: u32,
+    /// The processes of this round, of which those from `at` on are still to be asked.
     asking: Vec<u32>,
     at: usize,
+    /// Whether a read that counts gave bytes.
     heard: bool,
 }
 
@@ -36,12 +39,12 @@ impl Model for Wait {
 }
 
 impl Wait {
-    ghost use Rattle.std.specs.Prelude.{◌≡◌, ◌↔◌, ◌⊎◌, ◌≤◌, ◌∷◌, [], true, false, length, suc, IfOk, IfNone, MatchOption};
+    ghost use Rattle.std.specs.Prelude.{◌≡◌, ◌↔◌, ◌⊎◌, ◌<◌, ◌≤◌, [], true, false, length, suc, IfOk, IfNone, MatchOption};
     ghost use Rattle.plain_machine.specs.State.{State};
-    ghost use Rattle.plain_machine.specs.Waits.{eligible, from_eligible};
+    ghost use Rattle.plain_machine.specs.Waits.{is_eligible, eligible, from_eligible};
     ghost use Rattle.process_table.specs.Table.{StandsFor, with_table};
     ghost use Rattle.wait_loop.specs.KeptWaits.{new_waiting, noted};
-    ghost use Rattle.wait_loop.specs.Rounds.{GivesNil, Takes, BeginsRound, AsksNext, StaysDone, Leads};
+    ghost use Rattle.wait_loop.specs.Rounds.{IfAsk, IfDone, GivesNil, Takes, BeginsRound, AsksNext, Leads};
 
     /// A wait for a process or any, of at most so many rounds, that asks its target alone where it is for `just` this
     /// one. It has places for `room` processes.
@@ -78,10 +81,12 @@ impl Wait {
         requires { length table.now ≤ self.old.room }
         ensures heard { (result ≡ Step.Done true) ↔ (self.old.waiting.counted ≡ true) }
         ensures nil { (result ≡ Step.Done false) ↔ GivesNil (with_table table.now) self.old.waiting }
-        ensures asks { AsksNext (with_table table.now) self.old.waiting result self.new.waiting }
-        ensures done { StaysDone self.old.waiting result self.new.waiting }
+        ensures done { IfDone result (self.new ≡ self.old) }
+        ensures asks { IfAsk result (λ p. AsksNext (with_table table.now) self.old.waiting p self.new.waiting) }
+        ensures eligible { IfAsk result (λ p. is_eligible (with_table table.now) self.old.waiting p ≡ true) }
+        ensures made { IfAsk result (λ p. p < length table.now) }
         ensures room { self.new.room ≡ self.old.room }
-        ensures leads { (s : State) → StandsFor table.now s.processes → Leads s self.old.waiting result self.new.waiting }
+        ensures machine { (s : State) → StandsFor table.now s.processes → Leads s self.old.waiting result self.new.waiting }
     {
         if self.heard {
             return Step::Done(true);
@@ -112,7 +117,8 @@ impl Wait {
 
     /// Begins a round and takes the first process of it; where there is none or no round is left, nothing changes.
     fn begin(&mut self, table: &Processes) -> Option<u32>
-        requires { length table.now ≤ self.old.room }
+        requires room { length table.now ≤ self.old.room }
+        requires over { from_eligible (with_table table.now) self.old.waiting self.old.waiting.asking ≡ [] }
         ensures begun { MatchOption result ((eligible (with_table table.now) self.old.waiting ≡ []) ⊎ (self.old.waiting.rounds ≡ 0)) (λ p. BeginsRound (with_table table.now) self.old.waiting p self.new.waiting) }
         ensures none { IfNone result (self.new ≡ self.old) }
         ensures room { self.new.room ≡ self.old.room }
