@@ -1,15 +1,14 @@
 -- The list of a round, as the code finds and makes it.
-use Rattle.std.proofs.Common.{◌≡◌, ℕ, zero, suc, ◌+◌, ◌<◌, ◌≤◌, Bool, true, false, not, ◌==◌, ◌&&◌, List, [], ◌∷◌, ◌++◌, map, filter, length, drop, get_or, slice_get, Option, Some, None, option_map, refl, ap, subst, sym, ◌∙◌, add-one, zero-add, drop-cons, cond, nat_lt, All, arith}
+use Rattle.std.proofs.Common.{◌≡◌, ℕ, zero, suc, ◌+◌, ◌<◌, Bool, true, false, not, ◌==◌, List, [], ◌∷◌, ◌++◌, map, filter, length, drop, get_or, slice_get, Option, Some, None, refl, ap, subst, sym, ◌∙◌, add-one, zero-add, drop-cons, cond, nat_lt, All, arith}
 use Rattle.std.specs.Prelude.{find}
 use Rattle.std.specs.List.{position, position_or_len, enumerate_from, range_with_len}
 use Rattle.std.proofs.lemmas.List.{append-nil, drop_all}
 use Rattle.std.proofs.lemmas.Bool.{ltb-true, ltb-false, eq-eqb, ne_eqb}
 use Rattle.std.proofs.lemmas.List.Elements.{filter-append, filter_passes, All-head}
 use Rattle.std.proofs.lemmas.Option.{same_Some}
-use Rattle.plain_machine.specs.State.{State, Process, process}
+use Rattle.plain_machine.specs.State.{State, Process}
 use Rattle.plain_machine.specs.Items.{Waiting}
-use Rattle.plain_machine.specs.Waits.{is_eligible, is_eligible_one, eligible, from_eligible, target_first, target_is_eligible}
-use Rattle.process_table.specs.Table.{StandsFor, kept, with_table}
+use Rattle.plain_machine.specs.Waits.{is_eligible, eligible, from_eligible, target_first, target_is_eligible}
 
 -- THE NUMBERS OF THE PROCESSES
 pub numbers : (k : ℕ) (xs : List Process) → map (λ x. x.0) (enumerate_from k xs) ≡ range_with_len k (length xs)

@@ -1,18 +1,18 @@
 -- What the rules of a wait come to in the machine.
-use Rattle.std.proofs.Common.{◌≡◌, ℕ, zero, suc, ◌<◌, Bool, true, false, not, ◌&&◌, ◌||◌, List, [], ◌∷◌, map, filter, length, slice_get, Option, Some, None, option_map, refl, ap, subst, sym, ◌∙◌, ◌⊎◌, inl, inr}
+use Rattle.std.proofs.Common.{◌≡◌, ℕ, suc, ◌<◌, Bool, true, false, not, ◌&&◌, ◌||◌, List, [], ◌∷◌, map, filter, length, slice_get, Option, Some, None, option_map, refl, ap, sym, ◌∙◌, ◌⊎◌, inl, inr}
 use Rattle.std.specs.List.{enumerate_from, range_with_len}
 use Rattle.std.proofs.lemmas.List.{length-map}
 use Rattle.std.proofs.lemmas.List.Elements.{filter_agree}
 use Rattle.std.proofs.lemmas.Option.{slice_get-map, slice_get_within}
 use Rattle.plain_machine.specs.State.{State, Process, process}
 use Rattle.plain_machine.specs.Arguments.{runs}
-use Rattle.editor_model.specs.Values.{Nil}
+use Rattle.editor_model.specs.Values.{T, Nil}
 use Rattle.plain_machine.specs.Items.{Item, GiveAnswer, Target, Waiting}
 use Rattle.plain_machine.specs.Calls.{on}
 use Rattle.plain_machine.specs.Waits.{is_heard, is_target, is_eligible, is_eligible_one, eligible, from_eligible, target_first, target_is_eligible, ask_process, wait, wait_case}
 use Rattle.process_table.specs.Table.{StandsFor, kept, with_table}
 use Rattle.wait_loop.specs.declared.rounds.Step.TheVariants.{Ask}
-use Rattle.wait_loop.specs.Rounds.{GivesNil, Takes, BeginsRound, AsksNext, Answers, GoesOn, AsksProcess, Leads}
+use Rattle.wait_loop.specs.Rounds.{GivesNil, Takes, BeginsRound, AsksNext, Answers, Leads}
 use Rattle.wait_loop.proofs.EligibleLemmas.{numbers, fits, target_fits, first_is_eligible, first_left_is_eligible, at_front}
 
 -- two states and waits in which the same processes are eligible
@@ -85,6 +85,9 @@ case_is s w target rest counted fit asking all rounds a b c d e =
     ∙ ap (λ x. wait_case counted fit x (eligible s w) w.rounds s w target rest) c
     ∙ ap (λ x. wait_case counted fit asking x w.rounds s w target rest) d
     ∙ ap (λ x. wait_case counted fit asking all x s w target rest) e
+
+pub leads_true : (s : State) (w : Waiting) → w.counted ≡ true → Answers s w T
+leads_true s w heard target rest = case_is s w target rest true (target_is_eligible s w) (from_eligible s w w.asking) (eligible s w) w.rounds heard refl refl refl refl
 
 pub leads_nil : (s : State) (w : Waiting) → GivesNil s w → Answers s w Nil
 leads_nil s w (quiet, inl unfit) target rest = case_is s w target rest false false (from_eligible s w w.asking) (eligible s w) w.rounds quiet unfit refl refl refl

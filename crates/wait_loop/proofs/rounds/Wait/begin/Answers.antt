@@ -1,8 +1,6 @@
-use Rattle.std.proofs.Common.{◌≡◌, ℕ, suc, ◌-◌, [], refl, ap, subst, sym, ◌∙◌, Some, arith}
-use Rattle.std.specs.Prelude.{slice_get}
-use Rattle.plain_machine.specs.Waits.{eligible, from_eligible}
+use Rattle.std.proofs.Common.{◌≡◌, suc, ◌-◌, [], subst, sym, ◌∙◌, arith}
+use Rattle.plain_machine.specs.Waits.{from_eligible}
 use Rattle.process_table.specs.Table.{with_table}
-use Rattle.wait_loop.specs.Aims.{waiting_for}
 use Rattle.wait_loop.specs.KeptWaits.{KeptWait}
 use Rattle.wait_loop.specs.Rounds.{BeginsRound}
 use Rattle.wait_loop.specs.contracts.rounds.Wait.{the_view}

@@ -2,7 +2,7 @@ use Rattle.std.proofs.Common.{◌≡◌, true, false, [], ◌⊎◌, inl, inr, s
 use Rattle.plain_machine.specs.Waits.{eligible, target_is_eligible}
 use Rattle.process_table.specs.Table.{with_table}
 use Rattle.wait_loop.specs.KeptWaits.{KeptWait, new_waiting}
-use Rattle.wait_loop.specs.Rounds.{Takes, BeginsRound, AsksNext}
+use Rattle.wait_loop.specs.Rounds.{BeginsRound, AsksNext}
 use Rattle.wait_loop.proofs.StepLemmas.{leads_true, asked_is_eligible, eligible_is_made}
 use Rattle.wait_loop.proofs.RoundLemmas.{asks, asks_lead, unfit_leads, over_leads}
 use Rattle.wait_loop.proofs.rounds.Wait.next.Goals as goal

@@ -1,4 +1,4 @@
-use Rattle.std.proofs.Common.{◌≡◌, ℕ, ◌+◌, ◌-◌, List, [], length, take, drop, refl, ap, subst, sym, ◌∙◌, Some, None, MatchOption}
+use Rattle.std.proofs.Common.{◌≡◌, ℕ, ◌+◌, ◌-◌, List, [], length, take, drop, refl, ap, subst, sym, ◌∙◌, Some, None}
 use Rattle.std.specs.List.{position}
 use Rattle.plain_machine.specs.Waits.{is_eligible, from_eligible}
 use Rattle.process_table.specs.Table.{with_table}
