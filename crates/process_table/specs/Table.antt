@@ -2,7 +2,7 @@
 use Rattle.std.specs.Prelude.{◌≡◌, ℕ, true, false, List, [], map, slice_get, if◌then◌else◌, Option, Some, None}
 use Rattle.text_model.specs.Decoding.{tail}
 use Rattle.editor_model.specs.Editor.{Name}
-use Rattle.plain_machine.specs.State.{State, Process, Runs, Default, new_state, change_process}
+use Rattle.plain_machine.specs.State.{State, Process, Status, Runs, Default, new_state, change_process}
 use Rattle.plain_machine.specs.Arguments.{find_process}
 
 -- A process as the program keeps it: of all bytes read, what may still become a character, until its output has ended.
@@ -29,3 +29,16 @@ changed p change table = (change_process p change (with_table table)).processes
 abbrev pub new_process : Name → (child : ℕ) → (buffer : Option ℕ) → (mark : ℕ) → Process
 new_process name child buffer mark =
     record { name = name; child = child; status = Runs; buffer = buffer; mark = mark; filter = Default; sentinel = None; bytes = []; drained = false; closed = false; listed = true }
+
+-- the bytes that the decoder of a process holds
+abbrev pub held_by : List Process → (p : ℕ) → List ℕ
+held_by table p = elim (slice_get table p) [ None ↦ [] | Some x ↦ x.bytes ]
+
+abbrev pub with_status : Status → Process → Process
+with_status status x = record x { status = status }
+
+abbrev pub with_held : List ℕ → Process → Process
+with_held bytes x = record x { bytes = bytes }
+
+abbrev pub with_drained : Process → Process
+with_drained x = record x { bytes = []; drained = true }

@@ -1,10 +1,14 @@
 //! One process.
-ghost use Rattle.std.specs.Prelude.{◌≡◌, ◌≤◌, length, option_map, true};
-ghost use Rattle.text_model.specs.Decoding.{tail};
+ghost use Rattle.std.specs.Prelude.{◌≡◌, ◌+◌, ◌≤◌, [], ◌++◌, ◌&&◌, true, length, option_map};
+ghost use Rattle.text_model.specs.Decoding.{characters, tail, all_characters};
+ghost use Rattle.editor_model.specs.Editor.{same_name};
+ghost use Rattle.plain_machine.specs.Calls.{with_filter, with_sentinel, of_buffer, with_input_closed};
+ghost use Rattle.plain_machine.specs.Handling.{unlisted};
 ghost use Rattle.ek_types.specs.Property.{number_of};
 ghost use Rattle.process_table.specs.Meaning.{status_of, filter_of};
-ghost use Rattle.process_table.specs.Table.{new_process};
+ghost use Rattle.process_table.specs.Table.{new_process, with_status, with_held, with_drained};
 
+use crate::names::{Letters, are_same};
 use ek_types::{Chars, Sym};
 use std::marker::Model;
 use utf8_stream::Decoder;
@@ -154,5 +158,69 @@ impl Process {
         ensures { result ≡ self.now.listed }
     {
         self.listed
+    }
+
+    /// Whether it is on the process list under this name.
+    pub(crate) fn is_listed_as<N: Letters>(&self, name: &N) -> bool
+        ensures { result ≡ (self.now.listed && same_name self.now.name (N.letters name.now)) }
+    {
+        self.listed && are_same(&self.name, name)
+    }
+
+    pub(crate) fn set_filter(&mut self, filter: Filter)
+        ensures { self.new ≡ with_filter (filter_of filter) self.old }
+    {
+        self.filter = filter;
+    }
+
+    pub(crate) fn set_sentinel(&mut self, sentinel: Option<Sym>)
+        ensures { self.new ≡ with_sentinel (option_map number_of sentinel) self.old }
+    {
+        self.sentinel = sentinel;
+    }
+
+    pub(crate) fn set_buffer(&mut self, buffer: Option<u32>)
+        ensures { self.new ≡ of_buffer buffer self.old }
+    {
+        self.buffer = buffer;
+    }
+
+    pub(crate) fn note_end(&mut self, status: Status)
+        ensures { self.new ≡ with_status (status_of status) self.old }
+    {
+        self.status = status;
+    }
+
+    pub(crate) fn close_input(&mut self)
+        ensures { self.new ≡ with_input_closed self.old }
+    {
+        self.closed = true;
+    }
+
+    pub(crate) fn unlist(&mut self)
+        ensures { self.new ≡ unlisted self.old }
+    {
+        self.listed = false;
+    }
+
+    /// Appends the characters of the bytes held and given, and holds what may still become one.
+    pub(crate) fn feed(&mut self, bytes: &[u8], out: &mut Chars)
+        requires { length self.old.bytes + length bytes.now ≤ out.old.spare }
+        ensures items { out.new.items ≡ out.old.items ++ characters (self.old.bytes ++ bytes.now) }
+        ensures spare { out.new.spare + length (characters (self.old.bytes ++ bytes.now)) ≡ out.old.spare }
+        ensures process { self.new ≡ with_held (tail (self.old.bytes ++ bytes.now)) self.old }
+    {
+        self.decoder.feed(bytes, out);
+    }
+
+    /// Appends the bytes held as raw bytes, since its output has ended.
+    pub(crate) fn drain(&mut self, out: &mut Chars)
+        requires { length self.old.bytes ≤ out.old.spare }
+        ensures items { out.new.items ≡ out.old.items ++ all_characters self.old.bytes }
+        ensures spare { out.new.spare + length (all_characters self.old.bytes) ≡ out.old.spare }
+        ensures process { self.new ≡ with_drained self.old }
+    {
+        self.decoder.finish(out);
+        self.drained = true;
     }
 }
