@@ -72,12 +72,6 @@ impl Records {
         &self.entries[i]
     }
 
-    pub fn spare(&self) -> usize
-        ensures { result ≡ self.now.spare }
-    {
-        self.entries.capacity() - self.entries.len()
-    }
-
     /// Makes the spare at least `n`.
     pub fn reserve(&mut self, n: usize) -> Mem<()>
         ensures entries { self.new.entries ≡ self.old.entries }

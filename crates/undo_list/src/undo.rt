@@ -1,8 +1,9 @@
 //! The undo state of a buffer.
-ghost use Rattle.std.specs.Prelude.{◌≡◌, ℕ, ◌+◌, ◌<◌, ◌≤◌, true, false, if◌then◌else◌, [], length, Result, Ok, Err, OnOk, OnErr, IfOk, IsOk, slice_get, Some};
+ghost use Rattle.std.specs.Prelude.{◌≡◌, ℕ, ◌+◌, ◌<◌, ◌≤◌, true, false, if◌then◌else◌, [], length, Result, Ok, Err, OnOk, OnErr, IfOk, IsOk, IsErr, slice_get, Some};
 ghost use Rattle.text_model.specs.Undo.{extends, pushed, with_boundary, started, without_pending, disabled, enabled, pass, passed};
 ghost use Rattle.undo_list.specs.Records.{rec_of};
 ghost use Rattle.undo_list.specs.Plans.{planned};
+ghost use Rattle.undo_list.specs.State.{IsKept, serials_left};
 
 use crate::plan::{Plan, Refused};
 use crate::rec::Rec;
@@ -31,13 +32,13 @@ impl Model for Undo {
 
     ghost Value = { Recording };
 
-    ghost use Rattle.std.specs.Prelude.{◌≡◌, min, true};
+    ghost use Rattle.std.specs.Prelude.{◌≡◌, min, true, false, []};
     ghost use Rattle.text_model.specs.Undo.{fits};
     ghost use Rattle.undo_list.specs.Records.{AreFalling};
 
     ghost view = { λ u. record { state = record { on = u.on; entries = u.records.entries; next = u.next; pending_below = u.pending_below }; spare = min u.records.spare (serials_left u.next) } };
 
-    ghost invariant = { λ u. AreFalling u.next u.records.entries × (fits u.records.entries ≡ true) };
+    ghost invariant = { λ u. AreFalling u.next u.records.entries × (fits u.records.entries ≡ true) × (u.on ≡ false → u.records.entries ≡ []) };
 }
 
 impl Undo {
@@ -55,7 +56,8 @@ impl Undo {
 
     /// How many records there are.
     pub fn len(&self) -> usize
-        ensures { result ≡ length self.now.state.entries }
+        ensures exact { result ≡ length self.now.state.entries }
+        ensures kept { IsKept self.now.state }
     {
         self.records.len()
     }
@@ -76,6 +78,7 @@ impl Undo {
         ensures room { OnOk result (n ≤ self.new.spare) }
         ensures kept { self.old.spare ≤ self.new.spare }
         ensures had { n ≤ self.old.spare → IsOk result }
+        ensures spent { serials_left self.old.state.next < n → IsErr result }
     {
         if u64::MAX - self.next < n as u64 {
             return Err(NoMemory);
@@ -93,6 +96,7 @@ impl Undo {
         ensures err { OnErr result (self.new.state ≡ self.old.state) }
         ensures had { 0 < self.old.spare → IsOk result }
         ensures spare { self.old.spare ≤ self.new.spare + 1 }
+        ensures spent { serials_left self.old.state.next ≡ 0 → self.old.state.on ≡ true → extends (rec_of rec) self.old.state.entries ≡ false → IsErr result }
     {
         if !self.on {
             return Ok(());
@@ -124,6 +128,7 @@ impl Undo {
         ensures err { OnErr result (self.new.state ≡ self.old.state) }
         ensures had { 0 < self.old.spare → IsOk result }
         ensures spare { self.old.spare ≤ self.new.spare + 1 }
+        ensures spent { serials_left self.old.state.next ≡ 0 → IsErr result }
     {
         if self.next == u64::MAX {
             return Err(NoMemory);

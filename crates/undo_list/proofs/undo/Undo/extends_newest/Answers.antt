@@ -1,5 +1,6 @@
 use Rattle.std.proofs.Common.{◌≡◌, ℕ, Bool, true, false, List, refl, ap, sym, subst, ◌∙◌}
 use Rattle.std.specs.Prelude.{if◌then◌else◌}
+use Rattle.std.proofs.lemmas.Bool.{false≢true}
 use Rattle.text_model.specs.Undo.{Rec, Inserted, Entry, extends, fits, in_front}
 use Rattle.undo_list.specs.Records.{AreFalling}
 use Rattle.undo_list.proofs.Merging.{extended-falling, extended-fits}
@@ -11,4 +12,7 @@ kept true r n es new e h inv = rw h (extended-falling n r n es (sym e) inv.0, ex
 kept false r n es new e h inv = rw h inv
 
 pub invariant_of-self : goal.invariant_of-self
-invariant_of-self c = kept c.extend.result (Inserted c.in-Inserted.from c.in-Inserted.to) c.self.inside.next c.self.inside.records.entries c.extend.new.self.entries c.extend.ensures.extends (c.extend.ensures.entries c.self.inside.next) c.self.invariant
+invariant_of-self c =
+    let s = c.self.inside in
+    let same = kept c.extend.result (Inserted c.in-Inserted.from c.in-Inserted.to) s.next s.records.entries c.extend.new.self.entries c.extend.ensures.extends (c.extend.ensures.entries s.next) (c.self.invariant.0, c.self.invariant.1) in
+    (same.0, same.1, λ h. absurd (false≢true (sym h ∙ ap (λ r. r.state.on) c.self.view_is ∙ c.requires)))

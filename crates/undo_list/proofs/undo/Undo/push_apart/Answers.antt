@@ -1,4 +1,5 @@
 use Rattle.std.proofs.Common.{◌≡◌, ◌+◌, List, ◌∷◌, length, ap, sym, subst, ◌∙◌, arith}
+use Rattle.std.proofs.lemmas.Bool.{false≢true}
 use Rattle.text_model.specs.Undo.{Entry, cut}
 use Rattle.undo_list.specs.Records.{AreFalling, rec_of}
 use Rattle.undo_list.proofs.Cutting.{falling-cut}
@@ -12,4 +13,5 @@ invariant_of-self-2 c =
     let n = length c.push.new.self.entries in (
       subst (AreFalling (c.self.inside.next + 1)) (sym (c.cut.ensures.entries n (omega arith) ∙ ap (cut n) c.in_ok-push.ensures.ok)) (falling-cut n (c.self.inside.next + 1) pushed falls),
       c.cut.ensures.fits,
+      λ h. absurd (false≢true (sym h ∙ ap (λ r. r.state.on) c.self.view_is ∙ c.requires.on)),
     )
