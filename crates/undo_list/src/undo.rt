@@ -209,7 +209,7 @@ impl Undo {
     {
         self.on = false;
         self.records.clear();
-        self.pending_below = 0;
+        self.drop_pending();
     }
 
     /// Begins to record, or goes on.
