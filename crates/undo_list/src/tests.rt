@@ -1,6 +1,6 @@
 //! Worked cases of records, limits and plans. Where a serial number is expected, it is counted by hand.
 use crate::{Plan, Rec, Refused, Undo};
-use ek_types::{Ch, Chars, Piece, PropVal, Sym};
+use ek_types::{Ch, Chars, Copied, Piece, PropVal, Sym};
 use std::alloc::Global;
 use std::process::Abort;
 
@@ -26,11 +26,11 @@ fn put_deletion(rt: &impl Abort, alloc: Global, undo: &mut Undo, n: usize, place
     put(rt, undo, Rec::Deleted(piece, place));
 }
 
-/// These records, all pending.
-fn started<const N: usize>(rt: &impl Abort, alloc: Global, records: [Rec; N]) -> Undo {
+/// Copies of these records, all pending.
+fn started(rt: &impl Abort, alloc: Global, records: &[Rec]) -> Undo {
     let mut undo = Undo::new(alloc);
     for rec in records {
-        put(rt, &mut undo, rec);
+        put(rt, &mut undo, rec.copy().expect(rt, "a copy"));
     }
     assert_eq!(rt; undo.start(), Ok(()));
     undo
@@ -81,7 +81,7 @@ fn an_insertion_goes_on_where_the_newest_ended(rt: HostRuntime) {
     let mut undo = started(
         &rt,
         rt.alloc(),
-        [Rec::First, Rec::Inserted(0, 2), Rec::Inserted(2, 3)],
+        &[Rec::First, Rec::Inserted(0, 2), Rec::Inserted(2, 3)],
     );
     assert_eq!(rt; inserted(&undo), Some((0, 3)));
     assert_eq!(rt; serials(&undo), Some((1, 0, 2)));
@@ -95,7 +95,7 @@ fn no_insertion_goes_on_across_a_boundary(rt: HostRuntime) {
     let undo = started(
         &rt,
         rt.alloc(),
-        [
+        &[
             Rec::Inserted(0, 1),
             Rec::Boundary,
             Rec::Boundary,
@@ -118,7 +118,7 @@ fn no_undo_without_a_start(rt: HostRuntime) {
 
 #[test]
 fn nothing_is_recorded_where_recording_is_off(rt: HostRuntime) {
-    let mut undo = started(&rt, rt.alloc(), [Rec::Inserted(0, 2)]);
+    let mut undo = started(&rt, rt.alloc(), &[Rec::Inserted(0, 2)]);
     undo.disable();
     put(&rt, &mut undo, Rec::Inserted(0, 2));
     put(&rt, &mut undo, Rec::Boundary);
@@ -135,7 +135,7 @@ fn an_empty_group_passes_its_boundary_alone(rt: HostRuntime) {
     let mut undo = started(
         &rt,
         rt.alloc(),
-        [
+        &[
             Rec::First,
             Rec::Inserted(0, 2),
             Rec::Boundary,
@@ -159,7 +159,7 @@ fn the_text_of_a_deletion_comes_back_in_a_trial(rt: HostRuntime) {
     let mut undo = started(
         &rt,
         rt.alloc(),
-        [
+        &[
             Rec::First,
             Rec::Inserted(0, 4),
             Rec::Boundary,
@@ -179,9 +179,9 @@ fn the_text_of_a_deletion_comes_back_in_a_trial(rt: HostRuntime) {
 
 #[test]
 fn undo_outside_the_bounds(rt: HostRuntime) {
-    let undo = started(&rt, rt.alloc(), [Rec::First, Rec::Inserted(0, 4)]);
+    let undo = started(&rt, rt.alloc(), &[Rec::First, Rec::Inserted(0, 4)]);
     assert_eq!(rt; planned(&rt, &undo, 1, 0, 1), Err(Refused::Outside(1)));
-    let undo = started(&rt, rt.alloc(), [Rec::Point(5), Rec::Moved(0, -1)]);
+    let undo = started(&rt, rt.alloc(), &[Rec::Point(5), Rec::Moved(0, -1)]);
     assert_eq!(rt; planned(&rt, &undo, 1, 0, 4), Err(Refused::Outside(0)));
 }
 
@@ -190,7 +190,7 @@ fn a_copy_is_another_list(rt: HostRuntime) {
     let mut undo = started(
         &rt,
         rt.alloc(),
-        [
+        &[
             Rec::Prop(Sym(14), Some(PropVal::Truth), 0, 1),
             Rec::Inserted(0, 2),
         ],
@@ -223,7 +223,7 @@ fn one_record_past_the_limit_empties_a_single_group(rt: HostRuntime) {
 
 #[test]
 fn the_oldest_group_goes_with_the_boundary_next_to_it(rt: HostRuntime) {
-    let mut undo = started(&rt, rt.alloc(), [Rec::First, Rec::Point(0), Rec::Boundary]);
+    let mut undo = started(&rt, rt.alloc(), &[Rec::First, Rec::Point(0), Rec::Boundary]);
     for place in 3..65_536 {
         put(&rt, &mut undo, Rec::Point(place));
     }
