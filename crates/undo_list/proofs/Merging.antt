@@ -1,9 +1,9 @@
 -- A record put in front of others, and an insertion that extends the newest one.
-use Rattle.std.proofs.Common.{◌≡◌, ℕ, ◌+◌, ◌≤◌, ◌<◌, Bool, true, false, List, [], ◌∷◌, length, refl, ap, sym, subst, ◌∙◌, arith}
-use Rattle.std.specs.Prelude.{if◌then◌else◌, ◌&&◌, nat_le, ◌==◌}
+use Rattle.std.proofs.Common.{◌≡◌, ℕ, ◌+◌, true, false, List, [], ◌∷◌, length, refl, sym, subst}
+use Rattle.std.specs.Prelude.{◌==◌}
 use Rattle.std.proofs.lemmas.Bool.{false≢true}
-use Rattle.text_model.proofs.Sets.{by_test, if_true, if_false}
-use Rattle.text_model.specs.Undo.{Rec, Boundary, Point, Inserted, Deleted, Prop, First, Moved, Entry, Undo, kept_characters, fits, cut, in_front, extends, ends_at, pushed}
+use Rattle.text_model.proofs.Sets.{if_true, if_false}
+use Rattle.text_model.specs.Undo.{Rec, Boundary, Point, Inserted, Deleted, Prop, First, Moved, Entry, Undo, fits, cut, in_front, extends, ends_at, pushed}
 use Rattle.undo_list.specs.Records.{AreFalling, lengthened, size_of}
 use Rattle.undo_list.proofs.Cutting.{cut-fitting}
 

@@ -1,6 +1,6 @@
 -- The walk of the code comes to the plan of the definitions.
-use Rattle.std.proofs.Common.{◌≡◌, ℕ, zero, suc, ◌+◌, ◌-◌, ◌≤◌, ◌<◌, Bool, true, false, List, [], ◌∷◌, length, filter, refl, ap, sym, subst, ◌∙◌, arith, Result, Ok, Err, Option, Some, None}
-use Rattle.std.specs.Prelude.{if◌then◌else◌, ◌==◌, not}
+use Rattle.std.proofs.Common.{◌≡◌, ℕ, zero, suc, ◌+◌, ◌-◌, ◌≤◌, ◌<◌, Bool, true, false, List, [], ◌∷◌, length, refl, ap, sym, ◌∙◌, arith, Result, Ok, Err, Option, Some, None}
+use Rattle.std.specs.Prelude.{◌==◌}
 use Rattle.std.proofs.lemmas.Bool.{false≢true, eq-eqb, ne_eqb}
 use Rattle.text_model.proofs.Sets.{by_test, if_true, if_false}
 use Rattle.text_model.specs.Undo.{Rec, Boundary, Point, Inserted, Deleted, Prop, First, Moved, Entry, Undo, is_boundary, groups, trial, oldest, lies_inside, max_after, pending, pass, passed}
@@ -8,7 +8,7 @@ use Rattle.undo_list.specs.Plans.{without_boundaries, plan_of, planned_from, pla
 use Rattle.undo_list.specs.Walks.{stepped, walked}
 use Rattle.undo_list.specs.declared.plan.Plan.{Plan}
 use Rattle.undo_list.specs.declared.plan.Refused.{Refused}
-use Rattle.undo_list.specs.declared.plan.Refused.TheVariants.{Disabled, Nothing, Outside}
+use Rattle.undo_list.specs.declared.plan.Refused.TheVariants.{Disabled, Outside}
 use Rattle.undo_list.specs.declared.walk.Walk.{Walk}
 
 -- the plan that passes these records behind those that the walk has passed

@@ -1,5 +1,5 @@
 -- What `undo-more` would undo, or why it is refused.
-use Rattle.std.specs.Prelude.{ℕ, Bool, true, false, not, List, [], ◌∷◌, length, filter, Option, Some, None, Result, Ok, Err}
+use Rattle.std.specs.Prelude.{ℕ, true, false, not, List, [], ◌∷◌, length, filter, Option, Some, None, Result, Ok, Err}
 use Rattle.text_model.specs.Undo.{Entry, Undo, is_boundary, pending, groups, trial, oldest}
 use Rattle.undo_list.specs.declared.plan.Plan.{Plan}
 use Rattle.undo_list.specs.declared.plan.Refused.{Refused}

@@ -1,5 +1,5 @@
 -- The records of the program as those of the definitions.
-use Rattle.std.specs.Prelude.{◌≡◌, ℕ, ◌<◌, List, [], ◌∷◌, length, option_map}
+use Rattle.std.specs.Prelude.{ℕ, ◌<◌, List, [], ◌∷◌, length, option_map}
 use Rattle.text_model.specs.Undo as undo
 use Rattle.ek_types.specs.Property.{prop_of, number_of}
 use Rattle.undo_list.specs.declared.rec.Rec.{Rec}

@@ -1,5 +1,5 @@
 -- What the record of a buffer is seen as.
-use Rattle.std.specs.Prelude.{◌≡◌, ℕ, ◌-◌, Bool, true, false, List, []}
+use Rattle.std.specs.Prelude.{◌≡◌, ℕ, ◌-◌, true, false, List, []}
 use Rattle.text_model.specs.Undo.{Entry, Undo, fits}
 use Rattle.undo_list.specs.Records.{AreFalling}
 

@@ -1,5 +1,5 @@
 -- The walk of the code over the records of some groups.
-use Rattle.std.specs.Prelude.{ℕ, ◌+◌, ◌-◌, ◌==◌, if◌then◌else◌, List, [], ◌∷◌, Result, Ok, Err}
+use Rattle.std.specs.Prelude.{◌+◌, ◌-◌, ◌==◌, if◌then◌else◌, List, [], ◌∷◌, Result, Ok, Err}
 use Rattle.text_model.specs.Undo.{Entry, is_boundary, lies_inside, max_after}
 use Rattle.undo_list.specs.declared.plan.Plan.{Plan}
 use Rattle.undo_list.specs.declared.plan.Refused.{Refused}

@@ -1,5 +1,5 @@
 use Rattle.std.proofs.Common.{◌≡◌, false, length, ap, sym, ◌∙◌, arith}
-use Rattle.text_model.specs.Undo.{fits, cut}
+use Rattle.text_model.specs.Undo.{fits}
 use Rattle.undo_list.proofs.Cutting.{all_cut, all_cut-step, group-gone, cut-fitting, cut-enough}
 use Rattle.undo_list.proofs.records.Records.cut.Goals as goal
 

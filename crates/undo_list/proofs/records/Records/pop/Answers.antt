@@ -1,7 +1,7 @@
-use Rattle.std.proofs.Common.{◌≡◌, ◌+◌, map, ap, sym, subst, ◌∙◌, arith}
+use Rattle.std.proofs.Common.{map, ap, sym, ◌∙◌, arith}
 use Rattle.std.specs.Prelude.{if◌then◌else◌}
-use Rattle.text_model.specs.Undo.{is_boundary, without_oldest_group, kept_characters}
-use Rattle.undo_list.specs.Records.{rec_of, entry_of, size_of}
+use Rattle.text_model.specs.Undo.{without_oldest_group}
+use Rattle.undo_list.specs.Records.{entry_of}
 use Rattle.undo_list.proofs.Seeing.{kept-popped, without-popped}
 use Rattle.undo_list.proofs.records.Records.pop.Goals as goal
 

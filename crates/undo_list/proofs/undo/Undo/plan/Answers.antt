@@ -1,6 +1,6 @@
-use Rattle.std.proofs.Common.{◌≡◌, true, [], length, drop, Ok, ap, sym, ◌∙◌, arith}
+use Rattle.std.proofs.Common.{[], drop, Ok, ap, sym, ◌∙◌, arith}
 use Rattle.std.proofs.Math.ListN.{drop_of_length-le}
-use Rattle.text_model.specs.Undo.{Undo, pending}
+use Rattle.text_model.specs.Undo.{Undo}
 use Rattle.undo_list.specs.Plans.{planned}
 use Rattle.undo_list.proofs.Walking.{planned-on}
 use Rattle.undo_list.proofs.undo.Undo.plan.Goals as goal

@@ -1,9 +1,8 @@
-use Rattle.std.proofs.Common.{◌≡◌, ◌+◌, List, ◌∷◌, length, ap, sym, subst, ◌∙◌, arith}
+use Rattle.std.proofs.Common.{◌+◌, List, ◌∷◌, length, ap, sym, subst, ◌∙◌, arith}
 use Rattle.std.proofs.lemmas.Bool.{false≢true}
 use Rattle.text_model.specs.Undo.{Entry, cut}
 use Rattle.undo_list.specs.Records.{AreFalling, rec_of}
 use Rattle.undo_list.proofs.Cutting.{falling-cut}
-use Rattle.undo_list.proofs.Merging.{pushed-apart}
 use Rattle.undo_list.proofs.undo.Undo.push_apart.Goals as goal
 
 pub invariant_of-self-2 : goal.invariant_of-self-2
