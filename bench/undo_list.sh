@@ -5,11 +5,11 @@
 # a group at a time, and all groups by one call: each takes twice as long where there are twice as many records. The
 # time of a plan of one group alone hardly grows with the list.
 #
-#     bench/undo_list.sh [COUNT ..]        (200000 400000 800000 if none is given)
+#     bench/undo_list.sh [COUNT ..]        (50000 100000 200000 if none is given)
 set -eu
 
 top=$(cd "$(dirname "$0")/.." && pwd)
-counts=${*:-200000 400000 800000}
+counts=${*:-50000 100000 200000}
 work=$(mktemp -d "${TMPDIR:-/tmp}/undo_list_bench.XXXXXX")
 trap 'rm -rf "$work"' EXIT
 
