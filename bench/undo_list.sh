@@ -1,0 +1,112 @@
+#!/bin/sh
+# How the time of recording and of undoing grows. COUNT pushes, first in groups of two records (so that past 65,536
+# records each push cuts one old group now and then), then as one long group (so that it is dropped whole, and seldom):
+# twice as many take twice as long. Then lists of 16,384 to 65,536 records in small groups are planned and passed whole,
+# a group at a time, and all groups by one call: each takes twice as long where there are twice as many records. The
+# time of a plan of one group alone hardly grows with the list.
+#
+#     bench/undo_list.sh [COUNT ..]        (50000 100000 200000 if none is given)
+set -eu
+
+top=$(cd "$(dirname "$0")/.." && pwd)
+counts=${*:-50000 100000 200000}
+work=$(mktemp -d "${TMPDIR:-/tmp}/undo_list_bench.XXXXXX")
+trap 'rm -rf "$work"' EXIT
+
+mkdir -p "$work/crates/bench_undo/src"
+for crate in text_model ek_types undo_list; do
+    mkdir "$work/crates/$crate"
+    for part in src specs proofs; do
+        if [ -d "$top/crates/$crate/$part" ]; then
+            cp -R "$top/crates/$crate/$part" "$work/crates/$crate/"
+        fi
+    done
+    grep "^$crate:" "$top/crates.txt" >> "$work/crates.txt"
+done
+echo 'bench_undo: ek_types undo_list' >> "$work/crates.txt"
+
+cat > "$work/crates/bench_undo/src/main.rt" <<'PROGRAM'
+//! Pushes, cuts, plans and passes.
+#![tactic(auto)]
+
+use ek_types::Mem;
+use std::time::Instant;
+use std::{env, io};
+use undo_list::{Rec, Refused, Undo};
+
+/// `count` records; a boundary stands behind each in small groups.
+fn pushed(undo: &mut Undo, count: usize, small: bool) -> Mem<()> {
+    for place in 0..count {
+        undo.push(Rec::Point(place))?;
+        if small {
+            undo.boundary()?;
+        }
+    }
+    Ok(())
+}
+
+fn pushes(rt: &HostRuntime, count: usize, small: bool) -> io::Result<()> {
+    let mut undo = Undo::new(rt.alloc());
+    let start = Instant::now(rt)?;
+    let done = pushed(&mut undo, count, small).is_ok();
+    let time = start.elapsed(rt)?.as_micros();
+    let left = undo.len();
+    let groups = if small { "groups of one record" } else { "one group" };
+    println!(rt; "undo_list {count} pushes in {groups}: {time} us, {left} records left, done {done}")
+}
+
+/// All groups, one by one: how many plans there were.
+fn one_by_one(undo: &mut Undo, most: usize) -> usize {
+    for i in 0..most {
+        match undo.plan(1, 0, usize::MAX) {
+            Ok(Ok(plan)) => undo.pass(&plan),
+            Ok(Err(Refused::Nothing)) => return i,
+            _ => return 0,
+        }
+    }
+    most
+}
+
+fn undoings(rt: &HostRuntime, count: usize) -> io::Result<()> {
+    let mut undo = Undo::new(rt.alloc());
+    let done = pushed(&mut undo, count / 2, true).is_ok();
+    let _ = undo.start();
+
+    let start = Instant::now(rt)?;
+    let plans = one_by_one(&mut undo, count);
+    let single = start.elapsed(rt)?.as_micros();
+
+    let _ = undo.start();
+    let start = Instant::now(rt)?;
+    let whole = match undo.plan(u32::MAX, 0, usize::MAX) {
+        Ok(Ok(plan)) => {
+            undo.pass(&plan);
+            plan.count
+        }
+        _ => 0,
+    };
+    let all = start.elapsed(rt)?.as_micros();
+
+    let start = Instant::now(rt)?;
+    for _ in 0..1000 {
+        let _ = undo.start();
+        let _ = undo.plan(1, 0, usize::MAX);
+    }
+    let thousand = start.elapsed(rt)?.as_micros();
+    println!(rt; "undo_list {count} records, pushed {done}: {plans} plans of a group {single} us; one plan of all {whole} {all} us; 1,000 times the newest group {thousand} us")
+}
+
+fn main(rt: HostRuntime) -> io::Result<()> {
+    for word in env::args(&rt)? {
+        if let Ok(count) = word.parse::<usize>() {
+            pushes(&rt, count, true)?;
+            pushes(&rt, count, false)?;
+        }
+    }
+    undoings(&rt, 16_384)?;
+    undoings(&rt, 32_768)?;
+    undoings(&rt, 65_536)
+}
+PROGRAM
+
+(cd "$work/crates/bench_undo" && rt try --seconds 3600 -- $counts)

@@ -1,0 +1,5 @@
+pub mod Cutting
+pub mod Merging
+pub mod Seeing
+pub mod Finding
+pub mod Walking

@@ -1,0 +1,4 @@
+pub mod Records
+pub mod State
+pub mod Plans
+pub mod Walks

@@ -1,0 +1,14 @@
+//! The undo records of a buffer: what is recorded, what is pending, and what undoing a few groups would undo.
+#![tactic(auto)]
+
+mod plan;
+mod rec;
+mod records;
+#[cfg(test)]
+mod tests;
+mod undo;
+mod walk;
+
+pub use plan::{Plan, Refused};
+pub use rec::Rec;
+pub use undo::Undo;
