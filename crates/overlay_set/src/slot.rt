@@ -208,7 +208,11 @@ impl Slot {
         ensures { (last : ℕ) → next_or last result ≡ least (next_or last found) (filter (λ x. nat_lt (i + 1) x) (ends_of_span buffer (overlay_of self.now).span)) }
     {
         match self.span {
-            Some((b, start, end)) if b == buffer => nearer_behind(i, end, nearer_behind(i, start, found)),
+            Some((b, start, end)) if b == buffer => nearer_behind(
+                i,
+                end,
+                nearer_behind(i, start, found),
+            ),
             _ => found,
         }
     }
@@ -218,7 +222,11 @@ impl Slot {
         ensures { (first : ℕ) → previous_or first result ≡ greatest (previous_or first found) (filter (λ x. nat_lt x (i + 1)) (ends_of_span buffer (overlay_of self.now).span)) }
     {
         match self.span {
-            Some((b, start, end)) if b == buffer => nearer_before(i, end, nearer_before(i, start, found)),
+            Some((b, start, end)) if b == buffer => nearer_before(
+                i,
+                end,
+                nearer_before(i, start, found),
+            ),
             _ => found,
         }
     }

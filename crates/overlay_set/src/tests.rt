@@ -1,6 +1,5 @@
 //! Worked cases of overlays. Emacs counts positions from 1, and places count from 0.
-ghost use Rattle.std.specs.Prelude.{◌≡◌, ◌∷◌, [], ◌++◌, ◌<◌, length, Some, false, IfOk};
-ghost use Rattle.overlay_set.specs.Numbered.{span_at};
+ghost use Rattle.std.specs.Prelude.{◌≤◌};
 
 use crate::{Numbers, Overlays};
 use ek_types::{Mem, PropVal, Sym};
@@ -8,12 +7,22 @@ use std::process::Abort;
 use std::test::Fail;
 
 const EVAPORATE: Sym = Sym(2);
+
 const PRIORITY: Sym = Sym(3);
+
 const FACE: Sym = Sym(14);
 
 fn span(rt: &impl Abort, overlays: &Overlays, k: u32) -> Option<(u32, usize, usize)> {
     assert!(rt; k < overlays.count());
     overlays.span(k)
+}
+
+/// An overlay whose ends stay, where nothing else of the list is asked later.
+fn make(rt: &impl Abort, overlays: &mut Overlays, buffer: u32, from: usize, to: usize) -> Mem<u32>
+    requires { from ≤ to }
+{
+    assert!(rt; overlays.count() < 100);
+    overlays.make(buffer, from, to, false, false)
 }
 
 fn put(rt: &impl Abort, overlays: &mut Overlays, k: u32, name: Sym, v: &PropVal) -> Mem<()> {
@@ -54,9 +63,9 @@ fn four_empty_overlays_at_an_insertion(rt: HostRuntime) -> Result<(), Fail> {
 #[test]
 fn an_evaporating_overlay_that_becomes_empty_is_deleted(rt: HostRuntime) -> Result<(), Fail> {
     let mut overlays = Overlays::new(rt.alloc());
-    overlays.make(0, 1, 3, false, false)?;
-    overlays.make(0, 0, 2, false, false)?;
-    overlays.make(0, 1, 3, false, false)?;
+    make(&rt, &mut overlays, 0, 1, 3)?;
+    make(&rt, &mut overlays, 0, 0, 2)?;
+    make(&rt, &mut overlays, 0, 1, 3)?;
     put(&rt, &mut overlays, 0, EVAPORATE, &PropVal::Truth)?;
     put(&rt, &mut overlays, 1, EVAPORATE, &PropVal::Truth)?;
     overlays.note_delete(0, 1, 3);
@@ -69,8 +78,8 @@ fn an_evaporating_overlay_that_becomes_empty_is_deleted(rt: HostRuntime) -> Resu
 #[test]
 fn the_inner_overlay_wins_until_the_outer_has_a_priority(rt: HostRuntime) -> Result<(), Fail> {
     let mut overlays = Overlays::new(rt.alloc());
-    overlays.make(0, 0, 4, false, false)?;
-    overlays.make(0, 1, 3, false, false)?;
+    make(&rt, &mut overlays, 0, 0, 4)?;
+    make(&rt, &mut overlays, 0, 1, 3)?;
     put(&rt, &mut overlays, 0, FACE, &PropVal::Sym(Sym(15)))?;
     put(&rt, &mut overlays, 1, FACE, &PropVal::Sym(Sym(16)))?;
     assert_eq!(rt; overlays.winner(0, 1, FACE), Some(1));
@@ -85,9 +94,9 @@ fn the_inner_overlay_wins_until_the_outer_has_a_priority(rt: HostRuntime) -> Res
 #[test]
 fn of_two_equal_overlays_the_later_wins(rt: HostRuntime) -> Result<(), Fail> {
     let mut overlays = Overlays::new(rt.alloc());
-    overlays.make(0, 1, 3, false, false)?;
-    overlays.make(0, 1, 3, false, false)?;
-    overlays.make(0, 1, 4, false, false)?;
+    make(&rt, &mut overlays, 0, 1, 3)?;
+    make(&rt, &mut overlays, 0, 1, 3)?;
+    make(&rt, &mut overlays, 0, 1, 4)?;
     put(&rt, &mut overlays, 0, FACE, &PropVal::Truth)?;
     put(&rt, &mut overlays, 1, FACE, &PropVal::Truth)?;
     put(&rt, &mut overlays, 2, FACE, &PropVal::Truth)?;
@@ -100,9 +109,9 @@ fn of_two_equal_overlays_the_later_wins(rt: HostRuntime) -> Result<(), Fail> {
 #[test]
 fn overlays_in_a_region_and_at_a_place(rt: HostRuntime) -> Result<(), Fail> {
     let mut overlays = Overlays::new(rt.alloc());
-    overlays.make(0, 1, 1, false, false)?;
-    overlays.make(0, 0, 2, false, false)?;
-    overlays.make(0, 3, 3, false, false)?;
+    make(&rt, &mut overlays, 0, 1, 1)?;
+    make(&rt, &mut overlays, 0, 0, 2)?;
+    make(&rt, &mut overlays, 0, 3, 3)?;
     assert!(rt; are(&overlays.within(0, 1, 3, 3)?, &[0, 1, 2]));
     assert!(rt; are(&overlays.within(0, 1, 3, 4)?, &[0, 1]));
     assert!(rt; are(&overlays.within(0, 1, 1, 3)?, &[0, 1]));
@@ -116,10 +125,10 @@ fn overlays_in_a_region_and_at_a_place(rt: HostRuntime) -> Result<(), Fail> {
 #[test]
 fn the_next_and_the_previous_change(rt: HostRuntime) -> Result<(), Fail> {
     let mut overlays = Overlays::new(rt.alloc());
-    overlays.make(0, 1, 1, false, false)?;
-    overlays.make(0, 0, 2, false, false)?;
-    overlays.make(0, 3, 3, false, false)?;
-    overlays.make(1, 1, 9, false, false)?;
+    make(&rt, &mut overlays, 0, 1, 1)?;
+    make(&rt, &mut overlays, 0, 0, 2)?;
+    make(&rt, &mut overlays, 0, 3, 3)?;
+    make(&rt, &mut overlays, 1, 1, 9)?;
     assert_eq!(rt; overlays.next_change(0, 0), Some(1));
     assert_eq!(rt; overlays.next_change(0, 2), Some(3));
     assert_eq!(rt; overlays.next_change(0, 3), None);
@@ -132,8 +141,8 @@ fn the_next_and_the_previous_change(rt: HostRuntime) -> Result<(), Fail> {
 #[test]
 fn an_overlay_moves_to_another_buffer_and_is_killed_with_it(rt: HostRuntime) -> Result<(), Fail> {
     let mut overlays = Overlays::new(rt.alloc());
-    let a = overlays.make(0, 1, 3, false, false)?;
-    let b = overlays.make(0, 1, 3, false, false)?;
+    let a = make(&rt, &mut overlays, 0, 1, 3)?;
+    let b = make(&rt, &mut overlays, 0, 1, 3)?;
     put(&rt, &mut overlays, a, FACE, &PropVal::Int(7))?;
     assert!(rt; a < overlays.count() && b < overlays.count());
     overlays.shift(a, 1, 4, 6)?;
@@ -147,7 +156,11 @@ fn an_overlay_moves_to_another_buffer_and_is_killed_with_it(rt: HostRuntime) -> 
     assert_eq!(rt; span(&rt, &copy, a), Some((1, 4, 6)));
     assert_eq!(rt; span(&rt, &copy, b), Some((0, 1, 3)));
     assert!(rt; a < overlays.count() && a < copy.count());
-    assert!(rt; overlays.get(a, FACE).is_some_and(|v| matches!(v, PropVal::Int(7))));
+    assert!(rt;
+        overlays
+            .get(a, FACE)
+            .is_some_and(|v| matches!(v, PropVal::Int(7)))
+    );
     assert_eq!(rt; copy.props(a).len(), 1);
     overlays.put(a, FACE, None)?;
     assert_eq!(rt; overlays.get(a, FACE).is_none(), true);

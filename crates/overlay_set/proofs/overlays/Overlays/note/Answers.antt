@@ -21,7 +21,7 @@ move_one-requires-clause-can c =
     let made : c.loop-k.k < length c.loop-k.self = omega (arith, c.loop-k.invariant.end, c.loop-k.invariant.count) in
     subst (CanMoveIn c.args.buffer c.args.change) (sym (overlay_at-get_or c.loop-k.self c.loop-k.k))
     (next_holds (CanMoveIn c.args.buffer c.args.change) (λ o. o) (moved_by c.args.buffer c.args.change) c.loop-k.self c.args.self.now c.loop-k.k no_overlay made c.requires
-      (map-id c.loop-k.self ∙ c.loop-k.invariant.so_far))
+    (map-id c.loop-k.self ∙ c.loop-k.invariant.so_far))
 
 pub loop-k-preserved : goal.loop-k-preserved
 loop-k-preserved c =
