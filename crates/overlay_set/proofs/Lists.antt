@@ -1,10 +1,8 @@
 -- Slots by number as overlays by number, and what is left of a list in a loop over it.
-use Rattle.std.proofs.Common.{◌≡◌, ℕ, ◌+◌, ◌<◌, ◌≤◌, Bool, true, false, ◌&&◌, List, [], ◌∷◌, ◌++◌, length, map, filter, drop, get_or, slice_set, Option, Some, None, unwrap_or, option_map, refl, ap, sym, ◌∙◌, arith}
-use Rattle.std.specs.List.{enumerate_from}
-use Rattle.std.proofs.lemmas.List.{length-map, map-set, map-id, at_drop_more, at_drop_all}
+use Rattle.std.proofs.Common.{◌≡◌, ℕ, ◌+◌, ◌<◌, List, length, map, get_or, slice_set, unwrap_or, option_map, ap, sym, ◌∙◌, arith}
+use Rattle.std.proofs.lemmas.List.{length-map, map-set, map-id}
 use Rattle.std.proofs.lemmas.Option.{slice_get-map, slice_get-get_or, unwrap_or-slice_get}
-use Rattle.text_model.specs.Properties.{PropSet}
-use Rattle.text_model.specs.Marks.{Overlay, Span}
+use Rattle.text_model.specs.Marks.{Overlay}
 use Rattle.ek_types.proofs.InTurn.{first_moved, next_moved}
 use Rattle.overlay_set.specs.Numbered.{no_overlay, overlay_at}
 use Rattle.overlay_set.specs.Slots.{overlay_of}

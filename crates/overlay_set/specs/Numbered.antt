@@ -1,5 +1,5 @@
 -- Overlays by number, as callers give and read them. Places count from 0 here, positions from 1.
-use Rattle.std.specs.Prelude.{◌≡◌, ℕ, ◌+◌, ◌≤◌, Bool, false, List, [], map, Option, Some, None, IfSome, slice_get, option_map, unwrap_or, min, max}
+use Rattle.std.specs.Prelude.{◌≡◌, ℕ, ◌+◌, ◌≤◌, false, List, [], map, Option, Some, None, IfSome, slice_get, option_map, unwrap_or, min, max}
 use Rattle.text_model.specs.Properties.{PropVal, given}
 use Rattle.text_model.specs.Marks.{Overlay, Span}
 

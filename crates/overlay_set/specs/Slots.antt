@@ -1,5 +1,5 @@
 -- What is seen of an overlay's slot, and of a change.
-use Rattle.std.specs.Prelude.{◌≡◌, ℕ, ◌+◌, ◌≤◌, Bool, false, Some, None, IfSome}
+use Rattle.std.specs.Prelude.{◌≡◌, ℕ, ◌+◌, ◌≤◌, Bool, false, Some, IfSome}
 use Rattle.text_model.specs.Marks.{Overlay, Span, move_overlay, evaporated, insertion, deletion}
 use Rattle.text_model.specs.OverlayQuestions.{covers, lies_within}
 use Rattle.overlay_set.specs.Numbered.{span_at, span_of}

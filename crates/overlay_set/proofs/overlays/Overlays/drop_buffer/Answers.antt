@@ -1,4 +1,4 @@
-use Rattle.std.proofs.Common.{◌≡◌, ◌<◌, refl, length, ap, sym, ◌∙◌, arith}
+use Rattle.std.proofs.Common.{◌<◌, refl, length, ap, sym, ◌∙◌, arith}
 use Rattle.std.proofs.lemmas.List.{length-map, length-set}
 use Rattle.text_model.specs.Marks.{overlay_left}
 use Rattle.ek_types.proofs.InTurn.{all_moved}

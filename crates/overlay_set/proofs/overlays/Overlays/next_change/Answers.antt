@@ -1,8 +1,6 @@
-use Rattle.std.proofs.Common.{◌≡◌, ℕ, ◌+◌, ◌<◌, nat_lt, length, filter, drop, ap, sym, ◌∙◌, arith}
-use Rattle.std.proofs.lemmas.List.{length-map}
+use Rattle.std.proofs.Common.{ℕ, ◌+◌, nat_lt, filter, drop, ap, sym, ◌∙◌}
 use Rattle.text_model.specs.OverlayQuestions.{least, ends_of_span}
-use Rattle.overlay_set.specs.Numbered.{overlay_at, next_or}
-use Rattle.overlay_set.specs.Slots.{overlay_of}
+use Rattle.overlay_set.specs.Numbered.{next_or}
 use Rattle.overlay_set.proofs.Lists.{read_at}
 use Rattle.overlay_set.proofs.Searches.{least_from, least_more}
 use Rattle.overlay_set.proofs.overlays.Overlays.next_change.Goals as goal

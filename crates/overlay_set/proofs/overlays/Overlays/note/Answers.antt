@@ -1,4 +1,4 @@
-use Rattle.std.proofs.Common.{◌≡◌, ◌<◌, refl, length, map, All, get_or, ap, subst, sym, ◌∙◌, arith}
+use Rattle.std.proofs.Common.{◌<◌, refl, length, ap, subst, sym, ◌∙◌, arith}
 use Rattle.std.proofs.lemmas.List.{length-map, length-set, map-id}
 use Rattle.ek_types.proofs.InTurn.{all_moved, next_holds}
 use Rattle.overlay_set.specs.Numbered.{no_overlay, overlay_at}

@@ -1,7 +1,6 @@
-use Rattle.std.proofs.Common.{◌≡◌, ℕ, ◌+◌, ◌<◌, nat_lt, length, filter, drop, ap, sym, ◌∙◌, arith}
+use Rattle.std.proofs.Common.{ℕ, ◌+◌, nat_lt, filter, drop, ap, sym, ◌∙◌}
 use Rattle.text_model.specs.OverlayQuestions.{greatest, ends_of_span}
-use Rattle.overlay_set.specs.Numbered.{overlay_at, previous_or}
-use Rattle.overlay_set.specs.Slots.{overlay_of}
+use Rattle.overlay_set.specs.Numbered.{previous_or}
 use Rattle.overlay_set.proofs.Lists.{read_at}
 use Rattle.overlay_set.proofs.Searches.{greatest_end_from, greatest_end_more}
 use Rattle.overlay_set.proofs.overlays.Overlays.prev_change.Goals as goal
