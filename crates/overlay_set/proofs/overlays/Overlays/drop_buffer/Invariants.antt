@@ -1,0 +1,11 @@
+use Rattle.std.proofs.Common.{◌≡◌, length}
+use Rattle.text_model.specs.Marks.{overlay_left}
+use Rattle.ek_types.proofs.InTurn.{first_moved}
+use Rattle.overlay_set.proofs.overlays.Overlays.drop_buffer.Given as goal
+
+abbrev pub invariant-loop-k : goal.invariant-loop-k
+invariant-loop-k l = record {
+  end : l.k-end ≡ length l.initial.self;
+  count : length l.self ≡ length l.initial.self;
+  so_far : l.self ≡ first_moved (overlay_left l.buffer) l.k l.initial.self;
+}

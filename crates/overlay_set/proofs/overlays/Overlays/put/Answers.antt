@@ -1,0 +1,17 @@
+use Rattle.std.proofs.Common.{◌≡◌, option_map, ap, sym, ◌∙◌}
+use Rattle.text_model.specs.Properties.{PropSet, put}
+use Rattle.text_model.specs.Marks.{Overlay}
+use Rattle.ek_types.specs.Property.{prop_of}
+use Rattle.overlay_set.specs.Numbered.{overlay_at, given_of}
+use Rattle.overlay_set.specs.Slots.{overlay_of}
+use Rattle.overlay_set.proofs.Lists.{overlay_at_slot, overlay_set}
+use Rattle.overlay_set.proofs.overlays.Overlays.put.Goals as goal
+
+pub returns-clause-ok : goal.returns-clause-ok
+returns-clause-ok c =
+    let slot = c.index_mut-slot.result.now in
+    let with_set : PropSet → Overlay = λ set. record { span = (overlay_of slot).span; front_advance = (overlay_of slot).front_advance; rear_advance = (overlay_of slot).rear_advance; props = set } in
+    let given : Overlay → Overlay = λ o. record { span = o.span; front_advance = o.front_advance; rear_advance = o.rear_advance; props = put o.props c.args.name.0 (given_of (option_map (λ p. prop_of p.now) c.args.v)) } in
+    let was : overlay_at c.args.self.now c.args.k ≡ overlay_of slot = overlay_at_slot c.self.inside.slots.items c.args.self.now c.args.k slot c.self.view_is c.requires c.index_mut-slot.ensures.value in
+    overlay_set c.self.inside.slots.items c.args.self.now c.args.k (record slot { props = c.in_ok-slot.field-0 }) (given (overlay_at c.args.self.now c.args.k)) c.self.view_is
+    (ap with_set c.in_ok-slot.ensures ∙ ap given (sym was))

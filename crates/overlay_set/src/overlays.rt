@@ -1,0 +1,288 @@
+//! All overlays of a run, by number.
+ghost use Rattle.std.specs.Prelude.{◌≡◌, ℕ, ◌+◌, ◌-◌, ◌^◌, ◌<◌, ◌≤◌, false, [], ◌∷◌, ◌++◌, length, map, Some, None, option_map, option_to_list, slice_set, All, OnOk, OnErr, IfOk};
+ghost use Rattle.text_model.specs.Properties.{get, put};
+ghost use Rattle.text_model.specs.Marks.{Overlay, move_overlay, evaporated, overlay_left, insertion, deletion};
+ghost use Rattle.text_model.specs.OverlayQuestions.{overlays_where, covers, lies_within, winner, greater, next_end, previous_end};
+ghost use Rattle.ek_types.specs.Property.{prop_of};
+ghost use Rattle.ek_types.specs.Listing.{items_of};
+ghost use Rattle.overlay_set.specs.Numbered.{overlay_at, span_of, span_at, given_of, numbers_of, numbered, next_or, previous_or, HasRoomFor};
+ghost use Rattle.overlay_set.specs.Slots.{test_of, moved_by, CanMoveIn};
+
+use crate::slot::{Change, Question, Slot, Stretch};
+use ek_types::{ListOf, Mem, NoMemory, PropSet, PropVal, Sym};
+use std::alloc::Global;
+use std::marker::Model;
+
+/// Numbers of overlays, which rise.
+pub type Numbers = ListOf<u32>;
+
+/// Overlays by number, from 0 in the order in which they were made (GNU Emacs Lisp Reference Manual, Overlays). Places
+/// count from 0.
+#[derive(Drop)]
+pub struct Overlays {
+    slots: Vec<Slot>,
+}
+
+impl Model for Overlays {
+    ghost use Rattle.std.specs.Prelude.{List, map, length, ◌<◌, ◌^◌};
+    ghost use Rattle.text_model.specs.Marks.{Overlay};
+
+    ghost Value = { List Overlay };
+
+    ghost use Rattle.overlay_set.specs.Slots.{overlay_of};
+
+    ghost view = { λ a. map overlay_of a.slots.items };
+
+    ghost invariant = { λ a. length a.slots.items < 2 ^ 32 };
+}
+
+impl Overlays {
+    /// No overlays yet, and no memory taken.
+    pub fn new(alloc: Global) -> Overlays
+        ensures { result ≡ [] }
+    {
+        Overlays {
+            slots: Vec::new(alloc),
+        }
+    }
+
+    /// How many were made.
+    pub fn count(&self) -> u32
+        ensures { result ≡ length self.now }
+    {
+        self.slots.len() as u32
+    }
+
+    /// Makes an overlay without properties from place `from` to place `to` of a buffer, and gives its number. `front`
+    /// and `rear` say whether its start and its end go behind text put in just there. A refusal leaves all overlays as
+    /// they were.
+    pub fn make(&mut self, buffer: u32, from: usize, to: usize, front: bool, rear: bool) -> Mem<u32>
+        requires room { length self.old < 2 ^ 32 - 1 }
+        requires ordered { from ≤ to }
+        ensures number { IfOk result (λ k. k ≡ length self.old) }
+        ensures ok { OnOk result (self.new ≡ self.old ++ record { span = Some (span_at (buffer, from, to)); front_advance = front; rear_advance = rear; props = [] } ∷ []) }
+        ensures err { OnErr result (self.new ≡ self.old) }
+    {
+        let number = self.slots.len() as u32;
+        let slot = Slot {
+            span: Some((buffer, from, to)),
+            front,
+            rear,
+            props: PropSet::empty(*self.slots.allocator()),
+        };
+        match self.slots.push(slot) {
+            Ok(()) => Ok(number),
+            Err(_) => Err(NoMemory),
+        }
+    }
+
+    /// Puts overlay `k` from place `from` to place `to` of a buffer. A refusal leaves it where it was.
+    pub fn shift(&mut self, k: u32, buffer: u32, from: usize, to: usize) -> Mem<()>
+        requires made { k < length self.old }
+        requires ordered { from ≤ to }
+        ensures ok { OnOk result (self.new ≡ slice_set self.old k (record (overlay_at self.old k) { span = Some (span_at (buffer, from, to)) })) }
+        ensures err { OnErr result (self.new ≡ self.old) }
+    {
+        self.stand(k as usize, Some((buffer, from, to)));
+        Ok(())
+    }
+
+    /// Takes overlay `k` out of its buffer ("Managing Overlays" there). It keeps its properties.
+    pub fn remove(&mut self, k: u32)
+        requires { k < length self.old }
+        ensures { self.new ≡ slice_set self.old k (record (overlay_at self.old k) { span = None }) }
+    {
+        self.stand(k as usize, None);
+    }
+
+    /// Puts an overlay in its stretch, or nowhere.
+    fn stand(&mut self, k: usize, span: Option<Stretch>)
+        requires { k < length self.old }
+        ensures { self.new ≡ slice_set self.old k (record (overlay_at self.old k) { span = span_of span }) }
+    {
+        self.slots[k].span = span;
+    }
+
+    /// Where overlay `k` stands: a buffer with two places in it, or nowhere.
+    pub fn span(&self, k: u32) -> Option<(u32, usize, usize)>
+        requires { k < length self.now }
+        ensures { span_of result ≡ (overlay_at self.now k).span }
+    {
+        self.slots[k as usize].span
+    }
+
+    /// Gives overlay `k` a property, or takes it away where `v` is none or nil. The overlay stays where it is, also
+    /// where it is empty and now evaporates. A refusal leaves it as it was.
+    pub fn put(&mut self, k: u32, name: Sym, v: Option<&PropVal>) -> Mem<()>
+        requires { k < length self.old }
+        ensures ok { OnOk result (self.new ≡ slice_set self.old k (record (overlay_at self.old k) { props = put (overlay_at self.old k).props name.0 (given_of (option_map (λ p. prop_of p.now) v.entry)) })) }
+        ensures err { OnErr result (self.new ≡ self.old) }
+    {
+        let slot = &mut self.slots[k as usize];
+        slot.props = slot.props_with(name, v)?;
+        Ok(())
+    }
+
+    /// The properties of overlay `k`.
+    pub fn props(&self, k: u32) -> &PropSet
+        requires { k < length self.now }
+        ensures { result.now ≡ (overlay_at self.now k).props }
+    {
+        &self.slots[k as usize].props
+    }
+
+    /// The value of a property of overlay `k`, or `None` where the overlay hasn't it.
+    pub fn get(&self, k: u32, name: Sym) -> Option<&PropVal>
+        requires { k < length self.now }
+        ensures { option_map (λ v. prop_of v.now) result ≡ get (overlay_at self.now k).props name.0 }
+    {
+        self.slots[k as usize].props.get(name)
+    }
+
+    /// The overlays that cover place `i` of a buffer: they begin there or before and end behind it ("Finding
+    /// Overlays").
+    pub fn at(&self, buffer: u32, i: usize) -> Mem<Numbers>
+        ensures { IfOk result (λ numbers. items_of numbers ≡ numbers_of (overlays_where buffer (covers (i + 1)) self.now)) }
+    {
+        self.found(buffer, Question::At { i })
+    }
+
+    /// The overlays of a buffer that have a character between place `from` and place `to`, or cover the place where
+    /// these are one; and the empty ones at `from`, between the two, and at `to` where this is the `end` of the
+    /// accessible portion ("Finding Overlays").
+    pub fn within(&self, buffer: u32, from: usize, to: usize, end: usize) -> Mem<Numbers>
+        requires { from ≤ to }
+        ensures { IfOk result (λ numbers. items_of numbers ≡ numbers_of (overlays_where buffer (lies_within (from + 1) (to + 1) (end + 1)) self.now)) }
+    {
+        self.found(buffer, Question::Within { from, to, end })
+    }
+
+    /// The overlays of a buffer that pass a test.
+    fn found(&self, buffer: u32, question: Question) -> Mem<Numbers>
+        ensures { IfOk result (λ numbers. items_of numbers ≡ numbers_of (overlays_where buffer (test_of question) self.now)) }
+    {
+        let mut numbers = Numbers::new(*self.slots.allocator());
+        for k in 0..self.slots.len() {
+            if self.slots[k].answers(buffer, question) {
+                numbers.push(k as u32)?;
+            }
+        }
+        Ok(numbers)
+    }
+
+    /// Of the overlays that cover place `i` of a buffer and have a property, the one that wins: by priority (0 where
+    /// none is given as a number), then by the larger start, then by the smaller end, then by the higher number.
+    pub fn winner(&self, buffer: u32, i: usize, name: Sym) -> Option<u32>
+        ensures { result ≡ option_map (λ o. o.0) (winner buffer (i + 1) name.0 self.now) }
+    {
+        let mut best = None;
+        for k in 0..self.slots.len() {
+            if self.slots[k].has_at(buffer, i, name) {
+                best = Some(self.greater(best, k));
+            }
+        }
+        best.map(|k| k as u32)
+    }
+
+    /// The greater of the best so far and a later overlay.
+    fn greater(&self, best: Option<usize>, k: usize) -> usize
+        requires best { All (λ b. b < length self.now) (option_to_list best) }
+        requires made { k < length self.now }
+        ensures within { result < length self.now }
+        ensures exact { numbered self.now result ≡ greater (option_map (numbered self.now) best) (numbered self.now k) }
+    {
+        match best {
+            Some(b) if !self.slots[k].outranks(&self.slots[b]) => b,
+            _ => k,
+        }
+    }
+
+    /// The first place behind `i` where an overlay of a buffer begins or ends, or `None` where there is none.
+    pub fn next_change(&self, buffer: u32, i: usize) -> Option<usize>
+        ensures { (last : ℕ) → next_end buffer (i + 1) last self.now ≡ next_or last result }
+    {
+        let mut next = None;
+        for slot in &self.slots {
+            next = slot.nearer_next(buffer, i, next);
+        }
+        next
+    }
+
+    /// The last place before `i` where an overlay of a buffer begins or ends, or `None` where there is none.
+    pub fn prev_change(&self, buffer: u32, i: usize) -> Option<usize>
+        ensures { (first : ℕ) → previous_end buffer (i + 1) first self.now ≡ previous_or first result }
+    {
+        let mut previous = None;
+        for slot in &self.slots {
+            previous = slot.nearer_previous(buffer, i, previous);
+        }
+        previous
+    }
+
+    /// `n` characters were put in at `at` of a buffer: the ends of its overlays just there go behind them where they
+    /// advance, or where `all` do. The start of an empty overlay doesn't leave its end behind.
+    pub fn note_insert(&mut self, buffer: u32, at: usize, n: usize, all: bool)
+        requires { All (HasRoomFor buffer n) self.old }
+        ensures { self.new ≡ map (move_overlay buffer all (insertion at n)) self.old }
+    {
+        self.note(buffer, Change::Insertion { at, n, all });
+    }
+
+    /// The part from `from` to `to` of a buffer was deleted. Its overlays that are empty then and evaporate are taken
+    /// out of it ("Overlay Properties").
+    pub fn note_delete(&mut self, buffer: u32, from: usize, to: usize)
+        requires { from ≤ to }
+        ensures { self.new ≡ map (λ o. evaporated buffer (move_overlay buffer false (deletion from to) o)) self.old }
+    {
+        self.note(buffer, Change::Deletion { from, to });
+    }
+
+    /// A buffer's text was changed: its overlays move.
+    fn note(&mut self, buffer: u32, change: Change)
+        requires { All (CanMoveIn buffer change) self.old }
+        ensures { self.new ≡ map (moved_by buffer change) self.old }
+    {
+        for k in 0..self.slots.len() {
+            self.move_one(k, buffer, change);
+        }
+    }
+
+    /// Moves an overlay at a change of a buffer.
+    fn move_one(&mut self, k: usize, buffer: u32, change: Change)
+        requires made { k < length self.old }
+        requires can { CanMoveIn buffer change (overlay_at self.old k) }
+        ensures { self.new ≡ slice_set self.old k (moved_by buffer change (overlay_at self.old k)) }
+    {
+        let slot = &mut self.slots[k];
+        slot.span = slot.moved(buffer, change);
+    }
+
+    /// A buffer was killed: its overlays have no buffer.
+    pub fn drop_buffer(&mut self, buffer: u32)
+        ensures { self.new ≡ map (overlay_left buffer) self.old }
+    {
+        for k in 0..self.slots.len() {
+            self.leave_killed(k, buffer);
+        }
+    }
+
+    /// Takes an overlay out of a killed buffer.
+    fn leave_killed(&mut self, k: usize, buffer: u32)
+        requires { k < length self.old }
+        ensures { self.new ≡ slice_set self.old k (overlay_left buffer (overlay_at self.old k)) }
+    {
+        let slot = &mut self.slots[k];
+        slot.span = slot.left(buffer);
+    }
+
+    /// Overlays of their own that stand and look alike.
+    pub fn copy(&self) -> Mem<Overlays>
+        ensures { IfOk result (λ copy. copy ≡ self.now) }
+    {
+        let mut slots = Vec::new(*self.slots.allocator());
+        for slot in &self.slots {
+            slots.push(slot.copy()?)?;
+        }
+        Ok(Overlays { slots })
+    }
+}

@@ -1,0 +1,267 @@
+//! One overlay as it is kept, and how a change of a text moves it.
+ghost use Rattle.std.specs.Prelude.{◌≡◌, ℕ, ◌+◌, ◌≤◌, ◌&&◌, nat_lt, false, [], ◌∷◌, filter, Some, is_some, option_map, IfOk};
+ghost use Rattle.text_model.specs.Properties.{get, put};
+ghost use Rattle.text_model.specs.Marks.{move_overlay, evaporated, evaporate, overlay_left, insertion, deletion};
+ghost use Rattle.text_model.specs.OverlayQuestions.{span_passes, covers, overlaps, stands_in, rank, start_of, end_of, outranks, ends_of_span, least, greatest};
+ghost use Rattle.ek_types.specs.Property.{prop_of};
+ghost use Rattle.overlay_set.specs.Numbered.{span_at, span_of, given_of, next_or, previous_or};
+ghost use Rattle.overlay_set.specs.Slots.{overlay_of, with_span, moved_by, test_of, CanMoveIn};
+
+use ek_types::{Mem, PropSet, PropVal, Sym, place_after_delete, place_after_insert};
+
+/// The symbol `evaporate`.
+const EVAPORATE: Sym = Sym(2);
+
+/// The symbol `priority`.
+const PRIORITY: Sym = Sym(3);
+
+/// A buffer with two places in it.
+pub type Stretch = (u32, usize, usize);
+
+/// A stretch of a buffer, or none where the overlay has no buffer; whether its ends advance; and its properties (GNU
+/// Emacs Lisp Reference Manual, Overlays).
+#[derive(Drop)]
+pub struct Slot {
+    pub span: Option<Stretch>,
+    pub front: bool,
+    pub rear: bool,
+    pub props: PropSet,
+}
+
+/// A change of a buffer's text.
+#[derive(Clone, Copy)]
+pub enum Change {
+    /// `n` characters were put in at `at`; `all` ends there advance.
+    Insertion { at: usize, n: usize, all: bool },
+    /// The part from `from` to `to` was deleted.
+    Deletion { from: usize, to: usize },
+}
+
+/// What is asked of a stretch.
+#[derive(Clone, Copy)]
+pub enum Question {
+    /// Whether it covers the character at a place.
+    At { i: usize },
+    /// Whether it lies in a part, whose text ends at `end`.
+    Within { from: usize, to: usize, end: usize },
+}
+
+/// Whether a stretch begins at the place or before it and ends behind it.
+fn covers_place(i: usize, stretch: Stretch) -> bool
+    ensures { result ≡ covers (i + 1) (span_at stretch) }
+{
+    stretch.1 <= i && i < stretch.2
+}
+
+/// Whether a stretch has a character in a part, or covers the place where the part is empty.
+fn overlaps_part(from: usize, to: usize, stretch: Stretch) -> bool
+    ensures { result ≡ overlaps (from + 1) (to + 1) (span_at stretch) }
+{
+    if from < to {
+        stretch.1 < to && from < stretch.2
+    } else {
+        covers_place(from, stretch)
+    }
+}
+
+/// Whether an empty stretch lies in a part, or at its end where this is the last place.
+fn stands_in_part(from: usize, to: usize, last: usize, start: usize) -> bool
+    ensures { result ≡ stands_in (from + 1) (to + 1) (last + 1) (span_at (0, start, start)) }
+{
+    start == from || (from < start && start < to) || (start == to && to == last)
+}
+
+impl Question {
+    /// Whether the answer is yes for a stretch.
+    fn passes(self, stretch: Stretch) -> bool
+        ensures { result ≡ test_of self (span_at stretch) }
+    {
+        match self {
+            Question::At { i } => covers_place(i, stretch),
+            Question::Within { from, to, end } if stretch.1 == stretch.2 => {
+                stands_in_part(from, to, end, stretch.1)
+            }
+            Question::Within { from, to, .. } => overlaps_part(from, to, stretch),
+        }
+    }
+}
+
+impl Slot {
+    /// Whether the overlay stands in the buffer and passes a test.
+    pub fn answers(&self, buffer: u32, question: Question) -> bool
+        ensures { result ≡ span_passes buffer (test_of question) (overlay_of self.now).span }
+    {
+        self.span
+            .is_some_and(|stretch| stretch.0 == buffer && question.passes(stretch))
+    }
+
+    /// Whether it covers a place of the buffer and has a property.
+    pub fn has_at(&self, buffer: u32, i: usize, name: Sym) -> bool
+        ensures { result ≡ (span_passes buffer (covers (i + 1)) (overlay_of self.now).span && is_some (get self.now.props name.0)) }
+    {
+        self.answers(buffer, Question::At { i }) && self.props.get(name).is_some()
+    }
+
+    /// Its priority: 0 where none is given as a number.
+    fn rank(&self) -> i64
+        ensures { result ≡ rank (overlay_of self.now) }
+    {
+        match self.props.get(PRIORITY) {
+            Some(PropVal::Int(i)) => *i,
+            _ => 0,
+        }
+    }
+
+    /// Its two places, or 0 where it has no buffer.
+    fn places(&self) -> (usize, usize)
+        ensures start { result.0 ≡ start_of (overlay_of self.now).span }
+        ensures end { result.1 ≡ end_of (overlay_of self.now).span }
+    {
+        self.span.map_or((0, 0), |(_, start, end)| (start, end))
+    }
+
+    /// Whether it wins over another overlay of a smaller number.
+    pub fn outranks(&self, earlier: &Slot) -> bool
+        ensures { result ≡ outranks (overlay_of self.now) (overlay_of earlier.now) }
+    {
+        let (rank, other) = (self.rank(), earlier.rank());
+        let (start, end) = self.places();
+        let (other_start, other_end) = earlier.places();
+        rank > other
+            || (rank == other
+                && (start > other_start || (start == other_start && end <= other_end)))
+    }
+
+    /// Whether the overlay is deleted as soon as it is empty.
+    fn evaporates(&self) -> bool
+        ensures { result ≡ is_some (get self.now.props evaporate) }
+    {
+        self.props.get(EVAPORATE).is_some()
+    }
+
+    /// Where a stretch of the overlay goes at an insertion into its buffer.
+    fn after_insert(&self, stretch: Stretch, at: usize, n: usize, all: bool) -> Stretch
+        requires start { n + stretch.1 ≤ usize.MAX }
+        requires end { n + stretch.2 ≤ usize.MAX }
+        ensures { Some (span_at result) ≡ (move_overlay stretch.0 all (insertion at n) (with_span (overlay_of self.now) stretch)).span }
+    {
+        let (buffer, start, end) = stretch;
+        let start_advances = all || (self.front && (self.rear || start != end));
+        let start = place_after_insert(at, n, start_advances, start);
+        let end = place_after_insert(at, n, self.rear || all, end);
+        (buffer, start, end)
+    }
+
+    /// Where a stretch of the overlay goes at a deletion in its buffer, if anywhere.
+    fn after_delete(&self, stretch: Stretch, from: usize, to: usize) -> Option<Stretch>
+        requires { from ≤ to }
+        ensures { span_of result ≡ (evaporated stretch.0 (move_overlay stretch.0 false (deletion from to) (with_span (overlay_of self.now) stretch))).span }
+    {
+        let (buffer, start, end) = stretch;
+        let start = place_after_delete(from, to, start);
+        let end = place_after_delete(from, to, end);
+        if start == end && self.evaporates() {
+            None
+        } else {
+            Some((buffer, start, end))
+        }
+    }
+
+    /// Where it stands after a change of a buffer.
+    pub fn moved(&self, buffer: u32, change: Change) -> Option<Stretch>
+        requires { CanMoveIn buffer change (overlay_of self.now) }
+        ensures { record (overlay_of self.now) { span = span_of result } ≡ moved_by buffer change (overlay_of self.now) }
+    {
+        match (self.span, change) {
+            (Some(stretch), Change::Insertion { at, n, all }) if stretch.0 == buffer => {
+                Some(self.after_insert(stretch, at, n, all))
+            }
+            (Some(stretch), Change::Deletion { from, to }) if stretch.0 == buffer => {
+                self.after_delete(stretch, from, to)
+            }
+            (span, _) => span,
+        }
+    }
+
+    /// Where it stands after a buffer was killed.
+    pub fn left(&self, buffer: u32) -> Option<Stretch>
+        ensures { record (overlay_of self.now) { span = span_of result } ≡ overlay_left buffer (overlay_of self.now) }
+    {
+        match self.span {
+            Some(stretch) if stretch.0 == buffer => None,
+            other => other,
+        }
+    }
+
+    /// Its properties with one given anew, or taken away where `v` is none or nil.
+    pub fn props_with(&self, name: Sym, v: Option<&PropVal>) -> Mem<PropSet>
+        ensures { IfOk result (λ set. set ≡ put self.now.props name.0 (given_of (option_map (λ p. prop_of p.now) v.entry))) }
+    {
+        match v {
+            Some(value) => self.props.with(name, value),
+            None => self.props.without(name),
+        }
+    }
+
+    /// The nearest of its places behind `i` and of one that was found, where it stands in the buffer.
+    pub fn nearer_next(&self, buffer: u32, i: usize, found: Option<usize>) -> Option<usize>
+        ensures { (last : ℕ) → next_or last result ≡ least (next_or last found) (filter (λ x. nat_lt (i + 1) x) (ends_of_span buffer (overlay_of self.now).span)) }
+    {
+        match self.span {
+            Some((b, start, end)) if b == buffer => nearer_behind(
+                i,
+                end,
+                nearer_behind(i, start, found),
+            ),
+            _ => found,
+        }
+    }
+
+    /// The nearest of its places before `i` and of one that was found, where it stands in the buffer.
+    pub fn nearer_previous(&self, buffer: u32, i: usize, found: Option<usize>) -> Option<usize>
+        ensures { (first : ℕ) → previous_or first result ≡ greatest (previous_or first found) (filter (λ x. nat_lt x (i + 1)) (ends_of_span buffer (overlay_of self.now).span)) }
+    {
+        match self.span {
+            Some((b, start, end)) if b == buffer => nearer_before(
+                i,
+                end,
+                nearer_before(i, start, found),
+            ),
+            _ => found,
+        }
+    }
+
+    /// An overlay of its own that is alike.
+    pub fn copy(&self) -> Mem<Slot>
+        ensures { IfOk result (λ copy. overlay_of copy ≡ overlay_of self.now) }
+    {
+        Ok(Slot {
+            span: self.span,
+            front: self.front,
+            rear: self.rear,
+            props: self.props.copy()?,
+        })
+    }
+}
+
+/// The nearer of a place, where it lies behind `i`, and one that was found.
+fn nearer_behind(i: usize, place: usize, found: Option<usize>) -> Option<usize>
+    ensures { (last : ℕ) → next_or last result ≡ least (next_or last found) (filter (λ x. nat_lt (i + 1) x) ((place + 1) ∷ [])) }
+{
+    match found {
+        Some(other) if place <= i || other <= place => found,
+        None if place <= i => None,
+        _ => Some(place),
+    }
+}
+
+/// The nearer of a place, where it lies before `i`, and one that was found.
+fn nearer_before(i: usize, place: usize, found: Option<usize>) -> Option<usize>
+    ensures { (first : ℕ) → previous_or first result ≡ greatest (previous_or first found) (filter (λ x. nat_lt x (i + 1)) ((place + 1) ∷ [])) }
+{
+    match found {
+        Some(other) if i <= place || place <= other => found,
+        None if i <= place => None,
+        _ => Some(place),
+    }
+}
