@@ -154,3 +154,42 @@ in_front-other x y ys h = if_false _ h
 pub ruleset glue_steps = (size-append, glued-push, glued-nil)
 
 pub ruleset meet_steps = (size-append, in_front-same, in_front-other)
+
+-- THE RUN AT A PLACE
+pub run_at-front : (xs ys : List Run) (place : ℕ) (set : PropSet) (start end : ℕ) → IsRunAt xs place set start end → IsRunAt (xs ++ ys) place set start end
+run_at-front xs ys place set start end h =
+    record { front = h.front; back = h.back ++ ys; runs_are = ap (λ r. r ++ ys) h.runs_are ∙ append_assoc h.front ((set, end - start) ∷ h.back) ys; start_is = h.start_is; starts = h.starts; ends = h.ends }
+
+pub run_at-behind : (xs ys : List Run) (place : ℕ) (set : PropSet) (start end : ℕ) → IsRunAt ys place set start end → IsRunAt (xs ++ ys) (size xs + place) set (size xs + start) (size xs + end)
+run_at-behind xs ys place set start end h =
+    let same : (size xs + end) - (size xs + start) ≡ end - start = omega arith in
+    record {
+      front = xs ++ h.front;
+      back = h.back;
+      runs_are = rw same (ap (λ r. xs ++ r) h.runs_are ∙ sym (append_assoc xs h.front ((set, end - start) ∷ h.back)));
+      start_is = ap (λ n. size xs + n) h.start_is ∙ sym (size-append xs h.front);
+      starts = let s = h.starts in omega arith;
+      ends = let e = h.ends in omega arith;
+    }
+
+pub run_at-here : (x : Run) (ys : List Run) (place : ℕ) → place < x.1 → IsRunAt (x ∷ ys) place x.0 0 x.1
+run_at-here x ys place h = let same : x.1 - 0 ≡ x.1 = omega arith in record { front = []; back = ys; runs_are = rw same refl; start_is = refl; starts = omega arith; ends = h }
+
+-- in a node
+pub run_at-node : (left : List Run) (x : Run) (right : List Run) (place front : ℕ) → front ≡ size left → front ≤ place → place - front < x.1 → IsRunAt (left ++ x ∷ right) place x.0 front (front + x.1)
+run_at-node left x right place front e h k =
+    let found = run_at-behind left (x ∷ right) (place - front) x.0 0 x.1 (run_at-here x right (place - front) k) in
+    let p : size left + (place - front) ≡ place = omega arith in
+    let a : size left + 0 ≡ front = omega arith in
+    let b : size left + x.1 ≡ front + x.1 = omega arith in
+    rw (a, b, p) at found
+
+pub run_at-right : (left : List Run) (x : Run) (right : List Run) (place front : ℕ) (set : PropSet) (start end : ℕ) → front ≡ size left → front + x.1 ≤ place → IsRunAt right (place - front - x.1) set start end →
+    IsRunAt (left ++ x ∷ right) place set (front + x.1 + start) (front + x.1 + end)
+run_at-right left x right place front set start end e h found =
+    let all : IsRunAt ((left ++ x ∷ []) ++ right) (size (left ++ x ∷ []) + (place - front - x.1)) set (size (left ++ x ∷ []) + start) (size (left ++ x ∷ []) + end) = run_at-behind (left ++ x ∷ []) right (place - front - x.1) set start end found in
+    let w : size (left ++ x ∷ []) ≡ front + x.1 = (let t = size-append left (x ∷ []) in omega arith) in
+    let p : (front + x.1) + (place - front - x.1) ≡ place = omega arith in
+    rw (append_assoc left (x ∷ []) right, w, p) at all
+
+pub ruleset find_steps = (size-append, run_at-front, run_at-node, run_at-right)

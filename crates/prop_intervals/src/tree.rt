@@ -1,9 +1,10 @@
 //! A tree of runs.
-ghost use Rattle.std.specs.Prelude.{◌≡◌, ◌+◌, ◌<◌, ◌^◌, [], ◌∷◌, ◌++◌};
-ghost use Rattle.prop_intervals.specs.Runs.{size, grown};
+ghost use Rattle.std.specs.Prelude.{◌≡◌, ◌+◌, ◌<◌, ◌^◌, [], ◌∷◌, ◌++◌, ◌≤◌, IfOk};
+ghost use Rattle.prop_intervals.specs.Runs.{size, grown, IsRunAt};
 ghost use Rattle.prop_intervals.specs.Tree.{runs_of, run_of};
 
-use ek_types::PropSet;
+use ek_types::{Mem, PropSet};
+use std::alloc::Global;
 use std::marker::Model;
 use std::mem;
 
@@ -32,6 +33,14 @@ pub(crate) struct Node {
     pub(crate) total: usize,
     pub(crate) height: u32,
     pub(crate) right: Tree,
+}
+
+/// A run of a tree: its set, and the places where it starts and ends.
+#[derive(Clone, Copy)]
+pub(crate) struct Found<'a> {
+    pub(crate) set: &'a PropSet,
+    pub(crate) start: usize,
+    pub(crate) end: usize,
 }
 
 impl Model for Tree {
@@ -77,6 +86,68 @@ impl Tree {
         }
     }
 
+    /// The run at a place.
+    #[tactic(auto, using(crate::proofs::RunLemmas::find_steps))]
+    pub(crate) fn find(&self, place: usize) -> Found<'_>
+        requires { place < size self.now }
+        ensures exact { IsRunAt self.now place result.set.now result.start result.end }
+        ensures within { result.end ≤ size self.now }
+    {
+        match &self.root {
+            Link::Empty => unreachable!(),
+            Link::Full(node) => {
+                let node: &Node = node;
+                let front = node.left.len();
+                let _total = node.total;
+                if place < front {
+                    return node.left.find(place);
+                }
+                if place - front < node.len {
+                    return Found {
+                        set: &node.set,
+                        start: front,
+                        end: front + node.len,
+                    };
+                }
+                let found = node.right.find(place - front - node.len);
+                Found {
+                    set: found.set,
+                    start: front + node.len + found.start,
+                    end: front + node.len + found.end,
+                }
+            }
+        }
+    }
+
+    /// The same runs again.
+    pub(crate) fn copy(&self, alloc: Global) -> Mem<Tree>
+        ensures { IfOk result (λ t. t ≡ self.now) }
+    {
+        match &self.root {
+            Link::Empty => Ok(Tree::new()),
+            Link::Full(node) => {
+                let node: &Node = node;
+                let left = node.left.copy(alloc)?;
+                let set = node.set.copy()?;
+                let right = node.right.copy(alloc)?;
+                let copy = Box::new(
+                    alloc,
+                    Node {
+                        left,
+                        set,
+                        len: node.len,
+                        total: node.total,
+                        height: node.height,
+                        right,
+                    },
+                )?;
+                Ok(Tree {
+                    root: Link::Full(copy),
+                })
+            }
+        }
+    }
+
     /// Makes the run at a place longer.
     #[tactic(auto, using(crate::proofs::RunLemmas::grow_steps))]
     pub(crate) fn grow(&mut self, at: usize, n: usize)
@@ -102,6 +173,21 @@ impl Tree {
             }
         }
     }
+}
+
+/// A run by itself.
+pub(crate) fn alone(alloc: Global, set: PropSet, len: usize) -> Mem<Box<Node>>
+    ensures { IfOk result (λ n. run_of n.value ≡ (set, len)) }
+{
+    let node = Node {
+        left: Tree::new(),
+        set,
+        len,
+        total: len,
+        height: 1,
+        right: Tree::new(),
+    };
+    Ok(Box::new(alloc, node)?)
 }
 
 #[tactic(auto, using(crate::proofs::RunLemmas::size_steps))]
