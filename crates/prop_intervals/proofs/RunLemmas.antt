@@ -1,10 +1,10 @@
 -- Lists of runs.
-use Rattle.std.proofs.Common.{◌≡◌, ℕ, zero, suc, ◌+◌, ◌-◌, ◌≤◌, ◌<◌, Bool, true, false, List, [], ◌∷◌, ◌++◌, length, take, drop, refl, ap, sym, ◌∙◌, append-nil, append_assoc, arith}
-use Rattle.std.specs.Prelude.{nat_lt, ◌==◌, if◌then◌else◌, replicate, MatchBool}
+use Rattle.std.proofs.Common.{◌≡◌, ℕ, ◌+◌, ◌-◌, ◌≤◌, ◌<◌, Bool, true, false, List, [], ◌∷◌, ◌++◌, refl, ap, sym, ◌∙◌, append-nil, append_assoc, arith}
+use Rattle.std.specs.Prelude.{nat_lt, ◌==◌, if◌then◌else◌, MatchBool}
 use Rattle.std.proofs.lemmas.Bool.{ne_eqb, lt-ltb, le-ltb, ltb-true, ltb-false}
 use Rattle.text_model.specs.Properties.{PropSet, same_set}
 use Rattle.text_model.proofs.Sets.{if_true, if_false, by_test}
-use Rattle.prop_intervals.specs.Runs.{Run, size, sets_of, grown, before, behind, in_front, glued, IsRunAt, SetAt}
+use Rattle.prop_intervals.specs.Runs.{Run, size, grown, before, behind, in_front, glued, IsRunAt, SetAt}
 
 pub size-append : (xs ys : List Run) → size (xs ++ ys) ≡ size xs + size ys
 size-append [] ys = omega arith

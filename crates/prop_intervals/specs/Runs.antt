@@ -1,5 +1,5 @@
 -- Runs of one property set: how many characters have it.
-use Rattle.std.specs.Prelude.{◌≡◌, ℕ, ◌+◌, ◌-◌, ◌≤◌, ◌<◌, Bool, true, false, nat_lt, ◌==◌, List, [], ◌∷◌, ◌++◌, replicate, if◌then◌else◌, MatchBool}
+use Rattle.std.specs.Prelude.{◌≡◌, ℕ, ◌+◌, ◌-◌, ◌≤◌, ◌<◌, false, nat_lt, ◌==◌, List, [], ◌∷◌, ◌++◌, replicate, if◌then◌else◌, MatchBool}
 use Rattle.text_model.specs.Properties.{PropSet, same_set}
 
 abbrev pub Run : Type 0

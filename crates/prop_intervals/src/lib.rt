@@ -3,5 +3,10 @@
 
 mod balance;
 mod cut;
+mod pieces;
+mod props;
 mod same;
+mod splice;
 mod tree;
+
+pub use props::Props;

@@ -1,5 +1,5 @@
 //! Whether two property sets are the same.
-ghost use Rattle.std.specs.Prelude.{◌≡◌, ◌+◌, ◌<◌, ◌≤◌, ◌==◌, ◌&&◌, length, map};
+ghost use Rattle.std.specs.Prelude.{◌≡◌, ◌+◌, ◌<◌, ◌≤◌, ◌==◌, ◌&&◌, length, map, option_map};
 ghost use Rattle.text_model.specs.Properties.{same_set, same_value, same_list, same_ch, same_option};
 ghost use Rattle.ek_types.specs.Property.{prop_of, number_of};
 ghost use Rattle.ek_types.specs.Listing.{items_of};
@@ -78,4 +78,15 @@ pub(crate) fn same_set(a: &PropSet, b: &PropSet) -> bool
         }
     }
     true
+}
+
+/// Whether two values are the same, where nil is `None`.
+pub(crate) fn same_option(a: Option<&PropVal>, b: Option<&PropVal>) -> bool
+    ensures { result ≡ same_option same_value (option_map (λ v. prop_of v.now) a.entry) (option_map (λ v. prop_of v.now) b.entry) }
+{
+    match (a, b) {
+        (None, None) => true,
+        (Some(v), Some(w)) => same_value(v, w),
+        _ => false,
+    }
 }

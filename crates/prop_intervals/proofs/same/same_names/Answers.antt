@@ -1,4 +1,4 @@
-use Rattle.std.proofs.Common.{◌≡◌, ap, sym, ◌∙◌, map, option_map}
+use Rattle.std.proofs.Common.{ap, ◌∙◌, map, option_map}
 use Rattle.std.specs.Prelude.{◌==◌}
 use Rattle.std.proofs.lemmas.Bool.{eq-eqb, ne_eqb}
 use Rattle.std.proofs.lemmas.Option.{slice_get-map}
@@ -14,7 +14,9 @@ returns-then-at c =
     (ne_eqb _ _ c.if-at.true) c.loop-i.invariant.0
 
 pub loop-i-preserved : goal.loop-i-preserved
-loop-i-preserved c =
-    (agree_at (λ x y. x == y) (map number_of (items_of c.args.a.now)) (map number_of (items_of c.args.b.now)) c.loop-i.i _ _ _
-    (slice_get-map number_of (items_of c.args.a.now) c.loop-i.i ∙ ap (option_map number_of) c.at.ensures) (slice_get-map number_of (items_of c.args.b.now) c.loop-i.i ∙ ap (option_map number_of) c.at-in-loop-i.ensures)
-    (eq-eqb _ _ c.if-at.false) c.loop-i.invariant.0, c.loop-i.invariant.1)
+loop-i-preserved c = (
+  agree_at (λ x y. x == y) (map number_of (items_of c.args.a.now)) (map number_of (items_of c.args.b.now)) c.loop-i.i _ _ _
+      (slice_get-map number_of (items_of c.args.a.now) c.loop-i.i ∙ ap (option_map number_of) c.at.ensures) (slice_get-map number_of (items_of c.args.b.now) c.loop-i.i ∙ ap (option_map number_of) c.at-in-loop-i.ensures)
+      (eq-eqb _ _ c.if-at.false) c.loop-i.invariant.0,
+  c.loop-i.invariant.1,
+)
