@@ -1,10 +1,10 @@
 -- Property sets that a test finds the same.
 use Rattle.std.proofs.Common.{◌≡◌, ◌≢◌, ℕ, zero, suc, ◌+◌, ◌≤◌, Bool, true, false, List, [], ◌∷◌, length, drop, refl, ap, arith}
-use Rattle.std.specs.Prelude.{◌==◌, ◌&&◌, slice_get, Some}
+use Rattle.std.specs.Prelude.{◌==◌, ◌&&◌, not, slice_get, Option, Some, None}
 use Rattle.std.proofs.lemmas.Bool.{eqb-true, eq-eqb}
 use Rattle.std.proofs.lemmas.Bool.Decides.{Decides-int_eq}
 use Rattle.text_model.specs.Characters.{Ch, Scalar, Raw}
-use Rattle.text_model.specs.Properties.{PropVal, Truth, Number, Symbol, Symbols, Text, PropSet, same_list, same_ch, same_value, same_set}
+use Rattle.text_model.specs.Properties.{PropVal, Truth, Number, Symbol, Symbols, Text, PropSet, same_list, same_option, same_ch, same_value, same_set}
 
 next_dropped : {A : Type 0} (xs : List A) (i : ℕ) (x : A) → slice_get xs i ≡ Some x → drop i xs ≡ x ∷ drop (i + 1) xs
 next_dropped [] i x h = cc
@@ -40,7 +40,7 @@ lengths_differ same (x ∷ xs) (y ∷ ys) h = go (same x y) (lengths_differ same
     go false k = refl
 
 -- THE SAME
-same_list-sound : {A : Type 0} (same : A → A → Bool) → ((x y : A) → same x y ≡ true → x ≡ y) → (xs ys : List A) → same_list same xs ys ≡ true → xs ≡ ys
+pub same_list-sound : {A : Type 0} (same : A → A → Bool) → ((x y : A) → same x y ≡ true → x ≡ y) → (xs ys : List A) → same_list same xs ys ≡ true → xs ≡ ys
 same_list-sound same s [] [] h = refl
 same_list-sound same s [] (y ∷ ys) h = cc
 same_list-sound same s (x ∷ xs) [] h = cc
@@ -51,7 +51,7 @@ same_list-sound same s (x ∷ xs) (y ∷ ys) h = go (same_list-sound same s xs y
     go ih true false p q r = cc
     go ih false b p q r = cc
 
-same_list-same : {A : Type 0} (same : A → A → Bool) → ((x : A) → same x x ≡ true) → (xs : List A) → same_list same xs xs ≡ true
+pub same_list-same : {A : Type 0} (same : A → A → Bool) → ((x : A) → same x x ≡ true) → (xs : List A) → same_list same xs xs ≡ true
 same_list-same same s [] = refl
 same_list-same same s (x ∷ xs) = rw (s x) (same_list-same same s xs)
 
@@ -102,3 +102,22 @@ pair_same p = rw (eq-eqb p.0 p.0 refl) (same_value-same p.1)
 
 pub same_set-same : (a : PropSet) → same_set a a ≡ true
 same_set-same a = same_list-same {A = ℕ × PropVal} (λ p q. (p.0 == q.0) && same_value p.1 q.1) pair_same a
+
+pub same_option-sound : (a b : Option PropVal) → same_option same_value a b ≡ true → a ≡ b
+same_option-sound None None h = refl
+same_option-sound (Some a) (Some b) h = ap Some (same_value-sound a b h)
+same_option-sound None (Some b) h = cc
+same_option-sound (Some a) None h = cc
+
+pub same_option-same : (a : Option PropVal) → same_option same_value a a ≡ true
+same_option-same None = refl
+same_option-same (Some a) = same_value-same a
+
+-- TESTS
+pub same_from : (a b : Bool) → a ≡ not b → a ≡ false → b ≡ true
+same_from a true h k = refl
+same_from a false h k = cc
+
+pub other_from_test : (a b : Bool) → a ≡ not b → a ≡ true → b ≡ false
+other_from_test a true h k = cc
+other_from_test a false h k = refl

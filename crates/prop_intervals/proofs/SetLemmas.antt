@@ -156,7 +156,7 @@ drop_run (x ∷ front) set n back place h k =
     let e : size front + n - (place - x.1) ≡ (x.1 + size front) + n - place = omega arith in
     drop_past place x.1 x.0 (sets_of (front ++ (set, n) ∷ back)) (omega arith) ∙ drop_run front set n back (place - x.1) (omega arith) (omega arith) ∙ ap (λ i. replicate i set ++ sets_of back) e
 
-drop_found : (runs : List Run) (place : ℕ) (set : PropSet) (start end : ℕ) (h : IsRunAt runs place set start end) → drop place (sets_of runs) ≡ replicate (end - place) set ++ sets_of h.back
+pub drop_found : (runs : List Run) (place : ℕ) (set : PropSet) (start end : ℕ) (h : IsRunAt runs place set start end) → drop place (sets_of runs) ≡ replicate (end - place) set ++ sets_of h.back
 drop_found runs place set start end h =
     let a = h.start_is in let s = h.starts in let t = h.ends in
     let e : size h.front + (end - start) - place ≡ end - place = omega arith in

@@ -1,5 +1,5 @@
 -- The property sets of a text, and where they change.
-use Rattle.std.specs.Prelude.{ℕ, ◌+◌, not, List, [], ◌∷◌, map, length, drop, Option, Some, None, unwrap_or}
+use Rattle.std.specs.Prelude.{ℕ, Bool, ◌+◌, not, List, [], ◌∷◌, map, length, drop, Option, Some, None, unwrap_or}
 use Rattle.text_model.specs.Properties.{PropSet, Cell, get, same_set, same_value, same_option}
 use Rattle.text_model.specs.PropertyQuestions.{first_where, changes}
 
@@ -18,3 +18,8 @@ run_end place sets = elim (drop place sets) [ [] ↦ place | set ∷ more ↦ ot
 abbrev pub changes_of : Option ℕ → List PropSet → List ℕ
 changes_of None sets = changes same_set sets
 changes_of (Some name) sets = changes (same_option same_value) (map (λ s. get s name) sets)
+
+-- whether two sets are the same, or only the values of one property, if one is named
+abbrev pub same_by : Option ℕ → PropSet → PropSet → Bool
+same_by None a b = same_set a b
+same_by (Some name) a b = same_option same_value (get a name) (get b name)

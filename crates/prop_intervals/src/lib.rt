@@ -2,11 +2,15 @@
 #![tactic(auto)]
 
 mod balance;
+mod change;
 mod cut;
+mod edit;
 mod pieces;
 mod props;
+mod questions;
 mod same;
 mod splice;
 mod tree;
 
+pub use edit::PropEdit;
 pub use props::Props;
