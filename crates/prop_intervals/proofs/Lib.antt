@@ -1,0 +1,6 @@
+pub mod RunLemmas
+pub mod SameLemmas
+pub mod SetLemmas
+pub mod EditLemmas
+pub mod ChangeLemmas
+pub mod QuestionLemmas

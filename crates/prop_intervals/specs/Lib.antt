@@ -1,0 +1,4 @@
+pub mod Runs
+pub mod Tree
+pub mod Sets
+pub mod Edits

@@ -1,0 +1,16 @@
+//! The property sets of a text, one per character, kept as runs of one set in a balanced tree.
+#![tactic(auto)]
+
+mod balance;
+mod change;
+mod cut;
+mod edit;
+mod pieces;
+mod props;
+mod questions;
+mod same;
+mod splice;
+mod tree;
+
+pub use edit::PropEdit;
+pub use props::Props;

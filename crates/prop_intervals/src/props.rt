@@ -1,0 +1,162 @@
+//! The property sets of a text.
+ghost use Rattle.std.specs.Prelude.{◌≡◌, ◌≢◌, ◌↔◌, ◌+◌, ◌-◌, ◌<◌, ◌≤◌, [], ◌++◌, IfOk, OnOk, OnErr, MatchBool, IsTrue, length, map, take, drop, slice_get, Some, option_map, not};
+ghost use Rattle.text_model.specs.Properties.{edited, same_list, same_set};
+ghost use Rattle.text_model.specs.PropertyQuestions.{next_change, previous_change};
+ghost use Rattle.ek_types.specs.Property.{number_of};
+ghost use Rattle.prop_intervals.specs.Edits.{edit_of};
+ghost use Rattle.prop_intervals.specs.Runs.{sets_of, AreApart, SetAt};
+ghost use Rattle.prop_intervals.specs.Sets.{sets_in, run_end, changes_of};
+
+use crate::change::edited_runs;
+use crate::edit::PropEdit;
+use crate::pieces::{is_all, runs_of};
+use crate::questions;
+use crate::splice::replace;
+use crate::tree::Tree;
+use ek_types::{Mem, Piece, PropSet, Sym};
+use std::alloc::Global;
+use std::marker::Model;
+
+/// The property sets of a text, one per character, counted from 0.
+///
+/// They are kept as runs of one set in a balanced tree, so that each call takes a time that grows with the logarithm
+/// of the number of runs.
+#[derive(Drop)]
+pub struct Props {
+    pub(crate) tree: Tree,
+    pub(crate) alloc: Global,
+}
+
+impl Model for Props {
+    ghost use Rattle.std.specs.Prelude.{List};
+    ghost use Rattle.text_model.specs.Properties.{PropSet as Pairs};
+
+    ghost Value = { List Pairs };
+
+    ghost use Rattle.prop_intervals.specs.Runs.{sets_of, AreApart};
+
+    ghost view = { λ a. sets_of a.tree };
+
+    ghost invariant = { λ a. AreApart a.tree };
+}
+
+impl Props {
+    /// No characters yet, and no memory taken.
+    pub fn new(alloc: Global) -> Props
+        ensures { result ≡ [] }
+    {
+        Props {
+            tree: Tree::new(),
+            alloc,
+        }
+    }
+
+    /// The set of a character.
+    pub fn at(&self, i: usize) -> &PropSet
+        requires { i < length self.now }
+        ensures { slice_get self.now i ≡ Some result.now }
+    {
+        self.tree.find(i).set
+    }
+
+    /// The first place behind another whose set differs from the set there, or the length.
+    pub fn run_end(&self, i: usize) -> usize
+        requires { i < length self.now }
+        ensures { result ≡ run_end i self.now }
+    {
+        self.tree.find(i).end
+    }
+
+    /// The sets again.
+    pub fn copy(&self) -> Mem<Props>
+        ensures { IfOk result (λ copy. copy ≡ self.now) }
+    {
+        let tree = self.tree.copy(self.alloc)?;
+        Ok(Props {
+            tree,
+            alloc: self.alloc,
+        })
+    }
+
+    /// The sets of the characters from one place to another replaced by those of a piece. Want of memory leaves all
+    /// as it was.
+    pub fn splice(&mut self, from: usize, to: usize, with: &Piece) -> Mem<()>
+        requires order { from ≤ to }
+        requires within { to ≤ length self.old }
+        ensures ok { OnOk result (self.new ≡ take from self.old ++ (sets_in with.now ++ drop to self.old)) }
+        ensures err { OnErr result (self.new ≡ self.old) }
+    {
+        if from == to && self.grow(from, with) {
+            return Ok(());
+        }
+        self.put(from, to, with)
+    }
+
+    /// The same for any piece.
+    fn put(&mut self, from: usize, to: usize, with: &Piece) -> Mem<()>
+        requires order { from ≤ to }
+        requires within { to ≤ length self.old }
+        ensures ok { OnOk result (self.new ≡ take from self.old ++ (sets_in with.now ++ drop to self.old)) }
+        ensures err { OnErr result (self.new ≡ self.old) }
+    {
+        let middle = runs_of(self.alloc, with)?;
+        replace(self.alloc, &mut self.tree, from, to, middle)
+    }
+
+    /// The sets of the characters from one place to another changed. It answers whether one of them is another then.
+    /// Want of memory leaves all as it was.
+    pub fn change(&mut self, from: usize, to: usize, edit: &PropEdit) -> Mem<bool>
+        requires order { from ≤ to }
+        requires within { to ≤ length self.old }
+        ensures ok { OnOk result (self.new ≡ take from self.old ++ (map (edited (edit_of edit.now)) (drop from (take to self.old)) ++ drop to self.old)) }
+        ensures changed { IfOk result (λ b. b ≡ not (same_list same_set self.old self.new)) }
+        ensures err { OnErr result (self.new ≡ self.old) }
+    {
+        let edited = edited_runs(self.alloc, &self.tree, from, to, edit)?;
+        if !edited.changed {
+            return Ok(false);
+        }
+        replace(self.alloc, &mut self.tree, from, to, edited.runs)?;
+        Ok(true)
+    }
+
+    /// The first place behind another where a set differs from the one in front of it, or only the value of one
+    /// property, if one is named ("Property Search" in the GNU Emacs Lisp Reference Manual). `None` where there is no
+    /// such place.
+    pub fn next_change(&self, i: usize, name: Option<Sym>) -> Option<usize>
+        requires { i ≤ length self.now }
+        ensures { result ≡ next_change i (length self.now) (changes_of (option_map number_of name) self.now) }
+    {
+        questions::next_change(&self.tree, i, name)
+    }
+
+    /// The last place in front of another where a set differs from the one in front of it, or only the value of one
+    /// property, if one is named. `None` where there is no such place.
+    pub fn prev_change(&self, i: usize, name: Option<Sym>) -> Option<usize>
+        requires { i ≤ length self.now }
+        ensures { result ≡ previous_change 0 i (changes_of (option_map number_of name) self.now) }
+    {
+        questions::previous_change(&self.tree, i, name)
+    }
+
+    /// Puts a piece in by making a run longer, if all its characters have the set of a run that is there.
+    fn grow(&mut self, at: usize, with: &Piece) -> bool
+        requires { at ≤ length self.old }
+        ensures { MatchBool result (self.new ≡ take at self.old ++ (sets_in with.now ++ drop at self.old)) (self.new ≡ self.old) }
+    {
+        let n = with.len();
+        let size = self.tree.len();
+        if n > usize::MAX - size {
+            return false;
+        }
+        if at < size && is_all(with, self.tree.find(at).set) {
+            self.tree.grow(at, n);
+            return true;
+        }
+        if at > 0 && is_all(with, self.tree.find(at - 1).set) {
+            self.tree.grow(at - 1, n);
+            return true;
+        }
+        false
+    }
+}

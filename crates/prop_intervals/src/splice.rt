@@ -1,0 +1,73 @@
+//! Runs of a tree replaced by others.
+ghost use Rattle.std.specs.Prelude.{◌≡◌, ◌+◌, ◌<◌, ◌≤◌, ◌++◌, ◌^◌, IfOk, OnOk, OnErr, replicate, take, drop};
+ghost use Rattle.prop_intervals.specs.Runs.{size, sets_of, AreApart, SetAt};
+
+use crate::cut::{cut, glue};
+use crate::tree::{Node, Tree, alone};
+use ek_types::{Mem, NoMemory, PropSet};
+use std::alloc::Global;
+use std::mem;
+
+/// A run by itself, with the set that stands at a place.
+fn spare(alloc: Global, tree: &Tree, at: usize) -> Mem<Box<Node>>
+    ensures { IfOk result (λ n. SetAt tree.now at n.value.set) }
+{
+    if at < tree.len() {
+        let node = alone(alloc, tree.find(at).set.copy()?, 1)?;
+        Ok(node)
+    } else {
+        let node = alone(alloc, PropSet::empty(alloc), 1)?;
+        Ok(node)
+    }
+}
+
+/// The runs from one place to another replaced, with spare runs for the two places.
+#[tactic(auto, using(crate::proofs::SetLemmas::cut_twice))]
+fn put_between(
+    tree: Tree,
+    from: usize,
+    to: usize,
+    middle: Tree,
+    first: Box<Node>,
+    second: Box<Node>,
+) -> Tree
+    requires order { from ≤ to }
+    requires within { to ≤ size tree }
+    requires apart { AreApart tree }
+    requires apart_too { AreApart middle }
+    requires fits { size tree + size middle < 2 ^ 64 }
+    requires first { SetAt tree from first.value.set }
+    requires second { SetAt tree to second.value.set }
+    ensures sets { sets_of result ≡ take from (sets_of tree) ++ (sets_of middle ++ drop to (sets_of tree)) }
+    ensures apart { AreApart result }
+{
+    let (head, back) = cut(tree, to, second);
+    let (front, _) = cut(head, from, first);
+    glue(glue(front, middle), back)
+}
+
+/// The runs from one place to another replaced. Want of memory leaves all as it was.
+pub(crate) fn replace(
+    alloc: Global,
+    tree: &mut Tree,
+    from: usize,
+    to: usize,
+    middle: Tree,
+) -> Mem<()>
+    requires order { from ≤ to }
+    requires within { to ≤ size tree.old }
+    requires apart { AreApart tree.old }
+    requires apart_too { AreApart middle }
+    ensures ok { OnOk result (sets_of tree.new ≡ take from (sets_of tree.old) ++ (sets_of middle ++ drop to (sets_of tree.old))) }
+    ensures err { OnErr result (tree.new ≡ tree.old) }
+    ensures apart { AreApart tree.new }
+{
+    if middle.len() > usize::MAX - tree.len() {
+        return Err(NoMemory);
+    }
+    let first = spare(alloc, tree, from)?;
+    let second = spare(alloc, tree, to)?;
+    let old = mem::replace(tree, Tree::new());
+    *tree = put_between(old, from, to, middle, first, second);
+    Ok(())
+}
