@@ -10,6 +10,8 @@ mod props;
 mod questions;
 mod same;
 mod splice;
+#[cfg(test)]
+mod tests;
 mod tree;
 
 pub use edit::PropEdit;

@@ -1,0 +1,219 @@
+//! Worked cases of property sets, and the time of many insertions.
+ghost use Rattle.std.specs.Prelude.{◌≡◌, ◌+◌, ◌-◌, ◌<◌, ◌≤◌, ◌^◌, length, IfOk, OnOk};
+
+use crate::{PropEdit, Props};
+use ek_types::{Ch, Chars, Mem, Piece, PropSet, PropVal, Sym, SymList};
+use std::alloc::Global;
+use std::test::Fail;
+
+const FACE: Sym = Sym(20);
+
+const MOUSE_FACE: Sym = Sym(21);
+
+/// A set of one property.
+fn face(alloc: Global, value: i64) -> Mem<PropSet> {
+    PropSet::empty(alloc).with(FACE, &PropVal::Int(value))
+}
+
+/// The face of a set, and 0 where it has none.
+fn face_of(set: &PropSet) -> i64 {
+    match set.get(FACE) {
+        Some(PropVal::Int(value)) => *value,
+        _ => 0,
+    }
+}
+
+/// The faces of all characters.
+fn faces(alloc: Global, props: &Props, size: usize) -> Mem<Vec<i64>>
+    requires { size ≡ length props.now }
+{
+    let mut faces = Vec::new(alloc);
+    for i in 0..size {
+        faces.push(face_of(props.at(i)))?;
+    }
+    Ok(faces)
+}
+
+/// Characters without properties.
+fn bare_text(alloc: Global, size: usize) -> Mem<Piece>
+    ensures { IfOk result (λ p. length p ≡ size) }
+{
+    let mut text = Chars::new(alloc);
+    for _ in 0..size {
+        text.push(Ch::Scalar('x'))?;
+    }
+    Ok(Piece::plain(alloc, text))
+}
+
+/// A text with a face from one place to another.
+fn with_face(alloc: Global, size: usize, from: usize, to: usize) -> Mem<Props>
+    requires order { from ≤ to }
+    requires within { to ≤ size }
+    ensures { IfOk result (λ p. length p ≡ size) }
+{
+    let mut text = bare_text(alloc, size)?;
+    text.put(from, to, &face(alloc, 1)?)?;
+    let mut props = Props::new(alloc);
+    props.splice(0, 0, &text)?;
+    Ok(props)
+}
+
+/// A change of a text, which keeps its length.
+fn changed(props: &mut Props, from: usize, to: usize, edit: &PropEdit) -> Mem<bool>
+    requires order { from ≤ to }
+    requires within { to ≤ length props.old }
+    ensures { length props.new ≡ length props.old }
+{
+    props.change(from, to, edit)
+}
+
+/// A part of a text replaced, and its length then.
+fn replaced(props: &mut Props, from: usize, to: usize, text: &Piece, size: usize) -> Mem<usize>
+    requires order { from ≤ to }
+    requires within { to ≤ length props.old }
+    requires size { size ≡ length props.old }
+    requires fits { length props.old + length text.now < 2 ^ 40 }
+    ensures { IfOk result (λ n. (n ≡ length props.new) × (n + (to - from) ≡ length props.old + length text.now)) }
+{
+    props.splice(from, to, text)?;
+    Ok(size - (to - from) + text.len())
+}
+
+/// A list of one name.
+fn just(alloc: Global, name: Sym) -> Mem<SymList> {
+    let mut names = SymList::new(alloc);
+    names.push(name)?;
+    Ok(names)
+}
+
+#[test]
+fn next_changes_and_a_change_to_what_is_there(rt: HostRuntime) -> Result<(), Fail> {
+    let alloc = rt.alloc();
+    let mut props = with_face(alloc, 4, 1, 3)?;
+    assert_eq!(rt; props.next_change(0, None), Some(1));
+    assert_eq!(rt; props.next_change(1, None), Some(3));
+    assert_eq!(rt; props.next_change(3, None), None);
+    assert_eq!(rt; props.next_change(4, None), None);
+    assert_eq!(rt; props.prev_change(4, None), Some(3));
+    assert_eq!(rt; props.prev_change(3, None), Some(1));
+    assert_eq!(rt; props.prev_change(1, None), None);
+    assert_eq!(rt; props.prev_change(0, None), None);
+    let again = PropEdit::Add(face(alloc, 1)?, SymList::new(alloc));
+    assert_eq!(rt; changed(&mut props, 1, 3, &again)?, false);
+    assert_eq!(rt; changed(&mut props, 1, 4, &again)?, true);
+    assert_eq!(rt;
+        faces(alloc, &props, 4)?.as_slice(),
+        [0i64, 1, 1, 1].as_slice()
+    );
+    Ok(())
+}
+
+#[test]
+fn adding_with_nil_takes_away(rt: HostRuntime) -> Result<(), Fail> {
+    let alloc = rt.alloc();
+    let mut props = with_face(alloc, 3, 0, 2)?;
+    let both = face(alloc, 2)?.with(MOUSE_FACE, &PropVal::Truth)?;
+    assert_eq!(rt; changed(&mut props, 1, 3, &PropEdit::Replace(both))?, true);
+    let add = PropEdit::Add(face(alloc, 3)?, just(alloc, MOUSE_FACE)?);
+    assert_eq!(rt; changed(&mut props, 0, 3, &add)?, true);
+    assert_eq!(rt;
+        faces(alloc, &props, 3)?.as_slice(),
+        [3i64, 3, 3].as_slice()
+    );
+    assert_eq!(rt; props.at(1).len(), 1);
+    assert_eq!(rt; props.run_end(0), 3);
+    Ok(())
+}
+
+#[test]
+fn runs_join_after_a_change_back(rt: HostRuntime) -> Result<(), Fail> {
+    let alloc = rt.alloc();
+    let mut props = with_face(alloc, 3, 1, 2)?;
+    assert_eq!(rt; props.run_end(0), 1);
+    assert_eq!(rt; props.run_end(1), 2);
+    let remove = PropEdit::Remove(just(alloc, FACE)?);
+    assert_eq!(rt; changed(&mut props, 1, 2, &remove)?, true);
+    assert_eq!(rt; props.run_end(0), 3);
+    assert_eq!(rt; props.next_change(0, None), None);
+    assert_eq!(rt; changed(&mut props, 0, 3, &remove)?, false);
+    Ok(())
+}
+
+#[test]
+fn changes_of_one_property(rt: HostRuntime) -> Result<(), Fail> {
+    let alloc = rt.alloc();
+    let mut props = with_face(alloc, 4, 0, 3)?;
+    let mouse = PropSet::empty(alloc).with(MOUSE_FACE, &PropVal::Truth)?;
+    let add = PropEdit::Add(mouse, SymList::new(alloc));
+    assert_eq!(rt; changed(&mut props, 1, 2, &add)?, true);
+    assert_eq!(rt; props.next_change(0, None), Some(1));
+    assert_eq!(rt; props.next_change(0, Some(FACE)), Some(3));
+    assert_eq!(rt; props.next_change(1, Some(MOUSE_FACE)), Some(2));
+    assert_eq!(rt; props.prev_change(4, Some(FACE)), Some(3));
+    assert_eq!(rt; props.prev_change(4, Some(MOUSE_FACE)), Some(2));
+    assert_eq!(rt; props.prev_change(3, Some(FACE)), None);
+    Ok(())
+}
+
+#[test]
+fn a_part_replaced(rt: HostRuntime) -> Result<(), Fail> {
+    let alloc = rt.alloc();
+    let mut props = with_face(alloc, 6, 2, 4)?;
+    let copy = props.copy()?;
+    let mut text = bare_text(alloc, 2)?;
+    text.put(0, 1, &face(alloc, 2)?)?;
+    let n = replaced(&mut props, 1, 3, &text, 6)?;
+    assert_eq!(rt;
+        faces(alloc, &props, n)?.as_slice(),
+        [0i64, 2, 0, 1, 0, 0].as_slice()
+    );
+    let n = replaced(&mut props, 1, 4, &bare_text(alloc, 0)?, n)?;
+    assert_eq!(rt;
+        faces(alloc, &props, n)?.as_slice(),
+        [0i64, 0, 0].as_slice()
+    );
+    assert_eq!(rt; props.run_end(0), 3);
+    assert_eq!(rt;
+        faces(alloc, &copy, 6)?.as_slice(),
+        [0i64, 0, 1, 1, 0, 0].as_slice()
+    );
+    Ok(())
+}
+
+const RUNS: usize = 131_072;
+
+/// A text of as many characters, each with a face of its own.
+fn own_faces(alloc: Global) -> Mem<Props>
+    ensures { IfOk result (λ p. length p ≡ 131072) }
+{
+    let mut text = bare_text(alloc, RUNS)?;
+    for i in 0..RUNS {
+        text.put(i, i + 1, &face(alloc, i as i64 + 1)?)?;
+    }
+    let mut props = Props::new(alloc);
+    props.splice(0, 0, &text)?;
+    Ok(props)
+}
+
+/// One character put in front, and then the face that stands 65,536 places in front of the end.
+fn put_in_front(props: &mut Props, x: &Piece, size: usize) -> Mem<i64>
+    requires one { length x.now ≡ 1 }
+    requires size { size ≡ length props.old }
+    requires long { 65536 ≤ size }
+    requires fits { size < 2 ^ 40 }
+    ensures { IfOk result (λ _. length props.new ≡ size + 1) }
+{
+    props.splice(0, 0, x)?;
+    Ok(face_of(props.at(size + 1 - 65_536)))
+}
+
+#[test]
+fn many_insertions_in_front_of_many_runs(rt: HostRuntime) -> Result<(), Fail> {
+    let alloc = rt.alloc();
+    let mut props = own_faces(alloc)?;
+    let x = bare_text(alloc, 1)?;
+    for k in 0..2_000_000usize {
+        assert_eq!(rt; put_in_front(&mut props, &x, RUNS + k)?, 65_537);
+    }
+    Ok(())
+}
