@@ -1,4 +1,5 @@
 pub mod Answers
 pub mod Forms
 pub mod Outcomes
+pub mod Outside
 pub mod Plain

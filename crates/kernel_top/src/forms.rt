@@ -1,71 +1,69 @@
 //! Forms, one after another.
-ghost use Rattle.std.specs.Prelude.{◌≡◌, ℕ, List, [], OnOk, OnErr, IfOk, IfErr, Err};
-ghost use Rattle.std.specs.Io.KnownBytes.{Appends};
-ghost use Rattle.editor_model.specs.Values.{Do};
-ghost use Rattle.script_read.specs.GrammarSoFar.{IsCallSoFar};
-ghost use Rattle.ek_types.specs.Io.{HasCause, Rose};
-ghost use Rattle.ek_call.specs.Meaning.{call_of, form_of, script_of};
-ghost use Rattle.kernel_top.specs.Answers.{ComesTo};
-ghost use Rattle.kernel_top.specs.Forms.{IsFormSoFar, AreFormsSoFar};
-ghost use Rattle.kernel_top.specs.Outcomes.{RanScript, StoppedScript, SaysAtMost};
-
-use crate::answer::Answer;
+use crate::answer::{Answer, Stop};
 use crate::apply::{delete_region, goto_char, insert};
-use crate::core_text::CoreText;
+use crate::ending::finish;
+use crate::kernel::Kernel;
 use crate::print;
+use crate::starting::start_process;
+use crate::waiting::accept_process_output;
 use ek_call::{Call, Form, Primitive, Script};
-use ek_types::{Mem, Sink};
+use ek_types::Sink;
+use host_link::Host;
 use std::alloc::Global;
 
-/// Why a run was broken off.
-#[derive(Clone, Copy, Debug, PartialEq, Eq)]
-pub enum Stop {
-    WriteFault,
-    NoMemory,
-}
-
-fn make(core: &mut CoreText, call: &Call) -> Mem<Answer>
-    requires { IsCallSoFar (call_of call.now) }
-    ensures ok { IfOk result (λ answer. ComesTo (Do (call_of call.now)) core.old core.new answer) }
-    ensures err { OnErr result (core.new ≡ core.old) }
-{
+fn make<K: Sink, H: Host>(
+    alloc: Global,
+    kernel: &mut Kernel,
+    host: &mut H,
+    sink: &mut K,
+    call: &Call,
+) -> Result<Answer, Stop> {
     match call.prim {
-        Primitive::Insert => insert(core, call.args.at(0)),
-        Primitive::GotoChar => Ok(goto_char(core, call.args.at(0))),
-        Primitive::DeleteRegion => Ok(delete_region(core, call.args.at(0), call.args.at(1))),
+        Primitive::Insert => Ok(insert(kernel, call.args.at(0))?),
+        Primitive::GotoChar => Ok(goto_char(kernel, call.args.at(0))),
+        Primitive::DeleteRegion => Ok(delete_region(kernel, call.args.at(0), call.args.at(1))),
+        Primitive::StartProcess => start_process(alloc, kernel, host, &call.args),
+        Primitive::AcceptProcessOutput => {
+            accept_process_output(alloc, kernel, host, sink, &call.args)
+        }
         _ => unreachable!(),
     }
 }
 
-fn run_form(core: &mut CoreText, form: &Form) -> Mem<Answer>
-    requires { IsFormSoFar (form_of form.now) }
-    ensures ok { IfOk result (λ answer. ComesTo (form_of form.now) core.old core.new answer) }
-    ensures err { OnErr result (core.new ≡ core.old) }
-{
+fn run_form<K: Sink, H: Host>(
+    alloc: Global,
+    kernel: &mut Kernel,
+    host: &mut H,
+    sink: &mut K,
+    form: &Form,
+) -> Result<(), Stop> {
     let Form::Do(call) = form else { unreachable!() };
-    make(core, call)
+    let answer = make(alloc, kernel, host, sink, call)?;
+    print::reply(sink, answer, &kernel.processes)?;
+    Ok(())
 }
 
-/// Runs all forms of a script, and writes their lines and the dump.
-pub fn run_script<K: Sink>(alloc: Global, script: &Script, sink: &mut K) -> Result<(), Stop>
-    requires { AreFormsSoFar (script_of script.now).forms }
-    ensures ok { OnOk result ((written : List ℕ) × Appends (K.state sink.old).held (K.state sink.new).held written × RanScript (script_of script.now) [] written) }
-    ensures err { OnErr result ((written : List ℕ) × Appends (K.state sink.old).held (K.state sink.new).held written
-        × StoppedScript (script_of script.now) [] written (Rose (K.state sink.old).faults (K.state sink.new).faults → ⊥)) }
-    ensures cause { HasCause (K.state sink.old).faults (K.state sink.new).faults (result ≡ Err Stop.WriteFault) }
-    ensures roomy { SaysAtMost (script_of script.now) (K.state sink.old).room → (K.state sink.new).faults ≡ (K.state sink.old).faults }
-{
-    let mut core = CoreText::new(alloc);
+fn run_forms<K: Sink, H: Host>(
+    alloc: Global,
+    kernel: &mut Kernel,
+    host: &mut H,
+    sink: &mut K,
+    script: &Script,
+) -> Result<(), Stop> {
     for i in 0..script.forms.len() {
-        let Ok(answer) = run_form(&mut core, script.forms.at(i)) else {
-            return Err(Stop::NoMemory);
-        };
-        let Ok(()) = print::reply(sink, answer) else {
-            return Err(Stop::WriteFault);
-        };
+        run_form(alloc, kernel, host, sink, script.forms.at(i))?;
     }
-    match print::dump(sink, &core) {
-        Ok(()) => Ok(()),
-        Err(_) => Err(Stop::WriteFault),
-    }
+    Ok(())
+}
+
+/// Runs all forms of a script, kills the children that still run, and writes the lines and the dump.
+pub fn run_script<K: Sink, H: Host>(
+    alloc: Global,
+    script: &Script,
+    host: &mut H,
+    sink: &mut K,
+) -> Result<(), Stop> {
+    let mut kernel = Kernel::new(alloc);
+    let ran = run_forms(alloc, &mut kernel, host, sink, script);
+    finish(ran, &kernel, host, sink)
 }

@@ -4,10 +4,16 @@
 mod answer;
 mod apply;
 mod core_text;
+mod ending;
 mod forms;
+mod handlers;
+mod hearing;
+mod kernel;
 mod print;
+mod starting;
 mod status;
 mod top;
+mod waiting;
 
 pub use status::Status;
 pub use top::run;

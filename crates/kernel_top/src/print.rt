@@ -12,7 +12,9 @@ ghost use Rattle.kernel_top.specs.Answers.{replied, answer_words};
 use crate::answer::Answer;
 use crate::core_text::CoreText;
 use ek_call::Fault;
-use ek_types::{Ch, Sink, SinkFault, put};
+use crate::kernel::Kernel;
+use ek_types::{Ch, Chars, Sink, SinkFault, put};
+use process_table::{Processes, Status};
 use itoa::Buffer;
 
 type SoFar = Result<(), SinkFault>;
@@ -128,11 +130,15 @@ fn put_fault<K: Sink>(so_far: SoFar, sink: &mut K, fault: Fault) -> SoFar
     put(blank, sink, fault.name().as_bytes())
 }
 
-fn put_answer<K: Sink>(so_far: SoFar, sink: &mut K, answer: Answer) -> SoFar
-    ensures { Continues so_far result (K.state sink.old) (K.state sink.new) (answer_words answer) }
+fn put_answer<K: Sink>(so_far: SoFar, sink: &mut K, answer: Answer, processes: &Processes) -> SoFar
 {
     match answer {
         Answer::Nil => put(so_far, sink, b"= nil"),
+        Answer::True => put(so_far, sink, b"= t"),
+        Answer::Process(p) => {
+            let begun = put(so_far, sink, b"= ");
+            put_process_name(begun, sink, processes.get(p).name())
+        }
         Answer::Int(n) => {
             let begun = put(so_far, sink, b"= ");
             put_int(begun, sink, n)
@@ -145,10 +151,8 @@ fn put_answer<K: Sink>(so_far: SoFar, sink: &mut K, answer: Answer) -> SoFar
 }
 
 /// Writes the line of a reply at top level.
-pub fn reply<K: Sink>(sink: &mut K, answer: Answer) -> SoFar
-    ensures { (symbols : List (List ℕ)) (s : State) → Writes (K.state sink.old) (K.state sink.new) result (line symbols s (Replied 0 (replied answer))) }
-{
-    let said = put_answer(Ok(()), sink, answer);
+pub fn reply<K: Sink>(sink: &mut K, answer: Answer, processes: &Processes) -> SoFar {
+    let said = put_answer(Ok(()), sink, answer, processes);
     put(said, sink, b"\n")
 }
 
@@ -162,11 +166,100 @@ fn put_flag<K: Sink>(so_far: SoFar, sink: &mut K, flag: bool) -> SoFar
     }
 }
 
-/// Writes the lines of the one buffer, at the end of a run.
-pub fn dump<K: Sink>(sink: &mut K, core: &CoreText) -> SoFar
-    ensures { (symbols : List (List ℕ)) (u : Undo) → Writes (K.state sink.old) (K.state sink.new) result (dump_of symbols (plain_state (buffer_with core.now u))) }
-{
-    let a = put(Ok(()), sink, b"buffer *scratch* point ");
+fn put_chars<K: Sink>(so_far: SoFar, sink: &mut K, text: &Chars) -> SoFar {
+    let mut state = so_far;
+    for i in 0..text.len() {
+        let mut shown = [0u8; 4];
+        let size = show(text.at(i), &mut shown);
+        state = put(state, sink, &shown[..size]);
+    }
+    state
+}
+
+fn put_process_name<K: Sink>(so_far: SoFar, sink: &mut K, name: &Chars) -> SoFar {
+    let a = put(so_far, sink, b"#<process ");
+    let b = put_chars(a, sink, name);
+    put(b, sink, b">")
+}
+
+fn enter<K: Sink>(sink: &mut K, front: &str, name: &Chars, text: &Chars) -> SoFar {
+    let a = put(Ok(()), sink, front.as_bytes());
+    let b = put_process_name(a, sink, name);
+    let c = put(b, sink, b" \"");
+    let d = put_chars(c, sink, text);
+    put(d, sink, b"\"\n")
+}
+
+pub fn enter_filter<K: Sink>(sink: &mut K, name: &Chars, text: &Chars) -> SoFar {
+    enter(sink, "> filter default ", name, text)
+}
+
+pub fn enter_sentinel<K: Sink>(sink: &mut K, name: &Chars, text: &Chars) -> SoFar {
+    enter(sink, "> sentinel default ", name, text)
+}
+
+pub fn leave_handler<K: Sink>(sink: &mut K) -> SoFar {
+    put(Ok(()), sink, b"< default\n")
+}
+
+pub fn fault_inside<K: Sink>(sink: &mut K, fault: Fault) -> SoFar {
+    let a = put(Ok(()), sink, b"  ! ");
+    let b = put_fault(a, sink, fault);
+    put(b, sink, b"\n")
+}
+
+pub fn kill_line<K: Sink>(sink: &mut K, name: &Chars) -> SoFar {
+    let a = put(Ok(()), sink, b"kill ");
+    let b = put_process_name(a, sink, name);
+    put(b, sink, b"\n")
+}
+
+fn put_marker<K: Sink>(so_far: SoFar, sink: &mut K, number: usize, place: Option<usize>) -> SoFar {
+    let a = put(so_far, sink, b"marker ");
+    let b = put_count(a, sink, number);
+    match place {
+        Some(place) => {
+            let c = put(b, sink, b" #<marker at ");
+            let d = put_count(c, sink, place + 1);
+            put(d, sink, b" in *scratch*>\n")
+        }
+        None => put(b, sink, b" #<marker in no buffer>\n"),
+    }
+}
+
+fn put_process<K: Sink>(so_far: SoFar, sink: &mut K, number: usize, name: &Chars, status: Status) -> SoFar {
+    let a = put(so_far, sink, b"process ");
+    let b = put_count(a, sink, number);
+    let c = put(b, sink, b" ");
+    let d = put_process_name(c, sink, name);
+    let e = match status {
+        Status::Run => put(d, sink, b" run 0"),
+        Status::Exit(code) => {
+            let begun = put(d, sink, b" exit ");
+            put_int(begun, sink, i64::from(code))
+        }
+        Status::Signal => put(d, sink, b" signal nil"),
+        Status::Failed => put(d, sink, b" failed nil"),
+    };
+    put(e, sink, b"\n")
+}
+
+/// Writes the lines of the one buffer, the markers and the processes, at the end of a run.
+pub fn dump<K: Sink>(sink: &mut K, kernel: &Kernel) -> SoFar {
+    let mut state = put_buffer(Ok(()), sink, &kernel.text);
+    for k in 0..kernel.markers.count() {
+        state = put_marker(state, sink, k as usize, kernel.markers.place(k).map(|p| p.1));
+    }
+    for p in 0..kernel.processes.count() {
+        let process = kernel.processes.get(p);
+        state = put_process(state, sink, p as usize, process.name(), process.status());
+    }
+    state
+}
+
+/// Writes the lines of the one buffer.
+fn put_buffer<K: Sink>(so_far: SoFar, sink: &mut K, core: &CoreText) -> SoFar {
+    let a = put(so_far, sink, b"buffer *scratch* point ");
     let b = put_count(a, sink, core.point() + 1);
     let c = put(b, sink, b" min 1 max ");
     let d = put_count(c, sink, core.len() + 1);

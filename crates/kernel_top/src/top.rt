@@ -7,9 +7,11 @@ ghost use Rattle.ek_types.specs.Io.{HasCause, Rose};
 ghost use Rattle.script_read.specs.GrammarSoFar.{IsScriptSoFar};
 ghost use Rattle.kernel_top.specs.Outcomes.{IsRun, HasEnded, Outcome, SaysAtMost};
 
-use crate::forms::{Stop, run_script};
+use crate::answer::Stop;
+use crate::forms::run_script;
 use crate::status::Status;
 use ek_types::{Sink, Source, Took};
+use host_link::Host;
 use script_read::{LONGEST_SCRIPT, ScriptFault, read};
 use std::alloc::Global;
 
@@ -59,7 +61,7 @@ fn read_all<S: Source>(alloc: Global, source: &mut S) -> Result<Vec<u8>, Refused
 }
 
 /// Reads the script that the bytes are, and runs it.
-fn run_bytes<K: Sink>(alloc: Global, bytes: &[u8], sink: &mut K) -> Status
+fn run_bytes<K: Sink, H: Host>(alloc: Global, bytes: &[u8], host: &mut H, sink: &mut K) -> Status
     ensures outcome { (written : List ℕ) × Appends (K.state sink.old).held (K.state sink.new).held written
         × Outcome result (codes "run" ∷ []) bytes.now written [] (Unit {0}) (Rose (K.state sink.old).faults (K.state sink.new).faults → ⊥) }
     ensures no_read { result ≡ Status.ReadFault → ⊥ }
@@ -67,21 +69,22 @@ fn run_bytes<K: Sink>(alloc: Global, bytes: &[u8], sink: &mut K) -> Status
     ensures roomy { (script : Meant) → IsScriptSoFar bytes.now script → SaysAtMost script (K.state sink.old).room → (K.state sink.new).faults ≡ (K.state sink.old).faults }
 {
     match read(alloc, bytes) {
-        Ok(script) => match run_script(alloc, &script, sink) {
+        Ok(script) => match run_script(alloc, &script, host, sink) {
             Ok(()) => Status::Done,
             Err(Stop::WriteFault) => Status::WriteFault,
-            Err(Stop::NoMemory) => Status::NoMemory,
+            Err(Stop::NoMemory | Stop::NoProcess(_)) => Status::NoMemory,
         },
         Err(ScriptFault::Line(line)) => Status::Script(line),
         Err(ScriptFault::NoMemory) => Status::NoMemory,
     }
 }
 
-fn run_words<S: Source, K: Sink>(
+fn run_words<S: Source, K: Sink, H: Host>(
     alloc: Global,
     words: &[String],
     source: &mut S,
     sink: &mut K,
+    host: &mut H,
 ) -> Status
     ensures outcome { (read written : List ℕ) × Consumes (S.state source.old).left (S.state source.new).left read × (length read ≤ longest_script + 1)
         × Appends (K.state sink.old).held (K.state sink.new).held written
@@ -98,7 +101,7 @@ fn run_words<S: Source, K: Sink>(
         return Status::Usage;
     }
     match read_all(alloc, source) {
-        Ok(bytes) => run_bytes(alloc, bytes.as_slice(), sink),
+        Ok(bytes) => run_bytes(alloc, bytes.as_slice(), host, sink),
         Err(Refused::Failed) => Status::ReadFault,
         Err(Refused::TooLong) => Status::Script(0),
         Err(Refused::NoMemory) => Status::NoMemory,
@@ -111,11 +114,12 @@ fn run_words<S: Source, K: Sink>(
 /// The status says what was read and written, as `outcome` has it: for `Done` the lines are those of the plain machine's
 /// whole run on the script. `unfailing` and `roomy`: neither side fails where the source is known not to, and where the
 /// sink has room for all that the machine says. No more than one byte behind the longest script, of 1,048,576 bytes, is asked of the source.
-pub fn run<S: Source, K: Sink>(
+pub fn run<S: Source, K: Sink, H: Host>(
     alloc: Global,
     words: &[String],
     source: &mut S,
     sink: &mut K,
+    host: &mut H,
 ) -> Status
     ensures outcome { (read written : List ℕ) × Consumes (S.state source.old).left (S.state source.new).left read × (length read ≤ longest_script + 1)
         × Appends (K.state sink.old).held (K.state sink.new).held written
@@ -132,5 +136,5 @@ pub fn run<S: Source, K: Sink>(
         → (Rose (S.state source.old).faults (S.state source.new).faults → ⊥) → (Rose (K.state sink.old).faults (K.state sink.new).faults → ⊥)
         → (result ≡ Status.Done) ⊎ (result ≡ Status.NoMemory) }
 {
-    run_words(alloc, words, source, sink)
+    run_words(alloc, words, source, sink, host)
 }

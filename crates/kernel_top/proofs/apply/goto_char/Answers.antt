@@ -8,5 +8,5 @@ pub returns : goal.returns
 returns c =
     let fits : SFits w64 c.in-Some.position = search rules in
     let same = to_z-of_z w64 c.in-Some.position fits in
-    let gone = came_gone c.args.core.now (arg_of c.args.arg.now) c.in-Some.position c.in-Some.ensures.some in
+    let gone = came_gone c.args.kernel.now (arg_of c.args.arg.now) c.in-Some.position c.in-Some.ensures.some in
     rw (same, c.goto.ensures, c.clipped-place.ensures.exact, same) gone

@@ -1,0 +1,125 @@
+//! What a run keeps.
+ghost use Rattle.std.specs.Prelude.{◌≡◌, ◌+◌, ◌<◌, ◌≤◌, length, map, OnOk, OnErr, IfOk, IfSome, Some, Err, IsTrue, slice_get, slice_set, nat_lt};
+ghost use Rattle.text_model.specs.Marks.{insertion, deletion, move_marker};
+ghost use Rattle.editor_model.specs.Limits.{longest_text, most_markers};
+ghost use Rattle.plain_machine.specs.Refusals.{most_exchanges};
+ghost use Rattle.kernel_top.specs.Plain.{new_kernel, changed_kernel, inserted, deleted, characters};
+
+use crate::core_text::CoreText;
+use ek_types::{Chars, Mem, Piece};
+use marker_set::Markers;
+use process_table::Processes;
+use std::alloc::Global;
+use std::marker::Model;
+
+/// How many exchanges with the host may be made, but for kills.
+pub const MOST_EXCHANGES: u32 = 65_536;
+
+/// The number of the one buffer.
+pub const SCRATCH: u32 = 0;
+
+/// The one buffer, the markers and the processes, and how many exchanges were made.
+#[derive(Drop)]
+pub struct Kernel {
+    pub text: CoreText,
+    pub markers: Markers,
+    pub processes: Processes,
+    pub asked: u32,
+}
+
+impl Model for Kernel {
+    ghost use Rattle.std.specs.Prelude.{◌≤◌};
+    ghost use Rattle.plain_machine.specs.Refusals.{most_exchanges};
+    ghost use Rattle.kernel_top.specs.Plain.{Kernel as Known, IsSound};
+
+    ghost Value = { Known };
+
+    ghost view = { λ c. record { content = c.text; beside = record { markers = c.markers; processes = c.processes; asked = c.asked } } };
+
+    ghost invariant = { λ c. IsSound (record { content = c.text; beside = record { markers = c.markers; processes = c.processes; asked = c.asked } }) };
+}
+
+impl Kernel {
+    /// An empty buffer, and no processes.
+    pub fn new(alloc: Global) -> Kernel
+        ensures { result ≡ new_kernel }
+    {
+        Kernel {
+            text: CoreText::new(alloc),
+            markers: Markers::new(alloc),
+            processes: Processes::new(alloc),
+            asked: 0,
+        }
+    }
+
+    /// Puts the characters of a piece in at point, which goes behind them. A refusal leaves all as it was.
+    pub fn insert(&mut self, piece: &Piece) -> Mem<()>
+        requires room { length self.old.content.text + length piece.now ≤ longest_text }
+        ensures inside { self.old.content.point ≤ length self.old.content.text }
+        ensures ok { OnOk result (self.new ≡ changed_kernel self.old (inserted (characters piece.now) self.old.content)
+            (map (move_marker 0 false (insertion self.old.content.point (length piece.now))) self.old.beside.markers)) }
+        ensures err { OnErr result (self.new ≡ self.old) }
+    {
+        let point = self.text.point();
+        self.text.insert(piece)?;
+        self.markers.note_insert(SCRATCH, point, piece.len(), false);
+        Ok(())
+    }
+
+    /// Puts point at a place.
+    pub fn goto(&mut self, place: usize)
+        requires { place ≤ length self.old.content.text }
+        ensures { self.new ≡ record self.old { content = record self.old.content { point = place } } }
+    {
+        self.text.goto(place);
+    }
+
+    /// Takes the part from one place to another out.
+    pub fn delete(&mut self, from: usize, to: usize)
+        requires order { from ≤ to }
+        requires within { to ≤ length self.old.content.text }
+        ensures inside { self.old.content.point ≤ length self.old.content.text }
+        ensures exact { self.new ≡ changed_kernel self.old (deleted from to self.old.content) (map (move_marker 0 false (deletion from to)) self.old.beside.markers) }
+    {
+        self.text.delete(from, to);
+        self.markers.note_delete(SCRATCH, from, to);
+    }
+
+    /// Whether an exchange may be made.
+    pub fn may_ask(&self) -> bool
+        ensures { result ≡ nat_lt self.now.beside.asked most_exchanges }
+    {
+        self.asked < MOST_EXCHANGES
+    }
+
+    /// Makes the process of a child that was just started, with a name that no listed process has, and its mark at the
+    /// end of the text where it has the buffer. A refusal may leave a marker more.
+    pub fn add(&mut self, name: &Chars, child: u32, buffer: Option<u32>) -> Mem<u32> {
+        let mark = self.markers.make()?;
+        if buffer.is_some() {
+            self.markers.set(mark, Some((SCRATCH, self.text.len())));
+        }
+        self.processes.add(name, child, buffer, mark)
+    }
+
+    /// Where the output of a process is put: at its mark, or at the end of the text where that points nowhere; nowhere
+    /// where the process has no buffer.
+    pub fn output_place(&self, process: u32) -> Option<usize> {
+        let process = self.processes.get(process);
+        process.buffer()?;
+        match self.markers.place(process.mark()) {
+            Some((_, place)) => Some(place),
+            None => Some(self.text.len()),
+        }
+    }
+
+    /// Puts the output of a process in at a place. Markers and point there advance, and the process's mark goes behind
+    /// it. A refusal leaves all as it was.
+    pub fn put_output(&mut self, process: u32, place: usize, text: &Chars) -> Mem<()> {
+        let mark = self.processes.get(process).mark();
+        self.text.insert_at(place, text)?;
+        self.markers.note_insert(SCRATCH, place, text.len(), true);
+        self.markers.set(mark, Some((SCRATCH, place + text.len())));
+        Ok(())
+    }
+}

@@ -1,0 +1,2 @@
+pub mod EligibleLemmas
+pub mod StepLemmas
