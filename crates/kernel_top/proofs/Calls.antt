@@ -1,16 +1,16 @@
 -- What the machine does at one call of the first path: the steps from one form at top level to its reply.
-use Rattle.std.proofs.Common.{◌≡◌, ℕ, ◌+◌, ◌-◌, drop, map, true, false, List, [], ◌∷◌, length, refl, ap}
-use Rattle.std.specs.Prelude.{ℤ, pos, Bool, Option, None, Some}
+use Rattle.std.proofs.Common.{◌≡◌, ℕ, ◌+◌, ◌-◌, drop, true, false, List, [], ◌∷◌, length, refl, ap}
+use Rattle.std.specs.Prelude.{ℤ, pos, Bool, Option, None}
 use Rattle.text_model.specs.Properties.{Cell}
-use Rattle.text_model.specs.Marks.{Pending, Marks, Marker}
+use Rattle.text_model.specs.Marks.{Pending, Marks}
 use Rattle.text_model.specs.Commit.{Buffer, Site}
 use Rattle.editor_model.specs.Editor.{Editor}
-use Rattle.editor_model.specs.Values.{at_place, Value, Nil, Int, Fault, Answered, Refused, Prim, GotoChar, Arg, Const, Forms, Then}
+use Rattle.editor_model.specs.Values.{at_place, Value, Nil, Int, Fault, Answered, Refused, Prim, GotoChar, Const, Forms, Then}
 use Rattle.editor_model.specs.Answers.{first_fault, Change, Put, Changes, Nothing, Barred, Commit}
 use Rattle.editor_model.specs.Arguments.{place}
 use Rattle.editor_model.specs.TextCalls.{point_at}
 use Rattle.editor_model.specs.Commits.{put_site, mark_to, commit_tests, commit_of}
-use Rattle.plain_machine.specs.State.{State, Scope, Program, new_state}
+use Rattle.plain_machine.specs.State.{State, Scope, Program}
 use Rattle.plain_machine.specs.Items.{Item, Top, MakeCall, MakeChange, GiveAnswer, Hooks, Calm, CommitChange, Nowhere, Step}
 use Rattle.plain_machine.specs.Calls.{on, change_call}
 use Rattle.plain_machine.specs.Forms.{after_commit}

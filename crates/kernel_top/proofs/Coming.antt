@@ -10,7 +10,7 @@ use Rattle.text_model.specs.Places.{clip}
 use Rattle.text_model.specs.Marks.{move_marker, insertion, deletion}
 use Rattle.text_model.specs.Undo.{Undo}
 use Rattle.text_model.specs.Commit.{Buffer}
-use Rattle.editor_model.specs.Values.{Reply, Nil, Int, Str, Insert, GotoChar, DeleteRegion, BufferFull, ArgsOutOfRange, Arg, Const, Form, Forms, Then}
+use Rattle.editor_model.specs.Values.{Nil, Int, Str, Insert, GotoChar, DeleteRegion, BufferFull, ArgsOutOfRange, Arg, Const, Form, Forms, Then}
 use Rattle.editor_model.specs.Answers.{Prepared, Changes, Nothing}
 use Rattle.editor_model.specs.Limits.{longest_text, longest_texts}
 use Rattle.editor_model.specs.Arguments.{has_room, position_of}
@@ -91,8 +91,11 @@ pub came_inserted : (kernel : Kernel) (a : Arg) (piece : List Cell) (text : List
     kernel.content.point ≤ length kernel.content.text → length kernel.content.text + length piece ≤ longest_text → ComesTo (called Insert (a ∷ [])) kernel (after_insertion kernel piece) answer.Nil
 came_inserted kernel a piece [] e k n p r = absurd (let empty : true ≡ false = ap (λ l. length l == 0) (sym k) ∙ n in cc)
 came_inserted kernel a piece (d ∷ more) e k n p r =
-    let alone : characters piece ≡ d ∷ more = ap characters k ∙ text_alone (d ∷ more) in
-    rw (e, alone, k) (came_by kernel d more p (omega (arith, ap length k)))
+    let same : after_insertion kernel (bare (d ∷ more)) ≡ changed_kernel kernel (inserted (d ∷ more) kernel.content) (map (move_marker 0 false (insertion kernel.content.point (length (bare (d ∷ more))))) kernel.beside.markers) =
+    ap (λ text. changed_kernel kernel (inserted text kernel.content) (map (move_marker 0 false (insertion kernel.content.point (length (bare (d ∷ more))))) kernel.beside.markers)) (text_alone (d ∷ more)) in
+    let came : ComesTo (called Insert (Const (Str (bare (d ∷ more))) ∷ [])) kernel (after_insertion kernel (bare (d ∷ more))) answer.Nil =
+    subst (λ t. ComesTo (called Insert (Const (Str (bare (d ∷ more))) ∷ [])) kernel t answer.Nil) (sym same) (came_by kernel d more p (omega (arith, ap length k))) in
+    rw (e, k) came
 
 -- GOING
 abbrev pub after_going : Kernel → ℕ → Kernel

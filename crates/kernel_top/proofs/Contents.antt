@@ -24,11 +24,11 @@ text_alone [] = refl
 text_alone (c ∷ text) = ap (λ cs. c ∷ cs) (text_alone text)
 
 -- PLACES
-start_stays : (q n : ℕ) → after_insert q n false 0 ≡ 0
+pub start_stays : (q n : ℕ) → after_insert q n false 0 ≡ 0
 start_stays zero n = refl
 start_stays (suc q) n = rw (lt-ltb 0 (suc q) (omega arith)) refl
 
-end_moves : (q n p : ℕ) → q ≤ p → after_insert q n true p ≡ p + n
+pub end_moves : (q n p : ℕ) → q ≤ p → after_insert q n true p ≡ p + n
 end_moves q n p h = rw (le-ltb p q h) (head (nat_lt q p) refl)
   where
     head : (b : Bool) → nat_lt q p ≡ b → (if b then p + n else q + n) ≡ p + n
@@ -51,11 +51,11 @@ end_falls q r p h k = rw (before, behind) refl
 abbrev Same : Buffer → Buffer → Type 0
 Same a b = a ≡ b
 
-same_buffer : {text text' : List Cell} {begin begin' end end' point point' : ℕ} {modified : Bool} {undo : Undo} → text ≡ text' → begin ≡ begin' → end ≡ end' → point ≡ point' →
+pub same_buffer : {text text' : List Cell} {begin begin' end end' point point' : ℕ} {modified : Bool} {undo : Undo} → text ≡ text' → begin ≡ begin' → end ≡ end' → point ≡ point' →
     Same (record { text = text; begin = begin; end = end; point = point; modified = modified; undo = undo }) (record { text = text'; begin = begin'; end = end'; point = point'; modified = modified; undo = undo })
 same_buffer {modified = modified} {undo = undo} a b c d = λ i. record { text = a i; begin = b i; end = c i; point = d i; modified = modified; undo = undo }
 
-bare_spliced : (text piece : List Ch) (p q : ℕ) → take p (bare text) ++ (bare piece ++ drop q (bare text)) ≡ bare (take p text ++ (piece ++ drop q text))
+pub bare_spliced : (text piece : List Ch) (p q : ℕ) → take p (bare text) ++ (bare piece ++ drop q (bare text)) ≡ bare (take p text ++ (piece ++ drop q text))
 bare_spliced text piece p q =
     rw (map-append {B = Cell} (λ c. (c, [])) (take p text) (piece ++ drop q text), map-append {B = Cell} (λ c. (c, [])) piece (drop q text), take-map {Y = Cell} (λ c. (c, [])) p text, drop-map {Y = Cell} (λ c. (c, [])) q text) refl
 
@@ -67,7 +67,7 @@ at_point c text = record { from = c.point; to = c.point; piece = bare text; all 
 abbrev pub taken_out : (from to : ℕ) → Putting
 taken_out from to = record { from = from; to = to; piece = []; all = false; point_after = false; mark = None }
 
-inserted_size : (text piece : List Ch) (p : ℕ) → p ≤ length text → length (take p text ++ (piece ++ drop p text)) ≡ length text + length piece
+pub inserted_size : (text piece : List Ch) (p : ℕ) → p ≤ length text → length (take p text ++ (piece ++ drop p text)) ≡ length text + length piece
 inserted_size text piece p h = omega (arith, length-append (take p text) (piece ++ drop p text), length-append piece (drop p text), length-take p text, length-drop p text)
 
 module _ (x : Beside) (c : Content) (u : Undo) where
@@ -83,7 +83,7 @@ module _ (x : Beside) (c : Content) (u : Undo) where
       rw (begins, ends, n) clipped in
       same_buffer (bare_spliced c.text (d ∷ more) c.point c.point) begins (ends ∙ sym size) point
 
-  abbrev insertion_marks : (d : Ch) (more : List Ch) → List Marker
+  abbrev pub insertion_marks : (d : Ch) (more : List Ch) → List Marker
   insertion_marks d more = map (move_marker 0 false (insertion c.point (length (bare (d ∷ more))))) x.markers
 
   pub insertion_pops : (d : Ch) (more : List Ch) →

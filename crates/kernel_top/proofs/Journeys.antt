@@ -1,7 +1,6 @@
 -- How what a run does to the outside is put together of its steps.
-use Rattle.std.proofs.Common.{◌≡◌, ℕ, ◌+◌, ◌≤◌, List, [], ◌∷◌, ◌++◌, length, Ok, Err, Result, Some, None, sym, ap, ◌∙◌, append-nil, append_assoc, refl, arith, IsOk, length-append, option_map}
+use Rattle.std.proofs.Common.{◌≡◌, ◌+◌, List, [], ◌∷◌, ◌++◌, length, Ok, Err, Some, None, sym, ap, ◌∙◌, append-nil, append_assoc, refl, arith, length-append, option_map}
 use Rattle.std.specs.declared.option.Option.{Option}
-use Rattle.std.specs.Io.KnownBytes.{Appends}
 use Rattle.std.proofs.KnownBytes.{Appends-nil, Appends-trans}
 use Rattle.std.proofs.lemmas.Bool.{false≢true}
 use Rattle.std.proofs.lemmas.Grind.{flat_map-append}
@@ -10,9 +9,9 @@ use Rattle.plain_machine.specs.State.{Program}
 use Rattle.plain_machine.specs.Items.{Said, Config, Next, Goes as Steps, Asks}
 use Rattle.plain_machine.specs.Step.{step}
 use Rattle.plain_machine.specs.Run.{Reaches, stays, goes, asks, lines}
-use Rattle.plain_machine.specs.WholeRuns.{IsBetweenEntries, IsPrefixOf}
+use Rattle.plain_machine.specs.WholeRuns.{IsBetweenEntries}
 use Rattle.plain_machine.proofs.Composed.{reaches_then}
-use Rattle.ek_types.specs.Io.{SinkState, Writes, Rose}
+use Rattle.ek_types.specs.Io.{SinkState, Writes}
 use Rattle.host_link.specs.Hosts.{HostState, Exchanged}
 use Rattle.kernel_top.specs.Outside.{deepest, Outside, outside, Tells, SaysAtMost, HasRoomLeft, Goes, Breaks}
 
@@ -102,8 +101,11 @@ module _ (program : Program) where
   }
 
   -- A LINE
+  one : (c : Config) (n : Next) → step program deepest c ≡ Steps n → Reaches program deepest c [] (n.said ++ []) n.config
+  one c n e = goes e stays
+
   said_one : (c : Config) (n : Next) (x : Said) → step program deepest c ≡ Steps n → n.said ≡ x ∷ [] → Reaches program deepest c [] (x ∷ []) n.config
-  said_one c n x e said = rw (said, append-nil) at (goes {program = program} {bound = deepest} e (stays {c = n.config}))
+  said_one c n x e said = rw (said) at (rw append-nil at (one c n e))
 
   -- a line that the machine says is written
   pub says : {T E : Type 0} (old new : SinkState) (host : HostState) (c : Config) (n : Next) (x : Said) (value : T) → step program deepest c ≡ Steps n → n.said ≡ x ∷ [] →
@@ -141,12 +143,18 @@ module _ (program : Program) where
       }
 
   -- AN EXCHANGE
+  one_asked : (c : Config) (ask : Ask) (answer : Answer) (next : Answer → Option Next) (n : Next) → step program deepest c ≡ Asks ask next → next answer ≡ Some n →
+      Reaches program deepest c (record { ask = ask; answer = answer } ∷ []) n.said n.config
+  one_asked c ask answer next n e k =
+      let run : Reaches program deepest c (record { ask = ask; answer = answer } ∷ []) (n.said ++ []) n.config = asks e k stays in
+      rw append-nil at run
+
   pub asked : (sink : SinkState) (old new : HostState) (c : Config) (ask : Ask) (answer : Answer) (next : Answer → Option Next) (n : Next) (children : _) →
       step program deepest c ≡ Asks ask next → next answer ≡ Some n → n.said ≡ [] → Exchanged old new children ask answer → Goes program (outside sink old) (outside sink new) c n.config
   asked sink old new c ask answer next n children e k said x = record {
     made = record { ask = ask; answer = answer } ∷ [];
     said = [];
-    run = rw (said) at (asks {program = program} {bound = deepest} e k (stays {c = n.config}));
+    run = rw said at (one_asked c ask answer next n e k);
     written = Appends-nil sink.held;
     told = x.told;
     later = omega arith;

@@ -1,11 +1,10 @@
 pub mod Calls
 pub mod Coming
 pub mod Contents
-pub mod Dumped
 pub mod Gathering
-pub mod Outcomes
+pub mod Handling
+pub mod Journeys
 pub mod Prepared
 pub mod Rotating
-pub mod Scripts
 pub mod SoFar
 pub mod Taking

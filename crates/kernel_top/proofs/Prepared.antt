@@ -46,16 +46,18 @@ module _ (x : Beside) (b : Buffer) where
   empty_insertion = refl
 
   -- DELETING
+  abbrev first_by : (i j : ℤ) → Bool → Prepared
+  first_by i j here = prepared (None ∷ None ∷ refuse ArgsOutOfRange here ∷ refuse ArgsOutOfRange (accessible b (plain_editor x b) (Int j)) ∷ []) (region_deletion (plain_editor x b) (Int i) (Int j) Nil)
+
+  abbrev second_by : (i j : ℤ) → Bool → Prepared
+  second_by i j here = prepared (None ∷ None ∷ None ∷ refuse ArgsOutOfRange here ∷ []) (region_deletion (plain_editor x b) (Int i) (Int j) Nil)
+
   pub outside_first : (i j : ℤ) → accessible b (plain_editor x b) (Int i) ≡ false → prepare (plain_editor x b) DeleteRegion (Int i ∷ Int j ∷ []) ≡ Barred ArgsOutOfRange
-  outside_first i j h = ap (λ x. prepared (None ∷ None ∷ refuse ArgsOutOfRange x ∷ refuse ArgsOutOfRange (accessible b (plain_editor x b) (Int j)) ∷ []) (region_deletion (plain_editor x b) (Int i) (Int j) Nil)) h
+  outside_first i j h = ap (first_by i j) h
 
   pub outside_second : (i j : ℤ) → accessible b (plain_editor x b) (Int i) ≡ true → accessible b (plain_editor x b) (Int j) ≡ false → prepare (plain_editor x b) DeleteRegion (Int i ∷ Int j ∷ []) ≡ Barred ArgsOutOfRange
-  outside_second i j h k =
-      ap (λ x. prepared (None ∷ None ∷ refuse ArgsOutOfRange x ∷ refuse ArgsOutOfRange (accessible b (plain_editor x b) (Int j)) ∷ []) (region_deletion (plain_editor x b) (Int i) (Int j) Nil)) h
-      ∙ ap (λ x. prepared (None ∷ None ∷ None ∷ refuse ArgsOutOfRange x ∷ []) (region_deletion (plain_editor x b) (Int i) (Int j) Nil)) k
+  outside_second i j h k = ap (first_by i j) h ∙ ap (second_by i j) k
 
   pub inside : (i j : ℤ) → accessible b (plain_editor x b) (Int i) ≡ true → accessible b (plain_editor x b) (Int j) ≡ true →
       prepare (plain_editor x b) DeleteRegion (Int i ∷ Int j ∷ []) ≡ region_deletion (plain_editor x b) (Int i) (Int j) Nil
-  inside i j h k =
-      ap (λ x. prepared (None ∷ None ∷ refuse ArgsOutOfRange x ∷ refuse ArgsOutOfRange (accessible b (plain_editor x b) (Int j)) ∷ []) (region_deletion (plain_editor x b) (Int i) (Int j) Nil)) h
-      ∙ ap (λ x. prepared (None ∷ None ∷ None ∷ refuse ArgsOutOfRange x ∷ []) (region_deletion (plain_editor x b) (Int i) (Int j) Nil)) k
+  inside i j h k = ap (first_by i j) h ∙ ap (second_by i j) k

@@ -1,10 +1,10 @@
 -- The calls on the buffer, their answers, and what they make of a kernel.
-use Rattle.std.specs.Prelude.{ℕ, ◌+◌, ◌-◌, ℤ, Bool, ◌&&◌, nat_le, List, [], ◌++◌, length, codes, if◌then◌else◌, Option, Some, None}
+use Rattle.std.specs.Prelude.{ℕ, ◌+◌, ◌-◌, ℤ, Bool, ◌&&◌, nat_le, List, [], ◌++◌, length, codes, slice_get, if◌then◌else◌, Option, Some, None}
 use Rattle.text_model.specs.Undo.{Undo}
-use Rattle.editor_model.specs.Values.{Reply, Answered, Refused, Nil, Int, Prim, Arg, Form, Do, Forms, Then}
+use Rattle.editor_model.specs.Values.{Reply, Answered, Refused, Nil, T, Int, TheProcess, Prim, Arg, Form, Do, Forms, Then}
 use Rattle.editor_model.specs.Arguments.{position_of}
 use Rattle.plain_machine.specs.State.{Process, Program}
-use Rattle.plain_machine.specs.Lines.{shown_int, fault_words}
+use Rattle.plain_machine.specs.Lines.{shown_int, shown_name, fault_words}
 use Rattle.plain_machine.specs.Run.{Reaches}
 use Rattle.ek_call.specs.Faults.{fault_of}
 use Rattle.kernel_top.specs.Plain.{Content, Kernel, whole, buffer_with, at_top, replying}
@@ -13,14 +13,18 @@ use Rattle.kernel_top.specs.declared.answer.Answer.TheVariants as answer
 
 abbrev pub replied : Answer → Reply
 replied answer.Nil = Answered Nil
+replied answer.True = Answered T
+replied (answer.Process p) = Answered (TheProcess p)
 replied (answer.Int i) = Answered (Int i)
 replied (answer.Fault f) = Refused (fault_of f)
 
--- the words of an answer's line
-abbrev pub answer_words : Answer → List ℕ
-answer_words answer.Nil = codes "= nil"
-answer_words (answer.Int i) = codes "= " ++ shown_int i
-answer_words (answer.Fault f) = codes "! " ++ fault_words (fault_of f)
+-- the words of an answer's line, with the names of the processes
+abbrev pub answer_words : List Process → Answer → List ℕ
+answer_words processes answer.Nil = codes "= nil"
+answer_words processes answer.True = codes "= t"
+answer_words processes (answer.Int i) = codes "= " ++ shown_int i
+answer_words processes (answer.Process p) = codes "= " ++ elim (slice_get processes p) [ Some x ↦ codes "#<process " ++ (shown_name x.name ++ codes ">") | None ↦ [] ]
+answer_words processes (answer.Fault f) = codes "! " ++ fault_words (fault_of f)
 
 -- the form of a call with these arguments
 abbrev pub called : Prim → List Arg → Form

@@ -1,6 +1,6 @@
 -- What a run does to the outside while the machine goes on: the sink has just what it says, and the host was asked just
 -- what it asks.
-use Rattle.std.specs.Prelude.{◌≡◌, ℕ, ◌+◌, ◌≤◌, List, ◌++◌, length, Option, option_map, Result, MatchResult}
+use Rattle.std.specs.Prelude.{◌≡◌, ℕ, ◌+◌, ◌≤◌, List, ◌++◌, length, Option, option_map}
 use Rattle.std.specs.Io.KnownBytes.{Appends}
 use Rattle.plain_machine.specs.Exchanges.{Exchange}
 use Rattle.plain_machine.specs.State.{Program}

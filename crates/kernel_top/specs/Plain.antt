@@ -1,16 +1,18 @@
 -- The states of a run that has one buffer, whose markers are its processes' marks, and neither overlays nor handlers of
 -- its own.
-use Rattle.std.specs.Prelude.{◌≡◌, ℕ, ◌+◌, ◌<◌, ◌≤◌, Bool, true, false, List, [], ◌∷◌, ◌++◌, length, map, take, drop, Some, None, IfSome, All}
+use Rattle.std.specs.Prelude.{◌≡◌, ℕ, ◌+◌, ◌<◌, ◌≤◌, Bool, true, false, List, [], ◌∷◌, ◌++◌, length, map, take, drop, Option, Some, None, IfSome, All, option_map, slice_get, slice_set}
 use Rattle.text_model.specs.Characters.{Ch}
 use Rattle.text_model.specs.Properties.{Cell, bare}
 use Rattle.text_model.specs.Places.{after_insert, after_delete}
-use Rattle.text_model.specs.Marks.{Marker}
+use Rattle.text_model.specs.Marks.{Marker, Spot, move_marker, insertion}
 use Rattle.text_model.specs.Undo.{Undo}
 use Rattle.text_model.specs.Commit.{Buffer}
 use Rattle.editor_model.specs.Values.{Reply, Answered, Refused, Forms}
 use Rattle.editor_model.specs.Editor.{Editor, scratch, new_editor}
 use Rattle.plain_machine.specs.State.{State, Process, Default, new_state}
 use Rattle.plain_machine.specs.Refusals.{most_exchanges}
+use Rattle.marker_set.specs.Numbered.{marker_at}
+use Rattle.process_table.specs.Table.{new_process}
 use Rattle.plain_machine.specs.Items.{Item, Top, GiveAnswer, Refuse, Nowhere, Config}
 
 -- what such a run knows of its buffer: all but the undo records
@@ -48,7 +50,7 @@ pub record IsOrdinary (markers : ℕ) (x : Process) : Type 0 where
 
 -- a marker points nowhere or into the text
 abbrev pub IsWithin : (size : ℕ) → Marker → Type 0
-IsWithin size m = IfSome m.spot (λ s. s.place ≤ size)
+IsWithin size m = IfSome m.spot (λ s. (s.buffer ≡ 0) × (s.place ≤ size))
 
 pub record IsSound (kernel : Kernel) : Type 0 where
   pub within : All (IsWithin (length kernel.content.text)) kernel.beside.markers
@@ -100,3 +102,40 @@ deleted from to c = record { text = take from c.text ++ drop to c.text; point = 
 -- the characters of a piece
 abbrev pub characters : List Cell → List Ch
 characters piece = map (λ c. c.0) piece
+
+-- OUTPUT
+-- the marker of a process
+abbrev pub mark_of : Kernel → (p : ℕ) → ℕ
+mark_of k p = elim (slice_get k.beside.processes p) [ None ↦ 0 | Some x ↦ x.mark ]
+
+abbrev pub place_at : (default : ℕ) → Option Spot → ℕ
+place_at default None = default
+place_at default (Some s) = s.place
+
+-- where the output of a process goes, if it has a buffer: to its mark, or to the end
+abbrev pub output_place : Kernel → (p : ℕ) → Option ℕ
+output_place k p = elim (slice_get k.beside.processes p) [
+  | None ↦ None
+  | Some x ↦ option_map (λ b. place_at (length k.content.text) (marker_at k.beside.markers x.mark).spot) x.buffer
+]
+
+-- the markers after output was put in at a place: all there advance, and the mark goes behind it
+abbrev pub marked : List Marker → (mark place size : ℕ) → List Marker
+marked markers mark place size =
+    let moved : List Marker = map (move_marker 0 true (insertion place size)) markers in
+    slice_set moved mark (record (marker_at moved mark) { spot = Some (record { buffer = 0; place = place + size }) })
+
+abbrev pub with_output : Kernel → (p place : ℕ) → List Ch → Kernel
+with_output k p place text = changed_kernel k (inserted_at place text k.content) (marked k.beside.markers (mark_of k p) place (length text))
+
+-- PROCESSES
+abbrev pub end_spot : Kernel → (buffer : Option ℕ) → Option Spot
+end_spot k None = None
+end_spot k (Some b) = Some (record { buffer = 0; place = length k.content.text })
+
+-- with a process more, whose mark stands at the end where it has the buffer
+abbrev pub with_process : Kernel → (name : List Ch) → (child : ℕ) → (buffer : Option ℕ) → Kernel
+with_process k name child buffer = record k { beside = record k.beside {
+  markers = k.beside.markers ++ record { spot = end_spot k buffer; advances = false } ∷ [];
+  processes = k.beside.processes ++ new_process name child buffer (length k.beside.markers) ∷ [];
+} }

@@ -1,10 +1,27 @@
-//! The default filter and the default sentinel.
+//! The default filter and the default sentinel (GNU Emacs Lisp Reference Manual, Filter Functions and Sentinels).
+ghost use Rattle.std.specs.Prelude.{◌≡◌, ◌+◌, ◌<◌, ◌++◌, List, [], ◌∷◌, Bool, false, length, map, IfOk, OnOk, OnErr, Err, Some, None, codes};
+ghost use Rattle.text_model.specs.Characters.{Ch as Character, Scalar};
+ghost use Rattle.text_model.specs.Properties.{bare};
+ghost use Rattle.text_model.specs.Undo.{Undo};
+ghost use Rattle.editor_model.specs.Values.{Str, TheProcess};
+ghost use Rattle.plain_machine.specs.State.{State, Process, Program};
+ghost use Rattle.plain_machine.specs.Lines.{Kind, OfSentinel};
+ghost use Rattle.plain_machine.specs.Items.{Item, Enter, Exit};
+ghost use Rattle.plain_machine.specs.Handling.{put_output as output, unlisted};
+ghost use Rattle.process_table.specs.Table.{StandsFor, changed};
+ghost use Rattle.host_link.specs.Hosts.{HostState};
+ghost use Rattle.ek_types.specs.Io.{HasCause};
+ghost use Rattle.kernel_top.specs.Outside.{outside};
+ghost use Rattle.kernel_top.specs.Standing.{stands_at, inside, working, Comes};
+ghost use Rattle.kernel_top.specs.Hearing.{filter_entry, words_of_sentinel, OutputComes};
+
 use crate::answer::Stop;
+use crate::ascii::append_ascii;
 use crate::core_text::LONGEST_TEXT;
 use crate::kernel::Kernel;
 use crate::print;
 use ek_call::Fault;
-use ek_types::{Ch, Chars, Mem, Sink, SinkFault};
+use ek_types::{Chars, Mem, Sink};
 use std::alloc::Global;
 
 /// Enters the filter of a process with some output. Where there is none, nothing is entered.
@@ -13,7 +30,15 @@ pub fn enter_filter<K: Sink>(
     sink: &mut K,
     process: u32,
     text: &Chars,
-) -> Result<(), Stop> {
+) -> Result<(), Stop>
+    requires { process < length kernel.old.beside.processes }
+    ensures comes { (host : HostState) (program : Program) (rest : List Item) (u : Undo) (all : List Process) → StandsFor kernel.old.beside.processes all →
+        Comes result program (outside (K.state sink.old) host) (outside (K.state sink.new) host) (working (stands_at kernel.old u all) (filter_entry process text.now.items rest))
+        kernel.new (λ _ v all. working (stands_at kernel.new v all) rest) }
+    ensures cause { HasCause (K.state sink.old).faults (K.state sink.new).faults (result ≡ Err Stop.WriteFault) }
+    ensures processes { kernel.new.beside.processes ≡ kernel.old.beside.processes }
+    ensures asked { kernel.new.beside.asked ≡ kernel.old.beside.asked }
+{
     if text.is_empty() {
         return Ok(());
     }
@@ -30,7 +55,18 @@ pub fn enter_sentinel<K: Sink>(
     sink: &mut K,
     process: u32,
     told: &Chars,
-) -> Result<(), Stop> {
+) -> Result<(), Stop>
+    requires made { process < length kernel.old.beside.processes }
+    requires some { 0 < length told.now.items }
+    ensures comes { (host : HostState) (program : Program) (rest : List Item) (u : Undo) (all : List Process) → StandsFor kernel.old.beside.processes all →
+        Comes result program (outside (K.state sink.old) host) (outside (K.state sink.new) host)
+        (working (stands_at kernel.old u all) (Enter (OfSentinel process) None (TheProcess process ∷ Str (bare told.now.items) ∷ []) ∷ rest))
+        kernel.new (λ _ v all. working (stands_at kernel.new v all) rest) }
+    ensures cause { HasCause (K.state sink.old).faults (K.state sink.new).faults (result ≡ Err Stop.WriteFault) }
+    ensures ok { OnOk result (kernel.new.beside.processes ≡ changed process unlisted kernel.old.beside.processes) }
+    ensures err { OnErr result (kernel.new.beside.processes ≡ kernel.old.beside.processes) }
+    ensures asked { kernel.new.beside.asked ≡ kernel.old.beside.asked }
+{
     print::enter_sentinel(sink, kernel.processes.get(process).name(), told)?;
     let words = sentinel_words(alloc, kernel.processes.get(process).name(), told)?;
     put_output(kernel, sink, process, &words)?;
@@ -39,26 +75,24 @@ pub fn enter_sentinel<K: Sink>(
     Ok(())
 }
 
-fn append(text: &mut Chars, more: &Chars) -> Mem<()> {
+/// Puts some characters behind others.
+fn append(text: &mut Chars, more: &Chars) -> Mem<()>
+    ensures { OnOk result (text.new.items ≡ text.old.items ++ more.now.items) }
+{
     for i in 0..more.len() {
         text.push(more.at(i))?;
     }
     Ok(())
 }
 
-fn append_words(text: &mut Chars, words: &str) -> Mem<()> {
-    for byte in words.as_bytes() {
-        text.push(Ch::Scalar(char::from(*byte)))?;
-    }
-    Ok(())
-}
-
 /// What the default sentinel puts in.
-fn sentinel_words(alloc: Global, name: &Chars, told: &Chars) -> Mem<Chars> {
+fn sentinel_words(alloc: Global, name: &Chars, told: &Chars) -> Mem<Chars>
+    ensures { IfOk result (λ words. words.items ≡ words_of_sentinel name.now.items told.now.items) }
+{
     let mut words = Chars::new(alloc);
-    append_words(&mut words, "\nProcess ")?;
+    append_ascii(&mut words, "\nProcess ")?;
     append(&mut words, name)?;
-    append_words(&mut words, " ")?;
+    append_ascii(&mut words, " ")?;
     append(&mut words, told)?;
     Ok(words)
 }
@@ -70,7 +104,16 @@ fn put_output<K: Sink>(
     sink: &mut K,
     process: u32,
     text: &Chars,
-) -> Result<(), Stop> {
+) -> Result<(), Stop>
+    requires made { process < length kernel.old.beside.processes }
+    requires some { 0 < length text.now.items }
+    ensures comes { (host : HostState) (program : Program) (kind : Kind) (rest : List Item) (u : Undo) (all : List Process) → StandsFor kernel.old.beside.processes all →
+        OutputComes result program (outside (K.state sink.old) host) (outside (K.state sink.new) host)
+        (output (inside (stands_at kernel.old u all)) process (bare text.now.items) (Exit kind None 0 false ∷ rest)) kind rest kernel.new }
+    ensures cause { HasCause (K.state sink.old).faults (K.state sink.new).faults (result ≡ Err Stop.WriteFault) }
+    ensures processes { kernel.new.beside.processes ≡ kernel.old.beside.processes }
+    ensures asked { kernel.new.beside.asked ≡ kernel.old.beside.asked }
+{
     let Some(place) = kernel.output_place(process) else {
         return Ok(());
     };

@@ -1,8 +1,9 @@
 //! Asking a process for its output and for its end.
 use crate::answer::Stop;
+use crate::ascii::append_ascii;
 use crate::handlers::{enter_filter, enter_sentinel};
 use crate::kernel::Kernel;
-use ek_types::{Ch, Chars, Mem, Sink};
+use ek_types::{Chars, Mem, Sink};
 use host_link::{Ended, Got, Host};
 use itoa::Buffer;
 use process_table::Status;
@@ -59,26 +60,18 @@ pub fn end<K: Sink, H: Host>(
     enter_sentinel(alloc, kernel, sink, process, &told)
 }
 
-/// Puts ASCII behind a text.
-fn append(text: &mut Chars, words: &str) -> Mem<()> {
-    for byte in words.as_bytes() {
-        text.push(Ch::Scalar(char::from(*byte)))?;
-    }
-    Ok(())
-}
-
 /// What a sentinel is told.
 fn told(alloc: Global, status: Status) -> Mem<Chars> {
     let mut text = Chars::new(alloc);
     match status {
-        Status::Exit(0) => append(&mut text, "finished\n")?,
+        Status::Exit(0) => append_ascii(&mut text, "finished\n")?,
         Status::Exit(code) => {
-            append(&mut text, "exited abnormally with code ")?;
-            append(&mut text, Buffer::new().format(code))?;
-            append(&mut text, "\n")?;
+            append_ascii(&mut text, "exited abnormally with code ")?;
+            append_ascii(&mut text, Buffer::new().format(code))?;
+            append_ascii(&mut text, "\n")?;
         }
-        Status::Failed => append(&mut text, "failed\n")?,
-        Status::Signal | Status::Run => append(&mut text, "killed\n")?,
+        Status::Failed => append_ascii(&mut text, "failed\n")?,
+        Status::Signal | Status::Run => append_ascii(&mut text, "killed\n")?,
     }
     Ok(text)
 }

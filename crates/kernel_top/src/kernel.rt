@@ -3,7 +3,8 @@ ghost use Rattle.std.specs.Prelude.{◌≡◌, ◌+◌, ◌<◌, ◌≤◌, leng
 ghost use Rattle.text_model.specs.Marks.{insertion, deletion, move_marker};
 ghost use Rattle.editor_model.specs.Limits.{longest_text, most_markers};
 ghost use Rattle.plain_machine.specs.Refusals.{most_exchanges};
-ghost use Rattle.kernel_top.specs.Plain.{new_kernel, changed_kernel, inserted, deleted, characters};
+ghost use Rattle.plain_machine.specs.Arguments.{find_process};
+ghost use Rattle.kernel_top.specs.Plain.{new_kernel, changed_kernel, inserted, deleted, characters, output_place, with_output, with_process};
 
 use crate::core_text::CoreText;
 use ek_types::{Chars, Mem, Piece};
@@ -94,7 +95,15 @@ impl Kernel {
 
     /// Makes the process of a child that was just started, with a name that no listed process has, and its mark at the
     /// end of the text where it has the buffer. A refusal may leave a marker more.
-    pub fn add(&mut self, name: &Chars, child: u32, buffer: Option<u32>) -> Mem<u32> {
+    pub fn add(&mut self, name: &Chars, child: u32, buffer: Option<u32>) -> Mem<u32>
+        requires processes { length self.old.beside.processes < 256 }
+        requires markers { length self.old.beside.markers < most_markers }
+        requires free { find_process 0 self.old.beside.processes name.now.items ≡ None }
+        requires home { IfSome buffer (λ b. b ≡ 0) }
+        ensures number { IfOk result (λ p. p ≡ length self.old.beside.processes) }
+        ensures ok { OnOk result (self.new ≡ with_process self.old name.now.items child buffer) }
+        ensures processes { OnErr result (self.new.beside.processes ≡ self.old.beside.processes) }
+    {
         let mark = self.markers.make()?;
         if buffer.is_some() {
             self.markers.set(mark, Some((SCRATCH, self.text.len())));
@@ -104,7 +113,11 @@ impl Kernel {
 
     /// Where the output of a process is put: at its mark, or at the end of the text where that points nowhere; nowhere
     /// where the process has no buffer.
-    pub fn output_place(&self, process: u32) -> Option<usize> {
+    pub fn output_place(&self, process: u32) -> Option<usize>
+        requires { process < length self.now.beside.processes }
+        ensures place { result ≡ output_place self.now process }
+        ensures within { IfSome result (λ place. place ≤ length self.now.content.text) }
+    {
         let process = self.processes.get(process);
         process.buffer()?;
         match self.markers.place(process.mark()) {
@@ -115,7 +128,13 @@ impl Kernel {
 
     /// Puts the output of a process in at a place. Markers and point there advance, and the process's mark goes behind
     /// it. A refusal leaves all as it was.
-    pub fn put_output(&mut self, process: u32, place: usize, text: &Chars) -> Mem<()> {
+    pub fn put_output(&mut self, process: u32, place: usize, text: &Chars) -> Mem<()>
+        requires made { process < length self.old.beside.processes }
+        requires within { place ≤ length self.old.content.text }
+        requires room { length self.old.content.text + length text.now.items ≤ longest_text }
+        ensures ok { OnOk result (self.new ≡ with_output self.old process place text.now.items) }
+        ensures err { OnErr result (self.new ≡ self.old) }
+    {
         let mark = self.processes.get(process).mark();
         self.text.insert_at(place, text)?;
         self.markers.note_insert(SCRATCH, place, text.len(), true);

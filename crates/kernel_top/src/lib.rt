@@ -3,6 +3,7 @@
 
 mod answer;
 mod apply;
+mod ascii;
 mod core_text;
 mod ending;
 mod forms;
@@ -18,5 +19,5 @@ mod waiting;
 pub use status::Status;
 pub use top::run;
 
-#[cfg(test)]
-mod tests;
+
+

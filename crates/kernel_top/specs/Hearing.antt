@@ -1,0 +1,28 @@
+-- The default filter and sentinel of a process, and what asking it comes to.
+use Rattle.std.specs.Prelude.{ℕ, Bool, List, [], ◌∷◌, ◌++◌, map, codes, Result, MatchResult, None}
+use Rattle.text_model.specs.Characters.{Ch, Scalar}
+use Rattle.text_model.specs.Properties.{bare}
+use Rattle.editor_model.specs.Values.{Str, TheProcess}
+use Rattle.plain_machine.specs.State.{Program}
+use Rattle.plain_machine.specs.Lines.{Kind, OfFilter}
+use Rattle.plain_machine.specs.Items.{Item, Enter, Exit, Config}
+use Rattle.kernel_top.specs.Plain.{Kernel}
+use Rattle.kernel_top.specs.Outside.{Outside}
+use Rattle.kernel_top.specs.Standing.{stands_at, inside, working, GoesTo, BreaksAt}
+use Rattle.kernel_top.specs.declared.answer.Stop.{Stop}
+
+-- the entry of a process's default filter with some output, if there is any
+abbrev pub filter_entry : (p : ℕ) → List Ch → List Item → List Item
+filter_entry p [] rest = rest
+filter_entry p (c ∷ text) rest = Enter (OfFilter p) None (TheProcess p ∷ Str (bare (c ∷ text)) ∷ []) ∷ rest
+
+-- what the default sentinel puts in
+abbrev pub words_of_sentinel : (name told : List Ch) → List Ch
+words_of_sentinel name told = map Scalar (codes "\nProcess ") ++ (name ++ (map Scalar (codes " ") ++ told))
+
+-- inside a default handler: the output is put in, or refused, and the handler is about to be left
+abbrev pub OutputComes : {T : Type 0} → Result T Stop → Program → (before now : Outside) → (from : Config) → Kind → List Item → Kernel → Type 0
+OutputComes result program before now from kind rest new =
+    MatchResult result
+    (λ _. (faulted : Bool) × GoesTo program before now from new (λ v all. working (inside (stands_at new v all)) (Exit kind None 0 faulted ∷ rest)))
+    (λ why. BreaksAt program before now from new why)

@@ -1,1 +1,0 @@
-//! What runs: names after an unlisting, a character cut in two, and each call once.

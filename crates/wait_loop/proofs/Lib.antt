@@ -1,2 +1,0 @@
-pub mod EligibleLemmas
-pub mod StepLemmas
