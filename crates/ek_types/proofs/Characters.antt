@@ -1,5 +1,5 @@
 -- Characters of a list that is seen through a function, one by one.
-use Rattle.std.proofs.Common.{◌≡◌, ℕ, zero, suc, ◌<◌, List, [], ◌∷◌, ◌++◌, length, map, get_or, arith}
+use Rattle.std.proofs.Common.{ℕ, zero, suc, ◌<◌, List, [], ◌∷◌, ◌++◌, length, map, get_or, arith}
 use Rattle.text_model.specs.Characters.{Ch, IsCharacter}
 use Rattle.ek_types.specs.Seen.{AreCharacters}
 

@@ -4,5 +4,6 @@ pub mod Listed
 pub mod Printing
 pub mod PropSets
 pub mod Pieces
+pub mod Putting
 pub mod Naming
 pub mod InTurn

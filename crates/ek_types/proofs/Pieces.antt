@@ -1,11 +1,10 @@
 -- The characters of a piece beside the sets that its runs give them.
-use Rattle.std.proofs.Common.{◌≡◌, ℕ, zero, suc, ◌+◌, ◌-◌, ◌≤◌, ◌<◌, List, [], ◌∷◌, ◌++◌, length, map, refl, ap, sym, ◌∙◌, arith, length-append}
-use Rattle.std.specs.Prelude.{replicate, Some, slice_get, option_map}
+use Rattle.std.proofs.Common.{◌≡◌, ℕ, zero, suc, ◌-◌, ◌≤◌, List, [], ◌∷◌, length, map, refl, ap, arith, length-append}
+use Rattle.std.specs.Prelude.{replicate}
 use Rattle.std.specs.List.{zip}
-use Rattle.std.proofs.lemmas.List.{length-replicate, length-map}
-use Rattle.std.proofs.lemmas.Option.{slice_get-map}
+use Rattle.std.proofs.lemmas.List.{length-replicate}
 use Rattle.text_model.specs.Characters.{Ch}
-use Rattle.text_model.specs.Properties.{PropSet, Cell, bare}
+use Rattle.text_model.specs.Properties.{bare}
 use Rattle.ek_types.specs.Runs.{sets_from, AreRising}
 use Rattle.ek_types.specs.declared.piece.Run.{Run}
 

@@ -5,8 +5,8 @@ use Rattle.std.specs.List.{prefix_len}
 use Rattle.std.proofs.lemmas.List.{map-append, take-map, drop-map}
 use Rattle.std.proofs.lemmas.Bool.{eqb-true, eqb-false, eq-eqb, ne_eqb, ltb-true, ltb-false}
 use Rattle.text_model.specs.Properties.{PropVal, Symbols, PropSet, without, with_value, given}
-use Rattle.text_model.specs.Ordered.{Rising, IsOrdered, IsValue, HasValues, IsProper}
-use Rattle.text_model.proofs.Sets.{by_test, rising_less, rising-without, rising-with_value, ordered-put}
+use Rattle.text_model.specs.Ordered.{Rising, IsValue, HasValues, IsProper}
+use Rattle.text_model.proofs.Sets.{by_test, rising-without, rising-with_value}
 use Rattle.ek_types.specs.Property.{is_before, without_first}
 
 -- IN PARTS

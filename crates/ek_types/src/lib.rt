@@ -13,6 +13,8 @@ mod places;
 mod prop_set;
 mod property;
 mod symbol;
+#[cfg(test)]
+mod tests;
 mod writing;
 
 pub use character::Ch;

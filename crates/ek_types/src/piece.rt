@@ -1,8 +1,10 @@
 //! Pieces of text: characters with their properties.
-ghost use Rattle.std.specs.Prelude.{◌≡◌, ◌<◌, ◌≤◌, length, map, [], ◌++◌, IfOk, OnOk, slice_get, Some, option_map, ◌==◌};
-ghost use Rattle.text_model.specs.Properties.{bare};
+ghost use Rattle.std.specs.Prelude.{◌≡◌, ℕ, ◌<◌, ◌≤◌, length, map, [], ◌++◌, IfOk, OnOk, OnErr, slice_get, Some, option_map, ◌==◌};
+ghost use Rattle.std.specs.List.{prefix_len};
+ghost use Rattle.text_model.specs.Properties.{bare, with_sets, edited, Replace};
 ghost use Rattle.text_model.specs.Characters.{IsCharacter};
 ghost use Rattle.ek_types.specs.Seen.{ch_of};
+ghost use Rattle.ek_types.specs.Runs.{AreRising, start_of, ends_by, set_at, rest_to};
 
 use crate::character::Ch;
 use crate::chars::Chars;
@@ -69,6 +71,58 @@ fn add_copies(runs: &mut Vec<Run>, from: &[Run]) -> Mem<()>
     Ok(())
 }
 
+/// How many runs end at a place or in front of it.
+fn ending_by(runs: &[Run], place: usize) -> usize
+    requires { (size : ℕ) × AreRising 0 runs.now size }
+    ensures exact { result ≡ prefix_len (ends_by place) runs.now }
+    ensures within { result ≤ length runs.now }
+{
+    runs.partition_point(
+        |run: &Run| -> bool
+            ensures { result ≡ ends_by place run.now }
+        { run.end <= place },
+    )
+}
+
+/// The place where a run starts.
+fn start(runs: &[Run], number: usize) -> usize
+    requires { number ≤ length runs.now }
+    ensures { result ≡ start_of 0 number runs.now }
+{
+    if number == 0 { 0 } else { runs[number - 1].end }
+}
+
+/// The set of a run, and behind the last run the set of no property.
+fn set_of<'a>(runs: &'a [Run], nothing: &'a PropSet, number: usize) -> &'a PropSet
+    requires { nothing.now ≡ [] }
+    ensures { result.now ≡ set_at number runs.now }
+{
+    match runs.get(number) {
+        Some(run) => &run.set,
+        None => nothing,
+    }
+}
+
+/// What is left of a run in front of a place, if anything.
+fn rest_of(
+    alloc: Global,
+    runs: &[Run],
+    nothing: &PropSet,
+    number: usize,
+    place: usize,
+) -> Mem<Vec<Run>>
+    requires number { number ≤ length runs.now }
+    requires nothing { nothing.now ≡ [] }
+    ensures { IfOk result (λ rest. rest.items ≡ rest_to 0 place number runs.now) }
+{
+    let mut rest = Vec::new(alloc);
+    if start(runs, number) < place {
+        let set = set_of(runs, nothing, number).copy()?;
+        rest.push(Run { end: place, set })?;
+    }
+    Ok(rest)
+}
+
 impl Piece {
     /// The characters without properties. It takes no memory.
     pub fn plain(alloc: Global, text: Chars) -> Piece
@@ -102,6 +156,41 @@ impl Piece {
         self.text.at(i)
     }
 
+    /// The property set of the character at a place.
+    pub fn props(&self, i: usize) -> &PropSet
+        requires { i < length self.now }
+        ensures { option_map (λ c. c.1) (slice_get self.now i) ≡ Some result.now }
+    {
+        set_of(&self.runs, &self.nothing, ending_by(&self.runs, i))
+    }
+
+    /// Gives each character from one place to another this property set in place of its own. Want of memory leaves
+    /// the piece as it was.
+    pub fn put(&mut self, from: usize, to: usize, set: &PropSet) -> Mem<()>
+        requires { (from ≤ to) × (to ≤ length self.old) }
+        ensures ok { OnOk result (self.new ≡ with_sets from to (edited (Replace set.now)) self.old) }
+        ensures err { OnErr result (self.new ≡ self.old) }
+    {
+        if from == to {
+            return Ok(());
+        }
+        let first = ending_by(&self.runs, from);
+        let behind = ending_by(&self.runs, to);
+        let mut new = rest_of(
+            *self.runs.allocator(),
+            &self.runs,
+            &self.nothing,
+            first,
+            from,
+        )?;
+        new.push(Run {
+            end: to,
+            set: set.copy()?,
+        })?;
+        self.runs.splice(first..behind, new)?;
+        Ok(())
+    }
+
     /// The same piece again.
     pub fn copy(&self) -> Mem<Piece>
         ensures { IfOk result (λ p. p ≡ self.now) }
@@ -115,3 +204,6 @@ impl Piece {
         })
     }
 }
+
+#[cfg(test)]
+mod tests;

@@ -122,3 +122,6 @@ impl Symbols {
         }
     }
 }
+
+#[cfg(test)]
+mod tests;

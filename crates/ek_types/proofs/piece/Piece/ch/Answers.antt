@@ -1,4 +1,4 @@
-use Rattle.std.proofs.Common.{◌≡◌, ◌∙◌, sym, ap, length, slice_get, arith}
+use Rattle.std.proofs.Common.{◌∙◌, sym, ap, length, slice_get, arith}
 use Rattle.std.proofs.lemmas.Option.{slice_get-map}
 use Rattle.ek_types.proofs.Pieces.{length-zip, firsts-zip, enough_sets}
 use Rattle.ek_types.proofs.piece.Piece.ch.Goals as goal

@@ -1,4 +1,4 @@
-use Rattle.std.proofs.Common.{◌∙◌, sym, ap, length}
+use Rattle.std.proofs.Common.{◌∙◌, sym}
 use Rattle.ek_types.proofs.Pieces.{length-zip, enough_sets}
 use Rattle.ek_types.proofs.piece.Piece.len.Goals as goal
 

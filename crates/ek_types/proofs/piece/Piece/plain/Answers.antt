@@ -1,4 +1,4 @@
-use Rattle.std.proofs.Common.{arith, length}
+use Rattle.std.proofs.Common.{arith}
 use Rattle.ek_types.proofs.Pieces.{zip-nothing}
 use Rattle.ek_types.proofs.piece.Piece.plain.Goals as goal
 
