@@ -1,0 +1,5 @@
+pub mod Changing
+pub mod Finding
+pub mod Numbering
+pub mod Reading
+pub mod Resolution

@@ -1,0 +1,3 @@
+pub mod Meaning
+pub mod Resolving
+pub mod Table

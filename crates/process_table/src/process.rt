@@ -1,0 +1,226 @@
+//! One process.
+ghost use Rattle.std.specs.Prelude.{◌≡◌, ◌+◌, ◌≤◌, [], ◌++◌, ◌&&◌, true, length, option_map};
+ghost use Rattle.text_model.specs.Decoding.{characters, tail, all_characters};
+ghost use Rattle.editor_model.specs.Editor.{same_name};
+ghost use Rattle.plain_machine.specs.Calls.{with_filter, with_sentinel, of_buffer, with_input_closed};
+ghost use Rattle.plain_machine.specs.Handling.{unlisted};
+ghost use Rattle.ek_types.specs.Property.{number_of};
+ghost use Rattle.process_table.specs.Meaning.{status_of, filter_of};
+ghost use Rattle.process_table.specs.Table.{new_process, with_status, with_held, with_drained};
+
+use crate::names::{Letters, are_same};
+use ek_types::{Chars, Sym};
+use std::marker::Model;
+use utf8_stream::Decoder;
+
+/// How a process stands (GNU Emacs Lisp Reference Manual, Process Information).
+#[derive(Clone, Copy, Debug, PartialEq, Eq)]
+pub enum Status {
+    Run,
+    /// It exited with this code.
+    Exit(i32),
+    /// A signal ended it, or it was deleted.
+    Signal,
+    /// Its end couldn't be had.
+    Failed,
+}
+
+/// Who hears the output of a process (GNU Emacs Lisp Reference Manual, Filter Functions).
+#[derive(Clone, Copy, Debug, PartialEq, Eq)]
+pub enum Filter {
+    /// The output is put into the buffer of the process.
+    Default,
+    /// Nobody: the process isn't read.
+    Off,
+    /// The handler of this name.
+    Named(Sym),
+}
+
+/// A process, seen as the machine's with `bytes` for those that its decoder holds.
+#[derive(Drop)]
+pub struct Process {
+    name: Chars,
+    child: u32,
+    status: Status,
+    buffer: Option<u32>,
+    mark: u32,
+    filter: Filter,
+    sentinel: Option<Sym>,
+    decoder: Decoder,
+    drained: bool,
+    closed: bool,
+    listed: bool,
+}
+
+impl Model for Process {
+    ghost use Rattle.std.specs.Prelude.{option_map};
+    ghost use Rattle.ek_types.specs.Property.{number_of};
+    ghost use Rattle.plain_machine.specs.State.{Process as Meant};
+
+    ghost Value = { Meant };
+
+    ghost use Rattle.process_table.specs.Meaning.{status_of, filter_of};
+
+    ghost view = { λ p. record { name = p.name.items; child = p.child; status = status_of p.status; buffer = p.buffer; mark = p.mark; filter = filter_of p.filter; sentinel = option_map number_of p.sentinel; bytes = p.decoder; drained = p.drained; closed = p.closed; listed = p.listed } };
+}
+
+impl Process {
+    /// A process that just started: with no handlers of its own, and nothing read.
+    pub(crate) fn new(name: Chars, child: u32, buffer: Option<u32>, mark: u32) -> Process
+        ensures { result ≡ new_process name.items child buffer mark }
+    {
+        Process {
+            name,
+            child,
+            status: Status::Run,
+            buffer,
+            mark,
+            filter: Filter::Default,
+            sentinel: None,
+            decoder: Decoder::new(),
+            drained: false,
+            closed: false,
+            listed: true,
+        }
+    }
+
+    pub fn name(&self) -> &Chars
+        ensures { result.now.items ≡ self.now.name }
+    {
+        &self.name
+    }
+
+    /// The number that the host gave its child.
+    pub fn child(&self) -> u32
+        ensures { result ≡ self.now.child }
+    {
+        self.child
+    }
+
+    pub fn status(&self) -> Status
+        ensures { status_of result ≡ self.now.status }
+    {
+        self.status
+    }
+
+    /// The number of its buffer, which may have been killed.
+    pub fn buffer(&self) -> Option<u32>
+        ensures { result ≡ self.now.buffer }
+    {
+        self.buffer
+    }
+
+    /// The marker where its output is put.
+    pub fn mark(&self) -> u32
+        ensures { result ≡ self.now.mark }
+    {
+        self.mark
+    }
+
+    pub fn filter(&self) -> Filter
+        ensures { filter_of result ≡ self.now.filter }
+    {
+        self.filter
+    }
+
+    /// The handler that hears of its end, or none of its own.
+    pub fn sentinel(&self) -> Option<Sym>
+        ensures { option_map number_of result ≡ self.now.sentinel }
+    {
+        self.sentinel
+    }
+
+    /// The bytes that its decoder holds, at most 3: those read that may still become a character.
+    pub fn held(&self) -> &[u8]
+        ensures held { result.now ≡ self.now.bytes }
+        ensures tail { tail self.now.bytes ≡ self.now.bytes }
+        ensures at_most { length self.now.bytes ≤ 3 }
+    {
+        self.decoder.held()
+    }
+
+    /// Whether its output has ended.
+    pub fn drained(&self) -> bool
+        ensures { result ≡ self.now.drained }
+    {
+        self.drained
+    }
+
+    /// Whether its input was closed.
+    pub fn closed(&self) -> bool
+        ensures { result ≡ self.now.closed }
+    {
+        self.closed
+    }
+
+    /// Whether it is on the process list: until its sentinel has ended.
+    pub fn listed(&self) -> bool
+        ensures { result ≡ self.now.listed }
+    {
+        self.listed
+    }
+
+    /// Whether it is on the process list under this name.
+    pub(crate) fn is_listed_as<N: Letters>(&self, name: &N) -> bool
+        ensures { result ≡ (self.now.listed && same_name self.now.name (N.letters name.now)) }
+    {
+        self.listed && are_same(&self.name, name)
+    }
+
+    pub(crate) fn set_filter(&mut self, filter: Filter)
+        ensures { self.new ≡ with_filter (filter_of filter) self.old }
+    {
+        self.filter = filter;
+    }
+
+    pub(crate) fn set_sentinel(&mut self, sentinel: Option<Sym>)
+        ensures { self.new ≡ with_sentinel (option_map number_of sentinel) self.old }
+    {
+        self.sentinel = sentinel;
+    }
+
+    pub(crate) fn set_buffer(&mut self, buffer: Option<u32>)
+        ensures { self.new ≡ of_buffer buffer self.old }
+    {
+        self.buffer = buffer;
+    }
+
+    pub(crate) fn note_end(&mut self, status: Status)
+        ensures { self.new ≡ with_status (status_of status) self.old }
+    {
+        self.status = status;
+    }
+
+    pub(crate) fn close_input(&mut self)
+        ensures { self.new ≡ with_input_closed self.old }
+    {
+        self.closed = true;
+    }
+
+    pub(crate) fn unlist(&mut self)
+        ensures { self.new ≡ unlisted self.old }
+    {
+        self.listed = false;
+    }
+
+    /// Appends the characters of the bytes held and given, and holds what may still become one.
+    pub(crate) fn feed(&mut self, bytes: &[u8], out: &mut Chars)
+        requires { length self.old.bytes + length bytes.now ≤ out.old.spare }
+        ensures items { out.new.items ≡ out.old.items ++ characters (self.old.bytes ++ bytes.now) }
+        ensures spare { out.new.spare + length (characters (self.old.bytes ++ bytes.now)) ≡ out.old.spare }
+        ensures process { self.new ≡ with_held (tail (self.old.bytes ++ bytes.now)) self.old }
+    {
+        self.decoder.feed(bytes, out);
+    }
+
+    /// Appends the bytes held as raw bytes, since its output has ended.
+    pub(crate) fn drain(&mut self, out: &mut Chars)
+        requires { length self.old.bytes ≤ out.old.spare }
+        ensures items { out.new.items ≡ out.old.items ++ all_characters self.old.bytes }
+        ensures spare { out.new.spare + length (all_characters self.old.bytes) ≡ out.old.spare }
+        ensures process { self.new ≡ with_drained self.old }
+    {
+        self.decoder.finish(out);
+        self.drained = true;
+    }
+}

@@ -1,0 +1,220 @@
+//! All processes of a run, by number.
+ghost use Rattle.std.specs.Prelude.{◌≡◌, ◌+◌, ◌<◌, ◌≤◌, [], ◌∷◌, ◌++◌, List, length, option_map, slice_get, Some, None, true, false, OnOk, OnErr, IfOk};
+ghost use Rattle.text_model.specs.Decoding.{characters, tail, all_characters};
+ghost use Rattle.plain_machine.specs.State.{State, Process as Meant, process, change_process};
+ghost use Rattle.plain_machine.specs.Arguments.{find_process, free_name, process_name};
+ghost use Rattle.plain_machine.specs.Calls.{with_filter, with_sentinel, of_buffer, with_input_closed};
+ghost use Rattle.plain_machine.specs.Handling.{unlisted};
+ghost use Rattle.plain_machine.specs.Waits.{more_characters};
+ghost use Rattle.ek_types.specs.Property.{number_of};
+ghost use Rattle.ek_call.specs.Meaning.{view};
+ghost use Rattle.process_table.specs.Meaning.{status_of, filter_of};
+ghost use Rattle.process_table.specs.Table.{NamesDiffer, StandsFor, new_process, with_table, changed, held_by, with_status, with_held, with_drained};
+ghost use Rattle.process_table.specs.Resolving.{Resolves, IsMade};
+
+use crate::names::{Letters, numbered};
+use crate::process::{Filter, Process, Status};
+use ek_call::{Fault, Value};
+use ek_types::{Chars, Mem, Sym};
+use std::alloc::Global;
+use std::marker::Model;
+
+/// Processes by number, from 0 in the order in which they were made, seen as the list of them. A run makes at most 256.
+/// Names of listed processes differ.
+#[derive(Drop)]
+pub struct Processes {
+    list: Vec<Process>,
+}
+
+impl Model for Processes {
+    ghost use Rattle.std.specs.Prelude.{List, length, ◌≤◌};
+    ghost use Rattle.plain_machine.specs.State.{Process as Meant};
+
+    ghost Value = { List Meant };
+
+    ghost use Rattle.process_table.specs.Table.{NamesDiffer};
+
+    ghost view = { λ t. t.list.items };
+
+    ghost invariant = { λ t. (length t.list.items ≤ 256) × NamesDiffer t.list.items };
+}
+
+impl Processes {
+    /// No processes yet, and no memory taken.
+    pub fn new(alloc: Global) -> Processes
+        ensures { result ≡ [] }
+    {
+        Processes {
+            list: Vec::new(alloc),
+        }
+    }
+
+    /// How many were made.
+    pub fn count(&self) -> u32
+        ensures count { result ≡ length self.now }
+        ensures few { length self.now ≤ 256 }
+        ensures differ { NamesDiffer self.now }
+    {
+        self.list.len() as u32
+    }
+
+    /// Makes a process that just started, and gives its number. A refusal leaves all processes as they were.
+    pub fn add(&mut self, name: &Chars, child: u32, buffer: Option<u32>, mark: u32) -> Mem<u32>
+        requires room { length self.old < 256 }
+        requires free { find_process 0 self.old name.now.items ≡ None }
+        ensures number { IfOk result (λ p. p ≡ length self.old) }
+        ensures ok { OnOk result (self.new ≡ self.old ++ new_process name.now.items child buffer mark ∷ []) }
+        ensures err { OnErr result (self.new ≡ self.old) }
+        ensures machine { OnOk result ((all : List Meant) → StandsFor self.old all → StandsFor self.new (all ++ new_process name.now.items child buffer mark ∷ [])) }
+    {
+        let number = self.list.len() as u32;
+        let name = name.copy()?;
+        self.list.push(Process::new(name, child, buffer, mark))?;
+        Ok(number)
+    }
+
+    /// The process of number `p`.
+    pub fn get(&self, p: u32) -> &Process
+        requires { p < length self.now }
+        ensures { slice_get self.now p ≡ Some result.now }
+    {
+        &self.list[p as usize]
+    }
+
+    /// The process that an argument of a call gives: itself, or as the name of a listed one (GNU Emacs Lisp Reference
+    /// Manual, Process Information). Other kinds are of a wrong type; a name that no listed process has is refused too.
+    pub fn resolve(&self, v: &Value) -> Result<u32, Fault>
+        requires { IsMade (length self.now) (view v.now) }
+        ensures resolves { Resolves (with_table self.now) (view v.now) result }
+        ensures made { IfOk result (λ p. p < length self.now) }
+        ensures machine { (s : State) → StandsFor self.now s.processes → Resolves s (view v.now) result }
+    {
+        match v {
+            Value::Process(p) => Ok(*p),
+            Value::Str(name) => self.find(name).ok_or(Fault::NoSuchProcess),
+            _ => Err(Fault::WrongType),
+        }
+    }
+
+    /// The number of the listed process of a name.
+    fn find<N: Letters>(&self, name: &N) -> Option<u32>
+        ensures { result ≡ find_process 0 self.now (N.letters name.now) }
+    {
+        for p in 0..self.list.len() {
+            if self.list[p].is_listed_as(name) {
+                return Some(p as u32);
+            }
+        }
+        None
+    }
+
+    /// The name itself, or the first with `<1>`, `<2>` and so on behind it that no listed process has.
+    pub fn free_name(&self, name: &Chars) -> Mem<Chars>
+        ensures name { IfOk result (λ n. n.items ≡ process_name self.now name.now.items) }
+        ensures free { IfOk result (λ n. find_process 0 self.now n.items ≡ None) }
+        ensures machine { (all : List Meant) → StandsFor self.now all → IfOk result (λ n. n.items ≡ process_name all name.now.items) }
+    {
+        if self.find(name).is_none() {
+            name.copy()
+        } else {
+            self.first_free(name)
+        }
+    }
+
+    /// The first of the name with `<1>`, `<2>` and so on behind it that no listed process has.
+    fn first_free(&self, name: &Chars) -> Mem<Chars>
+        ensures name { IfOk result (λ n. n.items ≡ free_name (length self.now) 1 self.now name.now.items) }
+        ensures free { IfOk result (λ n. find_process 0 self.now n.items ≡ None) }
+    {
+        let count = self.count();
+        for n in 1..count + 1 {
+            let longer = numbered(name, n)?;
+            if self.find(&longer).is_none() {
+                return Ok(longer);
+            }
+        }
+        numbered(name, count + 1)
+    }
+
+    /// Sets who hears the output of process `p`.
+    pub fn set_filter(&mut self, p: u32, f: Filter)
+        requires { p < length self.old }
+        ensures table { self.new ≡ changed p (with_filter (filter_of f)) self.old }
+        ensures machine { (s : State) → StandsFor self.old s.processes → StandsFor self.new (change_process p (with_filter (filter_of f)) s).processes }
+    {
+        self.list[p as usize].set_filter(f);
+    }
+
+    /// Sets the handler that hears of the end of process `p`; `None` is the default one.
+    pub fn set_sentinel(&mut self, p: u32, s: Option<Sym>)
+        requires { p < length self.old }
+        ensures table { self.new ≡ changed p (with_sentinel (option_map number_of s)) self.old }
+        ensures machine { (m : State) → StandsFor self.old m.processes → StandsFor self.new (change_process p (with_sentinel (option_map number_of s)) m).processes }
+    {
+        self.list[p as usize].set_sentinel(s);
+    }
+
+    /// Sets the buffer of process `p`. Its mark stays.
+    pub fn set_buffer(&mut self, p: u32, b: Option<u32>)
+        requires { p < length self.old }
+        ensures table { self.new ≡ changed p (of_buffer b) self.old }
+        ensures machine { (s : State) → StandsFor self.old s.processes → StandsFor self.new (change_process p (of_buffer b) s).processes }
+    {
+        self.list[p as usize].set_buffer(b);
+    }
+
+    /// Takes process `p` off the process list. The process stays.
+    pub fn unlist(&mut self, p: u32)
+        requires { p < length self.old }
+        ensures table { self.new ≡ changed p unlisted self.old }
+        ensures machine { (s : State) → StandsFor self.old s.processes → StandsFor self.new (change_process p unlisted s).processes }
+    {
+        self.list[p as usize].unlist();
+    }
+
+    /// Notes how process `p` stands.
+    pub fn note_end(&mut self, p: u32, s: Status)
+        requires { p < length self.old }
+        ensures table { self.new ≡ changed p (with_status (status_of s)) self.old }
+        ensures machine { (m : State) → StandsFor self.old m.processes → StandsFor self.new (change_process p (with_status (status_of s)) m).processes }
+    {
+        self.list[p as usize].note_end(s);
+    }
+
+    /// Notes that the input of process `p` was closed.
+    pub fn close_input(&mut self, p: u32)
+        requires { p < length self.old }
+        ensures table { self.new ≡ changed p with_input_closed self.old }
+        ensures machine { (s : State) → StandsFor self.old s.processes → StandsFor self.new (change_process p with_input_closed s).processes }
+    {
+        self.list[p as usize].close_input();
+    }
+
+    /// Bytes of process `p` were read: appends the characters of the bytes held and these, and then holds what may still
+    /// become a character. The room is that of the bytes held and given; no memory is taken.
+    pub fn feed(&mut self, p: u32, bytes: &[u8], out: &mut Chars)
+        requires made { p < length self.old }
+        requires room { length (held_by self.old p) + length bytes.now ≤ out.old.spare }
+        ensures items { out.new.items ≡ out.old.items ++ characters (held_by self.old p ++ bytes.now) }
+        ensures spare { out.new.spare + length (characters (held_by self.old p ++ bytes.now)) ≡ out.old.spare }
+        ensures table { self.new ≡ changed p (with_held (tail (held_by self.old p ++ bytes.now))) self.old }
+        ensures machine { (s : State) (x : Meant) → StandsFor self.old s.processes → process s p ≡ Some x → x.drained ≡ false → StandsFor self.new (change_process p (λ y. record y { bytes = x.bytes ++ bytes.now }) s).processes }
+        ensures heard { (s : State) (x : Meant) → StandsFor self.old s.processes → process s p ≡ Some x → x.drained ≡ false → out.new.items ≡ out.old.items ++ more_characters (characters x.bytes) (characters (x.bytes ++ bytes.now)) }
+    {
+        self.list[p as usize].feed(bytes, out);
+    }
+
+    /// The output of process `p` has ended: appends the bytes held as raw bytes, and then holds nothing. The room is that
+    /// of the bytes held; no memory is taken.
+    pub fn drain(&mut self, p: u32, out: &mut Chars)
+        requires made { p < length self.old }
+        requires room { length (held_by self.old p) ≤ out.old.spare }
+        ensures items { out.new.items ≡ out.old.items ++ all_characters (held_by self.old p) }
+        ensures spare { out.new.spare + length (all_characters (held_by self.old p)) ≡ out.old.spare }
+        ensures table { self.new ≡ changed p with_drained self.old }
+        ensures machine { (s : State) → StandsFor self.old s.processes → StandsFor self.new (change_process p (λ y. record y { drained = true }) s).processes }
+        ensures heard { (s : State) (x : Meant) → StandsFor self.old s.processes → process s p ≡ Some x → x.drained ≡ false → out.new.items ≡ out.old.items ++ more_characters (characters x.bytes) (all_characters x.bytes) }
+    {
+        self.list[p as usize].drain(out);
+    }
+}

@@ -1,0 +1,1 @@
+//! What runs: names after an unlisting, a character cut in two, and each call once.
