@@ -1,0 +1,3 @@
+pub mod EligibleLemmas
+pub mod RoundLemmas
+pub mod StepLemmas
