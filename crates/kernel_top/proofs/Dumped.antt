@@ -57,7 +57,7 @@ no_runs : (symbols : List (List ℕ)) (at : ℕ) (text : List Ch) → run_words 
 no_runs symbols at [] = refl
 no_runs symbols at (c ∷ text) = no_run_more symbols at (stretches same_set (at + 1) (map (λ c. c.1) (bare text))) (no_runs symbols (at + 1) text)
 
-text_shown : (symbols : List (List ℕ)) (text : List Ch) → shown_text symbols (bare text) ≡ quoted text
+pub text_shown : (symbols : List (List ℕ)) (text : List Ch) → shown_text symbols (bare text) ≡ quoted text
 text_shown symbols text = rw (shown_text, no_runs symbols 0 text) (ap quoted (text_alone text))
 
 -- the lines of the buffer around what is shown of its text

@@ -5,6 +5,7 @@ pub mod Dumped
 pub mod Gathering
 pub mod Outcomes
 pub mod Prepared
+pub mod Printed
 pub mod Rotating
 pub mod Scripts
 pub mod SoFar
