@@ -5,6 +5,7 @@ pub mod Gathering
 pub mod Handling
 pub mod Journeys
 pub mod Prepared
+pub mod Printed
 pub mod Rotating
 pub mod SoFar
 pub mod Taking

@@ -4,4 +4,5 @@ pub mod Hearing
 pub mod Outcomes
 pub mod Outside
 pub mod Plain
+pub mod Printed
 pub mod Standing

@@ -48,9 +48,9 @@ pub record IsOrdinary (markers : ℕ) (x : Process) : Type 0 where
   pub filter : x.filter ≡ Default
   pub sentinel : x.sentinel ≡ None
 
--- a marker points nowhere or into the text
+-- a marker stays behind at insertions, and points nowhere or into the text
 abbrev pub IsWithin : (size : ℕ) → Marker → Type 0
-IsWithin size m = IfSome m.spot (λ s. (s.buffer ≡ 0) × (s.place ≤ size))
+IsWithin size m = (m.advances ≡ false) × IfSome m.spot (λ s. (s.buffer ≡ 0) × (s.place ≤ size))
 
 pub record IsSound (kernel : Kernel) : Type 0 where
   pub within : All (IsWithin (length kernel.content.text)) kernel.beside.markers

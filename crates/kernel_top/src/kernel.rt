@@ -5,6 +5,8 @@ ghost use Rattle.editor_model.specs.Limits.{longest_text, most_markers};
 ghost use Rattle.plain_machine.specs.Refusals.{most_exchanges};
 ghost use Rattle.plain_machine.specs.Arguments.{find_process};
 ghost use Rattle.kernel_top.specs.Plain.{new_kernel, changed_kernel, inserted, deleted, characters, output_place, with_output, with_process};
+ghost use Rattle.kernel_top.specs.Printed.{spot_of};
+ghost use Rattle.marker_set.specs.Numbered.{marker_at};
 
 use crate::core_text::CoreText;
 use ek_types::{Chars, Mem, Piece};
@@ -111,6 +113,19 @@ impl Kernel {
         self.processes.add(name, child, buffer, mark)
     }
 
+    /// Where a marker points in the buffer.
+    pub fn marker_place(&self, k: u32) -> Option<usize>
+        requires { k < length self.now.beside.markers }
+        ensures place { spot_of result ≡ (marker_at self.now.beside.markers k).spot }
+        ensures within { IfSome result (λ place. place ≤ length self.now.content.text) }
+        ensures few { IfSome result (λ place. place ≤ longest_text) }
+    {
+        match self.markers.place(k) {
+            Some((_, place)) => Some(place),
+            None => None,
+        }
+    }
+
     /// Where the output of a process is put: at its mark, or at the end of the text where that points nowhere; nowhere
     /// where the process has no buffer.
     pub fn output_place(&self, process: u32) -> Option<usize>
@@ -120,8 +135,8 @@ impl Kernel {
     {
         let process = self.processes.get(process);
         process.buffer()?;
-        match self.markers.place(process.mark()) {
-            Some((_, place)) => Some(place),
+        match self.marker_place(process.mark()) {
+            Some(place) => Some(place),
             None => Some(self.text.len()),
         }
     }

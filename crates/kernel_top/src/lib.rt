@@ -15,9 +15,7 @@ mod starting;
 mod status;
 mod top;
 mod waiting;
+mod words;
 
 pub use status::Status;
 pub use top::run;
-
-
-
