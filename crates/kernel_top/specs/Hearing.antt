@@ -1,5 +1,5 @@
 -- The default filter and sentinel of a process, and what asking it comes to.
-use Rattle.std.specs.Prelude.{ℕ, Bool, List, [], ◌∷◌, ◌++◌, map, codes, Result, MatchResult, None}
+use Rattle.std.specs.Prelude.{ℕ, Bool, List, [], ◌∷◌, ◌++◌, map, codes, Result, MatchResult, Some, None, slice_get, nat_lt}
 use Rattle.text_model.specs.Characters.{Ch, Scalar}
 use Rattle.text_model.specs.Properties.{bare}
 use Rattle.editor_model.specs.Values.{Str, TheProcess}
@@ -26,3 +26,20 @@ OutputComes result program before now from kind rest new =
     MatchResult result
     (λ _. (faulted : Bool) × GoesTo program before now from new (λ v all. working (inside (stands_at new v all)) (Exit kind None 0 faulted ∷ rest)))
     (λ why. BreaksAt program before now from new why)
+
+-- what a sentinel is told of the status that its process has come to
+abbrev pub told_of : Status → List Ch
+told_of (Exited n) = map Scalar (exit_text n)
+told_of Lost = map Scalar (codes "failed\n")
+told_of _ = map Scalar (codes "killed\n")
+
+-- a process that may be asked: for its end where its output has ended, else for output
+pub record IsAsked (k : Kernel) (p : ℕ) (drained : Bool) : Type 0 where
+  pub process : Process
+  pub made : slice_get k.beside.processes p ≡ Some process
+  pub runs : runs process.status ≡ true
+  pub drained : process.drained ≡ drained
+  pub may_ask : nat_lt k.beside.asked most_exchanges ≡ true
+
+abbrev pub MayBeAsked : Kernel → (p : ℕ) → Type 0
+MayBeAsked k p = (drained : Bool) × IsAsked k p drained

@@ -1,4 +1,6 @@
 pub mod Answers
+pub mod Calls
+pub mod Ending
 pub mod Forms
 pub mod Hearing
 pub mod Outcomes
@@ -6,3 +8,4 @@ pub mod Outside
 pub mod Plain
 pub mod Printed
 pub mod Standing
+pub mod Starting

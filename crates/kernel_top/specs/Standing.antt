@@ -1,5 +1,5 @@
 -- Where a run stands: the machine's configuration that a kernel stands for, and what a piece of the run's work comes to.
-use Rattle.std.specs.Prelude.{◌≡◌, ℕ, ◌<◌, Bool, true, false, List, [], ◌∷◌, ◌++◌, length, map, filter, slice_get, Some, None, All, Result, MatchResult}
+use Rattle.std.specs.Prelude.{◌≡◌, ℕ, ◌<◌, ◌≤◌, Bool, true, false, List, [], ◌∷◌, ◌++◌, length, map, filter, slice_get, Some, None, All, Result, Ok, Err, MatchResult}
 use Rattle.text_model.specs.Undo.{Undo}
 use Rattle.plain_machine.specs.State.{State, Process, Program}
 use Rattle.plain_machine.specs.Arguments.{runs}
@@ -64,6 +64,14 @@ abbrev pub Hosted : List Process → (kills : List Bool) → Type 0
 Hosted [] kills = Unit {0}
 Hosted (x ∷ rest) kills = (x.child < length kills) × (runs x.status ≡ true → slice_get kills x.child ≡ Some false) × All (λ y. x.child < y.child) rest × Hosted rest kills
 
--- after a piece of work, also for a child without a process
-abbrev pub StaysHosted : {T : Type 0} → Result T Stop → Kernel → (kills : List Bool) → Type 0
-StaysHosted result new kills = MatchResult result (λ x. Hosted new.beside.processes kills) (λ why. Hosted (new.beside.processes ++ unmade why) kills)
+-- the children after a piece of work, also one without a process; each that was started since has a process
+abbrev pub StaysHosted : {T : Type 0} → Result T Stop → (old : Kernel) → (old_kills : List Bool) → (new : Kernel) → (kills : List Bool) → Type 0
+StaysHosted result old old_kills new kills =
+    MatchResult result
+    (λ x. Hosted new.beside.processes kills × (length kills + length old.beside.processes ≤ length old_kills + length new.beside.processes))
+    (λ why. Hosted (new.beside.processes ++ unmade why) kills)
+
+-- processes with one that could not be made, where the run was broken off for that
+abbrev pub with_unmade : {T : Type 0} → Result T Stop → List Process → List Process
+with_unmade (Ok x) list = list
+with_unmade (Err why) list = list ++ unmade why

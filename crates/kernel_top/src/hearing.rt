@@ -1,4 +1,19 @@
 //! Asking a process for its output and for its end.
+ghost use Rattle.std.specs.Prelude.{◌≡◌, ◌+◌, ◌<◌, ◌≤◌, List, ◌∷◌, length, IfOk, OnOk, OnErr, Err, Some, true, false, slice_get, nat_lt};
+ghost use Rattle.text_model.specs.Undo.{Undo};
+ghost use Rattle.plain_machine.specs.State.{Process, Program};
+ghost use Rattle.plain_machine.specs.Arguments.{runs};
+ghost use Rattle.plain_machine.specs.Items.{Item, Wait, Target, Waiting};
+ghost use Rattle.plain_machine.specs.Refusals.{most_exchanges};
+ghost use Rattle.process_table.specs.Table.{StandsFor};
+ghost use Rattle.process_table.specs.Meaning.{status_of};
+ghost use Rattle.wait_loop.specs.KeptWaits.{noted};
+ghost use Rattle.wait_loop.specs.Rounds.{AsksProcess};
+ghost use Rattle.ek_types.specs.Io.{HasCause};
+ghost use Rattle.kernel_top.specs.Outside.{outside};
+ghost use Rattle.kernel_top.specs.Standing.{stands_at, working, Comes, Hosted, StaysHosted};
+ghost use Rattle.kernel_top.specs.Hearing.{told_of, IsAsked};
+
 use crate::answer::Stop;
 use crate::ascii::append_ascii;
 use crate::handlers::{enter_filter, enter_sentinel};
@@ -22,7 +37,17 @@ pub fn read<K: Sink, H: Host>(
     host: &mut H,
     sink: &mut K,
     process: u32,
-) -> Result<bool, Stop> {
+) -> Result<bool, Stop>
+    requires asked { IsAsked kernel.old process false }
+    requires hosted { Hosted kernel.old.beside.processes (H.state host.old).kills }
+    ensures comes { (program : Program) (w v : Waiting) (target : Target) (rest : List Item) (u : Undo) (all : List Process) → StandsFor kernel.old.beside.processes all →
+        AsksProcess (stands_at kernel.old u all) w process v →
+        Comes result program (outside (K.state sink.old) (H.state host.old)) (outside (K.state sink.new) (H.state host.new)) (working (stands_at kernel.old u all) (Wait w target ∷ rest))
+        kernel.new (λ bytes v2 all2. working (stands_at kernel.new v2 all2) (Wait (noted process bytes v) target ∷ rest)) }
+    ensures cause { HasCause (K.state sink.old).faults (K.state sink.new).faults (result ≡ Err Stop.WriteFault) }
+    ensures hosted { StaysHosted result kernel.old (H.state host.old).kills kernel.new (H.state host.new).kills }
+    ensures asked { OnOk result (kernel.new.beside.asked ≡ kernel.old.beside.asked + 1) }
+{
     let mut text = Chars::new(alloc);
     text.reserve(READ + HELD)?;
     let mut room = [0u8; READ];
@@ -45,7 +70,17 @@ pub fn end<K: Sink, H: Host>(
     host: &mut H,
     sink: &mut K,
     process: u32,
-) -> Result<(), Stop> {
+) -> Result<(), Stop>
+    requires asked { IsAsked kernel.old process true }
+    requires hosted { Hosted kernel.old.beside.processes (H.state host.old).kills }
+    ensures comes { (program : Program) (w v : Waiting) (target : Target) (rest : List Item) (u : Undo) (all : List Process) → StandsFor kernel.old.beside.processes all →
+        AsksProcess (stands_at kernel.old u all) w process v →
+        Comes result program (outside (K.state sink.old) (H.state host.old)) (outside (K.state sink.new) (H.state host.new)) (working (stands_at kernel.old u all) (Wait w target ∷ rest))
+        kernel.new (λ _ v2 all2. working (stands_at kernel.new v2 all2) (Wait v target ∷ rest)) }
+    ensures cause { HasCause (K.state sink.old).faults (K.state sink.new).faults (result ≡ Err Stop.WriteFault) }
+    ensures hosted { StaysHosted result kernel.old (H.state host.old).kills kernel.new (H.state host.new).kills }
+    ensures asked { OnOk result (kernel.new.beside.asked ≡ kernel.old.beside.asked + 1) }
+{
     let child = kernel.processes.get(process).child();
     let ended = host.end(child)?;
     kernel.asked += 1;
@@ -61,7 +96,9 @@ pub fn end<K: Sink, H: Host>(
 }
 
 /// What a sentinel is told.
-fn told(alloc: Global, status: Status) -> Mem<Chars> {
+fn told(alloc: Global, status: Status) -> Mem<Chars>
+    ensures { IfOk result (λ text. text.items ≡ told_of (status_of status)) }
+{
     let mut text = Chars::new(alloc);
     match status {
         Status::Exit(0) => append_ascii(&mut text, "finished\n")?,

@@ -1,4 +1,22 @@
-//! Starting a child as a process.
+//! Starting a child as a process (GNU Emacs Lisp Reference Manual, Asynchronous Processes).
+ghost use Rattle.std.specs.Prelude.{◌≡◌, ℕ, ◌+◌, ◌<◌, ◌≤◌, ◌^◌, List, [], ◌∷◌, length, map, drop, IfOk, IfSome, Err, Some, None, Bool, true, false, option_map, string_bytes};
+ghost use Rattle.std.specs.List.{list_all};
+ghost use Rattle.text_model.specs.Characters.{Ch as Character};
+ghost use Rattle.text_model.specs.Properties.{Cell, bare};
+ghost use Rattle.editor_model.specs.Answers.{first_fault};
+ghost use Rattle.editor_model.specs.Values.{Const, Nil as nil, Str as string_value, plain, StartProcess};
+ghost use Rattle.plain_machine.specs.State.{Process};
+ghost use Rattle.plain_machine.specs.Arguments.{encoded, is_plain};
+ghost use Rattle.ek_types.specs.Listing.{items_of};
+ghost use Rattle.ek_types.specs.Io.{SinkState};
+ghost use Rattle.ek_call.specs.Meaning.{arg_of};
+ghost use Rattle.ek_call.specs.Faults.{fault_of};
+ghost use Rattle.kernel_top.specs.Plain.{characters as characters_of};
+ghost use Rattle.kernel_top.specs.Outside.{outside};
+ghost use Rattle.kernel_top.specs.Standing.{Hosted, StaysHosted};
+ghost use Rattle.kernel_top.specs.Calls.{AreOfStart, ComesToReply};
+ghost use Rattle.kernel_top.specs.Starting.{AreStrings, are_words, start_refused, buffer_of, texts_of};
+
 use crate::answer::{Answer, Stop};
 use crate::apply::string;
 use crate::kernel::{Kernel, SCRATCH};
@@ -17,7 +35,9 @@ const MOST_PROCESSES: u32 = 256;
 const MOST_MARKERS: u32 = 65_536;
 
 /// Whether a text can be a word of a command: it has neither a character 0 nor a raw byte.
-fn is_word(text: &Piece) -> bool {
+fn is_word(text: &Piece) -> bool
+    ensures { result ≡ list_all is_plain text.now }
+{
     for i in 0..text.len() {
         match text.ch(i) {
             Ch::Scalar('\0') | Ch::Raw(_) => return false,
@@ -28,7 +48,10 @@ fn is_word(text: &Piece) -> bool {
 }
 
 /// The bytes of a word.
-fn word(alloc: Global, text: &Piece) -> Mem<String> {
+fn word(alloc: Global, text: &Piece) -> Mem<String>
+    requires { list_all is_plain text.now ≡ true }
+    ensures { IfOk result (λ word. string_bytes word ≡ encoded text.now) }
+{
     let mut word = String::new(alloc);
     for i in 0..text.len() {
         if let Ch::Scalar(c) = text.ch(i) {
@@ -38,7 +61,9 @@ fn word(alloc: Global, text: &Piece) -> Mem<String> {
     Ok(word)
 }
 
-fn characters(alloc: Global, text: &Piece) -> Mem<Chars> {
+fn characters(alloc: Global, text: &Piece) -> Mem<Chars>
+    ensures { IfOk result (λ characters. characters.items ≡ characters_of text.now) }
+{
     let mut characters = Chars::new(alloc);
     for i in 0..text.len() {
         characters.push(text.ch(i))?;
@@ -46,12 +71,19 @@ fn characters(alloc: Global, text: &Piece) -> Mem<Chars> {
     Ok(characters)
 }
 
-fn are_words(args: &[Arg]) -> bool {
+fn are_words(args: &[Arg]) -> bool
+    requires { AreStrings (map arg_of args.now) }
+    ensures { result ≡ are_words (map arg_of args.now) }
+{
     args.iter()
         .all(|arg| string(arg).is_some_and(is_word))
 }
 
-fn words(alloc: Global, args: &[Arg]) -> Mem<Vec<String>> {
+fn words(alloc: Global, args: &[Arg]) -> Mem<Vec<String>>
+    requires strings { AreStrings (map arg_of args.now) }
+    requires words { are_words (map arg_of args.now) ≡ true }
+    ensures { IfOk result (λ words. map string_bytes words.items ≡ map encoded (texts_of (map arg_of args.now))) }
+{
     let mut words = Vec::new(alloc);
     for arg in args {
         if let Some(text) = string(arg) {
@@ -62,7 +94,9 @@ fn words(alloc: Global, args: &[Arg]) -> Mem<Vec<String>> {
 }
 
 /// The buffer of a start: none, or the one buffer by its name.
-fn buffer(arg: &Arg) -> Option<u32> {
+fn buffer(arg: &Arg) -> Option<u32>
+    ensures { result ≡ buffer_of (arg_of arg.now) }
+{
     match arg {
         Arg::Const(Value::Nil) => None,
         _ => Some(SCRATCH),
@@ -70,8 +104,11 @@ fn buffer(arg: &Arg) -> Option<u32> {
 }
 
 /// Why a start is refused before anything is asked.
-fn refusal(kernel: &Kernel, name: &Piece, program: &Piece, args: &[Arg]) -> Option<Fault> {
-    if name.is_empty() || program.is_empty() || !are_words(&args[2..]) {
+fn refusal(kernel: &Kernel, name: &Piece, program: &Piece, words: &[Arg]) -> Option<Fault>
+    requires { AreStrings (map arg_of words.now) }
+    ensures { option_map fault_of result ≡ start_refused kernel.now name.now program.now (map arg_of words.now) }
+{
+    if name.is_empty() || program.is_empty() || !are_words(words) {
         return Some(Fault::WrongType);
     }
     if name.len() > LONGEST_NAME
@@ -92,14 +129,23 @@ pub fn start_process<H: Host>(
     kernel: &mut Kernel,
     host: &mut H,
     args: &Args,
-) -> Result<Answer, Stop> {
+) -> Result<Answer, Stop>
+    requires start { AreOfStart (map arg_of (items_of args.now)) }
+    requires hosted { Hosted kernel.old.beside.processes (H.state host.old).kills }
+    requires few { length (H.state host.old).kills < 2 ^ 32 - 1 }
+    ensures comes { (sink : SinkState) → ComesToReply result StartProcess (map arg_of (items_of args.now))
+        (outside sink (H.state host.old)) (outside sink (H.state host.new)) kernel.old kernel.new }
+    ensures hosted { StaysHosted result kernel.old (H.state host.old).kills kernel.new (H.state host.new).kills }
+    ensures made { (p : ℕ) → result ≡ Ok (Answer.Process p) → p < length kernel.new.beside.processes }
+    ensures fault { result ≡ Err Stop.WriteFault → ⊥ }
+{
     let Some(name) = string(args.at(0)) else {
         unreachable!()
     };
     let Some(program) = string(args.at(2)) else {
         unreachable!()
     };
-    if let Some(fault) = refusal(kernel, name, program, args.as_slice()) {
+    if let Some(fault) = refusal(kernel, name, program, &args.as_slice()[2..]) {
         return Ok(Answer::Fault(fault));
     }
     let characters = characters(alloc, name)?;

@@ -5,7 +5,10 @@ ghost use Rattle.editor_model.specs.Values.{Script as Meant};
 ghost use Rattle.plain_machine.specs.Grammar.{longest_script};
 ghost use Rattle.ek_types.specs.Io.{HasCause, Rose};
 ghost use Rattle.script_read.specs.GrammarSoFar.{IsScriptSoFar};
-ghost use Rattle.kernel_top.specs.Outcomes.{IsRun, HasEnded, Outcome, SaysAtMost};
+ghost use Rattle.plain_machine.specs.Exchanges.{Exchange};
+ghost use Rattle.plain_machine.specs.Run.{start};
+ghost use Rattle.kernel_top.specs.Outside.{Tells, SaysAtMost};
+ghost use Rattle.kernel_top.specs.Outcomes.{IsRun, HasEnded, Outcome, IsUnasked, program_for};
 
 use crate::answer::Stop;
 use crate::forms::run_script;
@@ -62,11 +65,14 @@ fn read_all<S: Source>(alloc: Global, source: &mut S) -> Result<Vec<u8>, Refused
 
 /// Reads the script that the bytes are, and runs it.
 fn run_bytes<K: Sink, H: Host>(alloc: Global, bytes: &[u8], host: &mut H, sink: &mut K) -> Status
-    ensures outcome { (written : List ℕ) × Appends (K.state sink.old).held (K.state sink.new).held written
-        × Outcome result (codes "run" ∷ []) bytes.now written [] (Unit {0}) (Rose (K.state sink.old).faults (K.state sink.new).faults → ⊥) }
+    requires { length (H.state host.old).kills ≤ 2 ^ 31 }
+    ensures outcome { (written : List ℕ) (exchanges : List Exchange) × Appends (K.state sink.old).held (K.state sink.new).held written
+        × Tells (H.state host.old).told (H.state host.new).told exchanges
+        × Outcome result (codes "run" ∷ []) bytes.now written exchanges (Unit {0}) (Rose (K.state sink.old).faults (K.state sink.new).faults → ⊥) }
     ensures no_read { result ≡ Status.ReadFault → ⊥ }
+    ensures unasked { IsUnasked result → H.state host.new ≡ H.state host.old }
     ensures write_fault { HasCause (K.state sink.old).faults (K.state sink.new).faults (result ≡ Status.WriteFault) }
-    ensures roomy { (script : Meant) → IsScriptSoFar bytes.now script → SaysAtMost script (K.state sink.old).room → (K.state sink.new).faults ≡ (K.state sink.old).faults }
+    ensures roomy { (script : Meant) → IsScriptSoFar bytes.now script → SaysAtMost (program_for script) (start script) (K.state sink.old).room → (K.state sink.new).faults ≡ (K.state sink.old).faults }
 {
     match read(alloc, bytes) {
         Ok(script) => match run_script(alloc, &script, host, sink) {
@@ -86,16 +92,19 @@ fn run_words<S: Source, K: Sink, H: Host>(
     sink: &mut K,
     host: &mut H,
 ) -> Status
-    ensures outcome { (read written : List ℕ) × Consumes (S.state source.old).left (S.state source.new).left read × (length read ≤ longest_script + 1)
+    requires { length (H.state host.old).kills ≤ 2 ^ 31 }
+    ensures outcome { (read written : List ℕ) (exchanges : List Exchange) × Consumes (S.state source.old).left (S.state source.new).left read × (length read ≤ longest_script + 1)
         × Appends (K.state sink.old).held (K.state sink.new).held written
-        × Outcome result (map string_bytes words.now) read written []
+        × Tells (H.state host.old).told (H.state host.new).told exchanges
+        × Outcome result (map string_bytes words.now) read written exchanges
         (HasEnded (S.state source.old).left (S.state source.new).left) (Rose (K.state sink.old).faults (K.state sink.new).faults → ⊥) }
     ensures untouched { result ≡ Status.Usage → (S.state source.new ≡ S.state source.old) × (K.state sink.new ≡ K.state sink.old) }
+    ensures unasked { IsUnasked result → H.state host.new ≡ H.state host.old }
     ensures read_fault { HasCause (S.state source.old).faults (S.state source.new).faults (result ≡ Status.ReadFault) }
     ensures write_fault { HasCause (K.state sink.old).faults (K.state sink.new).faults (result ≡ Status.WriteFault) }
     ensures unfailing { IsTrue (S.state source.old).unfailing → (S.state source.new).faults ≡ (S.state source.old).faults }
     ensures roomy { (bytes : List ℕ) (script : Meant) → (S.state source.old).left ≡ Some bytes → IsScriptSoFar bytes script
-        → SaysAtMost script (K.state sink.old).room → (K.state sink.new).faults ≡ (K.state sink.old).faults }
+        → SaysAtMost (program_for script) (start script) (K.state sink.old).room → (K.state sink.new).faults ≡ (K.state sink.old).faults }
 {
     if !is_run(words) {
         return Status::Usage;
@@ -121,16 +130,19 @@ pub fn run<S: Source, K: Sink, H: Host>(
     sink: &mut K,
     host: &mut H,
 ) -> Status
-    ensures outcome { (read written : List ℕ) × Consumes (S.state source.old).left (S.state source.new).left read × (length read ≤ longest_script + 1)
+    requires { length (H.state host.old).kills ≤ 2 ^ 31 }
+    ensures outcome { (read written : List ℕ) (exchanges : List Exchange) × Consumes (S.state source.old).left (S.state source.new).left read × (length read ≤ longest_script + 1)
         × Appends (K.state sink.old).held (K.state sink.new).held written
-        × Outcome result (map string_bytes words.now) read written []
+        × Tells (H.state host.old).told (H.state host.new).told exchanges
+        × Outcome result (map string_bytes words.now) read written exchanges
         (HasEnded (S.state source.old).left (S.state source.new).left) (Rose (K.state sink.old).faults (K.state sink.new).faults → ⊥) }
     ensures untouched { result ≡ Status.Usage → (S.state source.new ≡ S.state source.old) × (K.state sink.new ≡ K.state sink.old) }
+    ensures unasked { IsUnasked result → H.state host.new ≡ H.state host.old }
     ensures read_fault { HasCause (S.state source.old).faults (S.state source.new).faults (result ≡ Status.ReadFault) }
     ensures write_fault { HasCause (K.state sink.old).faults (K.state sink.new).faults (result ≡ Status.WriteFault) }
     ensures unfailing { IsTrue (S.state source.old).unfailing → (S.state source.new).faults ≡ (S.state source.old).faults }
     ensures roomy { (bytes : List ℕ) (script : Meant) → (S.state source.old).left ≡ Some bytes → IsScriptSoFar bytes script
-        → SaysAtMost script (K.state sink.old).room → (K.state sink.new).faults ≡ (K.state sink.old).faults }
+        → SaysAtMost (program_for script) (start script) (K.state sink.old).room → (K.state sink.new).faults ≡ (K.state sink.old).faults }
     ensures complete { (bytes : List ℕ) (script : Meant) → IsRun (map string_bytes words.now)
         → (S.state source.old).left ≡ Some bytes → IsScriptSoFar bytes script
         → (Rose (S.state source.old).faults (S.state source.new).faults → ⊥) → (Rose (K.state sink.old).faults (K.state sink.new).faults → ⊥)

@@ -1,4 +1,20 @@
-//! Waiting for the output of processes.
+//! Waiting for the output of processes (GNU Emacs Lisp Reference Manual, Accepting Output).
+ghost use Rattle.std.specs.Prelude.{◌≡◌, ◌⊎◌, ℕ, ℤ, ◌+◌, ◌<◌, ◌≤◌, List, [], ◌∷◌, length, map, IfSome, IfNone, Err, false, MatchOption};
+ghost use Rattle.text_model.specs.Undo.{Undo};
+ghost use Rattle.editor_model.specs.Values.{Const, Nil as nil, Int as number, Forms, AcceptProcessOutput};
+ghost use Rattle.plain_machine.specs.State.{Process, Program};
+ghost use Rattle.plain_machine.specs.Items.{Item, Wait as Waits, Target, Waiting, Nowhere, MakeCall};
+ghost use Rattle.plain_machine.specs.Refusals.{rounds_of};
+ghost use Rattle.process_table.specs.Table.{StandsFor};
+ghost use Rattle.wait_loop.specs.Rounds.{AsksProcess};
+ghost use Rattle.ek_types.specs.Io.{HasCause};
+ghost use Rattle.ek_types.specs.Listing.{items_of};
+ghost use Rattle.ek_call.specs.Meaning.{arg_of};
+ghost use Rattle.kernel_top.specs.Outside.{outside};
+ghost use Rattle.kernel_top.specs.Standing.{stands_at, working, Comes, Hosted, StaysHosted};
+ghost use Rattle.kernel_top.specs.Hearing.{MayBeAsked};
+ghost use Rattle.kernel_top.specs.Calls.{AreRounds, RoundsOf, ComesToReply};
+
 use crate::answer::{Answer, Stop};
 use crate::apply::integer;
 use crate::hearing::{end, read};
@@ -16,7 +32,10 @@ const MOST_ROUNDS: i64 = 1000;
 const ROOM: u32 = 256;
 
 /// The rounds that a wait is asked for.
-fn rounds(args: &Args) -> Option<u32> {
+fn rounds(args: &Args) -> Option<u32>
+    requires { AreRounds (map arg_of (items_of args.now)) }
+    ensures { RoundsOf (map arg_of (items_of args.now)) result }
+{
     if args.len() == 0 {
         return Some(MOST_ROUNDS as u32);
     }
@@ -33,7 +52,14 @@ pub fn accept_process_output<K: Sink, H: Host>(
     host: &mut H,
     sink: &mut K,
     args: &Args,
-) -> Result<Answer, Stop> {
+) -> Result<Answer, Stop>
+    requires rounds { AreRounds (map arg_of (items_of args.now)) }
+    requires hosted { Hosted kernel.old.beside.processes (H.state host.old).kills }
+    ensures comes { ComesToReply result AcceptProcessOutput (map arg_of (items_of args.now))
+        (outside (K.state sink.old) (H.state host.old)) (outside (K.state sink.new) (H.state host.new)) kernel.old kernel.new }
+    ensures cause { HasCause (K.state sink.old).faults (K.state sink.new).faults (result ≡ Err Stop.WriteFault) }
+    ensures hosted { StaysHosted result kernel.old (H.state host.old).kills kernel.new (H.state host.new).kills }
+{
     let Some(rounds) = rounds(args) else {
         return Ok(Answer::Fault(Fault::ArgsOutOfRange));
     };
@@ -60,7 +86,18 @@ fn ask<K: Sink, H: Host>(
     sink: &mut K,
     wait: &mut Wait,
     process: u32,
-) -> Result<(), Stop> {
+) -> Result<(), Stop>
+    requires asked { MayBeAsked kernel.old process }
+    requires hosted { Hosted kernel.old.beside.processes (H.state host.old).kills }
+    ensures comes { (program : Program) (w : Waiting) (target : Target) (rest : List Item) (u : Undo) (all : List Process) → StandsFor kernel.old.beside.processes all →
+        AsksProcess (stands_at kernel.old u all) w process wait.old.waiting →
+        Comes result program (outside (K.state sink.old) (H.state host.old)) (outside (K.state sink.new) (H.state host.new)) (working (stands_at kernel.old u all) (Waits w target ∷ rest))
+        kernel.new (λ _ v2 all2. working (stands_at kernel.new v2 all2) (Waits wait.new.waiting target ∷ rest)) }
+    ensures cause { HasCause (K.state sink.old).faults (K.state sink.new).faults (result ≡ Err Stop.WriteFault) }
+    ensures hosted { StaysHosted result kernel.old (H.state host.old).kills kernel.new (H.state host.new).kills }
+    ensures room { wait.new.room ≡ wait.old.room }
+    ensures asked { OnOk result (kernel.new.beside.asked ≡ kernel.old.beside.asked + 1) }
+{
     if kernel.processes.get(process).drained() {
         return end(alloc, kernel, host, sink, process);
     }
