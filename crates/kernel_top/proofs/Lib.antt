@@ -1,6 +1,7 @@
 pub mod Calls
 pub mod Coming
 pub mod Contents
+pub mod Dumped
 pub mod Gathering
 pub mod Handling
 pub mod Journeys
