@@ -3,7 +3,7 @@ use Rattle.std.specs.Prelude.{ℕ, Bool, List, [], ◌∷◌, ◌++◌, map, cod
 use Rattle.text_model.specs.Characters.{Ch, Scalar}
 use Rattle.text_model.specs.Properties.{bare}
 use Rattle.editor_model.specs.Values.{Str, TheProcess}
-use Rattle.plain_machine.specs.State.{Program}
+use Rattle.plain_machine.specs.State.{State, Process, Program, Status, Exited, Lost}
 use Rattle.plain_machine.specs.Lines.{Kind, OfFilter}
 use Rattle.plain_machine.specs.Items.{Item, Enter, Exit, Config}
 use Rattle.kernel_top.specs.Plain.{Kernel}
@@ -38,7 +38,7 @@ pub record IsAsked (k : Kernel) (p : ℕ) (drained : Bool) : Type 0 where
   pub process : Process
   pub made : slice_get k.beside.processes p ≡ Some process
   pub runs : runs process.status ≡ true
-  pub drained : process.drained ≡ drained
+  pub output : process.drained ≡ drained
   pub may_ask : nat_lt k.beside.asked most_exchanges ≡ true
 
 abbrev pub MayBeAsked : Kernel → (p : ℕ) → Type 0

@@ -1,5 +1,5 @@
 -- Where a run stands: the machine's configuration that a kernel stands for, and what a piece of the run's work comes to.
-use Rattle.std.specs.Prelude.{◌≡◌, ℕ, ◌<◌, ◌≤◌, Bool, true, false, List, [], ◌∷◌, ◌++◌, length, map, filter, slice_get, Some, None, All, Result, Ok, Err, MatchResult}
+use Rattle.std.specs.Prelude.{◌≡◌, ℕ, ◌+◌, ◌<◌, ◌≤◌, Bool, true, false, List, [], ◌∷◌, ◌++◌, length, map, filter, slice_get, Some, None, All, Result, Ok, Err, MatchResult}
 use Rattle.text_model.specs.Undo.{Undo}
 use Rattle.plain_machine.specs.State.{State, Process, Program}
 use Rattle.plain_machine.specs.Arguments.{runs}

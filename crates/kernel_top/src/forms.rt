@@ -1,5 +1,5 @@
 //! Forms, one after another.
-ghost use Rattle.std.specs.Prelude.{◌≡◌, ℕ, ◌+◌, ◌^◌, ◌<◌, ◌≤◌, List, [], ◌∷◌, length, map, OnOk, OnErr, Err, Ok};
+ghost use Rattle.std.specs.Prelude.{◌≡◌, ℕ, ◌+◌, ◌-◌, ◌^◌, ◌<◌, ◌≤◌, List, [], ◌∷◌, length, map, OnOk, OnErr, Err, Ok};
 ghost use Rattle.std.specs.Io.KnownBytes.{Appends};
 ghost use Rattle.text_model.specs.Undo.{Undo};
 ghost use Rattle.editor_model.specs.Values.{Forms, NoForms, Then};
@@ -112,9 +112,9 @@ pub fn run_script<K: Sink, H: Host>(
 ) -> Result<(), Stop>
     requires forms { AreFormsSoFar (script_of script.now).forms }
     requires few { length (H.state host.old).kills ≤ 2 ^ 31 }
-    ensures ok { OnOk result ((written : List ℕ) (exchanges : List Exchange) × Appends (K.state sink.old).held (K.state sink.new).held written
+    ensures ok { OnOk result ((written : List ℕ) × (exchanges : List Exchange) × Appends (K.state sink.old).held (K.state sink.new).held written
         × Tells (H.state host.old).told (H.state host.new).told exchanges × RanScript (script_of script.now) exchanges written) }
-    ensures err { OnErr result ((written : List ℕ) (exchanges : List Exchange) × Appends (K.state sink.old).held (K.state sink.new).held written
+    ensures err { OnErr result ((written : List ℕ) × (exchanges : List Exchange) × Appends (K.state sink.old).held (K.state sink.new).held written
         × Tells (H.state host.old).told (H.state host.new).told exchanges
         × StoppedScript (script_of script.now) exchanges written (Rose (K.state sink.old).faults (K.state sink.new).faults → ⊥)) }
     ensures cause { HasCause (K.state sink.old).faults (K.state sink.new).faults (result ≡ Err Stop.WriteFault) }

@@ -1,5 +1,5 @@
 //! What a run keeps.
-ghost use Rattle.std.specs.Prelude.{◌≡◌, ◌+◌, ◌<◌, ◌≤◌, length, map, OnOk, OnErr, IfOk, IfSome, Some, Err, IsTrue, slice_get, slice_set, nat_lt};
+ghost use Rattle.std.specs.Prelude.{◌≡◌, ◌+◌, ◌<◌, ◌≤◌, length, map, OnOk, OnErr, IfOk, IfSome, Some, Err, IsTrue, false, true, slice_get, slice_set, nat_lt};
 ghost use Rattle.text_model.specs.Marks.{insertion, deletion, move_marker};
 ghost use Rattle.editor_model.specs.Limits.{longest_text, most_markers};
 ghost use Rattle.plain_machine.specs.Refusals.{most_exchanges};

@@ -1,5 +1,5 @@
 //! Starting a child as a process (GNU Emacs Lisp Reference Manual, Asynchronous Processes).
-ghost use Rattle.std.specs.Prelude.{◌≡◌, ℕ, ◌+◌, ◌<◌, ◌≤◌, ◌^◌, List, [], ◌∷◌, length, map, drop, IfOk, IfSome, Err, Some, None, Bool, true, false, option_map, string_bytes};
+ghost use Rattle.std.specs.Prelude.{◌≡◌, ℕ, ◌+◌, ◌-◌, Ok, ◌<◌, ◌≤◌, ◌^◌, List, [], ◌∷◌, length, map, drop, IfOk, IfSome, Err, Some, None, Bool, true, false, option_map, string_bytes};
 ghost use Rattle.std.specs.List.{list_all};
 ghost use Rattle.text_model.specs.Characters.{Ch as Character};
 ghost use Rattle.text_model.specs.Properties.{Cell, bare};

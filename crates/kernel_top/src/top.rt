@@ -1,5 +1,5 @@
 //! The top call.
-ghost use Rattle.std.specs.Prelude.{◌≡◌, ◌<◌, ◌≤◌, ◌↔◌, ◌⊎◌, ◌+◌, ℕ, List, [], ◌∷◌, codes, length, Err, IfOk, IfErr, map, string_bytes, true, Some, IsTrue};
+ghost use Rattle.std.specs.Prelude.{◌≡◌, ◌<◌, ◌^◌, ◌≤◌, ◌↔◌, ◌⊎◌, ◌+◌, ℕ, List, [], ◌∷◌, codes, length, Err, IfOk, IfErr, map, string_bytes, true, Some, IsTrue};
 ghost use Rattle.std.specs.Io.KnownBytes.{Consumes, Appends};
 ghost use Rattle.editor_model.specs.Values.{Script as Meant};
 ghost use Rattle.plain_machine.specs.Grammar.{longest_script};
@@ -66,7 +66,7 @@ fn read_all<S: Source>(alloc: Global, source: &mut S) -> Result<Vec<u8>, Refused
 /// Reads the script that the bytes are, and runs it.
 fn run_bytes<K: Sink, H: Host>(alloc: Global, bytes: &[u8], host: &mut H, sink: &mut K) -> Status
     requires { length (H.state host.old).kills ≤ 2 ^ 31 }
-    ensures outcome { (written : List ℕ) (exchanges : List Exchange) × Appends (K.state sink.old).held (K.state sink.new).held written
+    ensures outcome { (written : List ℕ) × (exchanges : List Exchange) × Appends (K.state sink.old).held (K.state sink.new).held written
         × Tells (H.state host.old).told (H.state host.new).told exchanges
         × Outcome result (codes "run" ∷ []) bytes.now written exchanges (Unit {0}) (Rose (K.state sink.old).faults (K.state sink.new).faults → ⊥) }
     ensures no_read { result ≡ Status.ReadFault → ⊥ }
@@ -93,7 +93,7 @@ fn run_words<S: Source, K: Sink, H: Host>(
     host: &mut H,
 ) -> Status
     requires { length (H.state host.old).kills ≤ 2 ^ 31 }
-    ensures outcome { (read written : List ℕ) (exchanges : List Exchange) × Consumes (S.state source.old).left (S.state source.new).left read × (length read ≤ longest_script + 1)
+    ensures outcome { (read written : List ℕ) × (exchanges : List Exchange) × Consumes (S.state source.old).left (S.state source.new).left read × (length read ≤ longest_script + 1)
         × Appends (K.state sink.old).held (K.state sink.new).held written
         × Tells (H.state host.old).told (H.state host.new).told exchanges
         × Outcome result (map string_bytes words.now) read written exchanges
@@ -131,7 +131,7 @@ pub fn run<S: Source, K: Sink, H: Host>(
     host: &mut H,
 ) -> Status
     requires { length (H.state host.old).kills ≤ 2 ^ 31 }
-    ensures outcome { (read written : List ℕ) (exchanges : List Exchange) × Consumes (S.state source.old).left (S.state source.new).left read × (length read ≤ longest_script + 1)
+    ensures outcome { (read written : List ℕ) × (exchanges : List Exchange) × Consumes (S.state source.old).left (S.state source.new).left read × (length read ≤ longest_script + 1)
         × Appends (K.state sink.old).held (K.state sink.new).held written
         × Tells (H.state host.old).told (H.state host.new).told exchanges
         × Outcome result (map string_bytes words.now) read written exchanges

@@ -1,5 +1,5 @@
 //! Waiting for the output of processes (GNU Emacs Lisp Reference Manual, Accepting Output).
-ghost use Rattle.std.specs.Prelude.{◌≡◌, ◌⊎◌, ℕ, ℤ, ◌+◌, ◌<◌, ◌≤◌, List, [], ◌∷◌, length, map, IfSome, IfNone, Err, false, MatchOption};
+ghost use Rattle.std.specs.Prelude.{◌≡◌, ◌⊎◌, ℕ, ℤ, ◌+◌, ◌<◌, ◌≤◌, List, [], ◌∷◌, length, map, IfSome, IfNone, OnOk, Err, false, MatchOption};
 ghost use Rattle.text_model.specs.Undo.{Undo};
 ghost use Rattle.editor_model.specs.Values.{Const, Nil as nil, Int as number, Forms, AcceptProcessOutput};
 ghost use Rattle.plain_machine.specs.State.{Process, Program};
