@@ -9,4 +9,5 @@ pub mod Prepared
 pub mod Printed
 pub mod Rotating
 pub mod SoFar
+pub mod Sound
 pub mod Taking

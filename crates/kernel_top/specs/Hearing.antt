@@ -1,11 +1,14 @@
 -- The default filter and sentinel of a process, and what asking it comes to.
-use Rattle.std.specs.Prelude.{ℕ, Bool, List, [], ◌∷◌, ◌++◌, map, codes, Result, MatchResult, Some, None, slice_get, nat_lt}
+use Rattle.std.specs.Prelude.{◌≡◌, ℕ, Bool, true, false, nat_lt, List, [], ◌∷◌, ◌++◌, map, slice_get, codes, Result, MatchResult, Some, None}
 use Rattle.text_model.specs.Characters.{Ch, Scalar}
 use Rattle.text_model.specs.Properties.{bare}
 use Rattle.editor_model.specs.Values.{Str, TheProcess}
-use Rattle.plain_machine.specs.State.{State, Process, Program, Status, Exited, Lost}
+use Rattle.plain_machine.specs.State.{Process, Program, Status, Exited, Lost}
+use Rattle.plain_machine.specs.Arguments.{runs}
+use Rattle.plain_machine.specs.Refusals.{most_exchanges}
 use Rattle.plain_machine.specs.Lines.{Kind, OfFilter}
 use Rattle.plain_machine.specs.Items.{Item, Enter, Exit, Config}
+use Rattle.plain_machine.specs.Waits.{exit_text}
 use Rattle.kernel_top.specs.Plain.{Kernel}
 use Rattle.kernel_top.specs.Outside.{Outside}
 use Rattle.kernel_top.specs.Standing.{stands_at, inside, working, GoesTo, BreaksAt}

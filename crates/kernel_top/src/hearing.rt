@@ -1,5 +1,5 @@
 //! Asking a process for its output and for its end.
-ghost use Rattle.std.specs.Prelude.{◌≡◌, ◌+◌, ◌<◌, ◌≤◌, List, ◌∷◌, length, IfOk, OnOk, OnErr, Err, Some, true, false, slice_get, nat_lt};
+ghost use Rattle.std.specs.Prelude.{◌≡◌, ◌≢◌, pos, map, ◌+◌, ◌<◌, ◌≤◌, List, ◌∷◌, length, IfOk, OnOk, OnErr, Err, Some, true, false, slice_get, nat_lt};
 ghost use Rattle.text_model.specs.Undo.{Undo};
 ghost use Rattle.plain_machine.specs.State.{Process, Program};
 ghost use Rattle.plain_machine.specs.Arguments.{runs};
@@ -12,10 +12,12 @@ ghost use Rattle.wait_loop.specs.Rounds.{AsksProcess};
 ghost use Rattle.ek_types.specs.Io.{HasCause};
 ghost use Rattle.kernel_top.specs.Outside.{outside};
 ghost use Rattle.kernel_top.specs.Standing.{stands_at, working, Comes, Hosted, StaysHosted};
+ghost use Rattle.text_model.specs.Characters.{Scalar};
+ghost use Rattle.plain_machine.specs.Waits.{exit_text};
 ghost use Rattle.kernel_top.specs.Hearing.{told_of, IsAsked};
 
 use crate::answer::Stop;
-use crate::ascii::append_ascii;
+use crate::ascii::{append_ascii, ascii};
 use crate::handlers::{enter_filter, enter_sentinel};
 use crate::kernel::Kernel;
 use ek_types::{Chars, Mem, Sink};
@@ -95,20 +97,25 @@ pub fn end<K: Sink, H: Host>(
     enter_sentinel(alloc, kernel, sink, process, &told)
 }
 
+/// What a sentinel is told of an exit code but 0.
+fn told_exit(alloc: Global, code: i32) -> Mem<Chars>
+    requires { code ≢ pos 0 }
+    ensures { IfOk result (λ text. text.items ≡ map Scalar (exit_text code)) }
+{
+    let mut text = ascii(alloc, "exited abnormally with code ")?;
+    append_ascii(&mut text, Buffer::new().format(code))?;
+    append_ascii(&mut text, "\n")?;
+    Ok(text)
+}
+
 /// What a sentinel is told.
 fn told(alloc: Global, status: Status) -> Mem<Chars>
     ensures { IfOk result (λ text. text.items ≡ told_of (status_of status)) }
 {
-    let mut text = Chars::new(alloc);
     match status {
-        Status::Exit(0) => append_ascii(&mut text, "finished\n")?,
-        Status::Exit(code) => {
-            append_ascii(&mut text, "exited abnormally with code ")?;
-            append_ascii(&mut text, Buffer::new().format(code))?;
-            append_ascii(&mut text, "\n")?;
-        }
-        Status::Failed => append_ascii(&mut text, "failed\n")?,
-        Status::Signal | Status::Run => append_ascii(&mut text, "killed\n")?,
+        Status::Exit(0) => ascii(alloc, "finished\n"),
+        Status::Exit(code) => told_exit(alloc, code),
+        Status::Failed => ascii(alloc, "failed\n"),
+        Status::Signal | Status::Run => ascii(alloc, "killed\n"),
     }
-    Ok(text)
 }
