@@ -139,6 +139,7 @@ impl Processes {
     /// Sets who hears the output of process `p`.
     pub fn set_filter(&mut self, p: u32, f: Filter)
         requires { p < length self.old }
+        ensures count { length self.new ≡ length self.old }
         ensures table { self.new ≡ changed p (with_filter (filter_of f)) self.old }
         ensures machine { (s : State) → StandsFor self.old s.processes → StandsFor self.new (change_process p (with_filter (filter_of f)) s).processes }
     {
@@ -148,6 +149,7 @@ impl Processes {
     /// Sets the handler that hears of the end of process `p`; `None` is the default one.
     pub fn set_sentinel(&mut self, p: u32, s: Option<Sym>)
         requires { p < length self.old }
+        ensures count { length self.new ≡ length self.old }
         ensures table { self.new ≡ changed p (with_sentinel (option_map number_of s)) self.old }
         ensures machine { (m : State) → StandsFor self.old m.processes → StandsFor self.new (change_process p (with_sentinel (option_map number_of s)) m).processes }
     {
@@ -157,6 +159,7 @@ impl Processes {
     /// Sets the buffer of process `p`. Its mark stays.
     pub fn set_buffer(&mut self, p: u32, b: Option<u32>)
         requires { p < length self.old }
+        ensures count { length self.new ≡ length self.old }
         ensures table { self.new ≡ changed p (of_buffer b) self.old }
         ensures machine { (s : State) → StandsFor self.old s.processes → StandsFor self.new (change_process p (of_buffer b) s).processes }
     {
@@ -166,6 +169,7 @@ impl Processes {
     /// Takes process `p` off the process list. The process stays.
     pub fn unlist(&mut self, p: u32)
         requires { p < length self.old }
+        ensures count { length self.new ≡ length self.old }
         ensures table { self.new ≡ changed p unlisted self.old }
         ensures machine { (s : State) → StandsFor self.old s.processes → StandsFor self.new (change_process p unlisted s).processes }
     {
@@ -175,6 +179,7 @@ impl Processes {
     /// Notes how process `p` stands.
     pub fn note_end(&mut self, p: u32, s: Status)
         requires { p < length self.old }
+        ensures count { length self.new ≡ length self.old }
         ensures table { self.new ≡ changed p (with_status (status_of s)) self.old }
         ensures machine { (m : State) → StandsFor self.old m.processes → StandsFor self.new (change_process p (with_status (status_of s)) m).processes }
     {
@@ -184,6 +189,7 @@ impl Processes {
     /// Notes that the input of process `p` was closed.
     pub fn close_input(&mut self, p: u32)
         requires { p < length self.old }
+        ensures count { length self.new ≡ length self.old }
         ensures table { self.new ≡ changed p with_input_closed self.old }
         ensures machine { (s : State) → StandsFor self.old s.processes → StandsFor self.new (change_process p with_input_closed s).processes }
     {
@@ -197,6 +203,7 @@ impl Processes {
         requires room { length (held_by self.old p) + length bytes.now ≤ out.old.spare }
         ensures items { out.new.items ≡ out.old.items ++ characters (held_by self.old p ++ bytes.now) }
         ensures spare { out.new.spare + length (characters (held_by self.old p ++ bytes.now)) ≡ out.old.spare }
+        ensures count { length self.new ≡ length self.old }
         ensures table { self.new ≡ changed p (with_held (tail (held_by self.old p ++ bytes.now))) self.old }
         ensures machine { (s : State) (x : Meant) → StandsFor self.old s.processes → process s p ≡ Some x → x.drained ≡ false → StandsFor self.new (change_process p (λ y. record y { bytes = x.bytes ++ bytes.now }) s).processes }
         ensures heard { (s : State) (x : Meant) → StandsFor self.old s.processes → process s p ≡ Some x → x.drained ≡ false → out.new.items ≡ out.old.items ++ more_characters (characters x.bytes) (characters (x.bytes ++ bytes.now)) }
@@ -211,6 +218,7 @@ impl Processes {
         requires room { length (held_by self.old p) ≤ out.old.spare }
         ensures items { out.new.items ≡ out.old.items ++ all_characters (held_by self.old p) }
         ensures spare { out.new.spare + length (all_characters (held_by self.old p)) ≡ out.old.spare }
+        ensures count { length self.new ≡ length self.old }
         ensures table { self.new ≡ changed p with_drained self.old }
         ensures machine { (s : State) → StandsFor self.old s.processes → StandsFor self.new (change_process p (λ y. record y { drained = true }) s).processes }
         ensures heard { (s : State) (x : Meant) → StandsFor self.old s.processes → process s p ≡ Some x → x.drained ≡ false → out.new.items ≡ out.old.items ++ more_characters (characters x.bytes) (all_characters x.bytes) }
