@@ -3,5 +3,7 @@
 
 mod aim;
 mod rounds;
+#[cfg(test)]
+mod tests;
 
 pub use rounds::{Step, Wait};

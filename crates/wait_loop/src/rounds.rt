@@ -46,8 +46,8 @@ impl Wait {
     ghost use Rattle.wait_loop.specs.KeptWaits.{new_waiting, noted};
     ghost use Rattle.wait_loop.specs.Rounds.{IfAsk, IfDone, GivesNil, Takes, BeginsRound, AsksNext, Leads};
 
-    /// A wait for a process or any, of at most so many rounds, that asks its target alone where it is for `just` this
-    /// one. It has places for `room` processes.
+    /// A wait for the process `target`, or for any, of at most so many rounds. It asks its target alone where it is for
+    /// `just` this one. It has places for `room` processes.
     pub fn new(alloc: Global, target: Option<u32>, rounds: u32, just: bool, room: u32) -> Mem<Wait>
         ensures waiting { IfOk result (λ w. w.waiting ≡ new_waiting target rounds just) }
         ensures room { IfOk result (λ w. w.room ≡ room) }
@@ -77,6 +77,9 @@ impl Wait {
     /// left in this round. It is done with false where no process is eligible or no round is left. Else a round begins,
     /// and it asks the first of the eligible processes, which are the target and then the others by rising number. A
     /// wait that is done doesn't change.
+    ///
+    /// A process is eligible where the table has it, it runs and its filter isn't off; where the wait asks its target
+    /// alone, only that one is. The table has no more processes than the wait has places for, and no memory is taken.
     pub fn next(&mut self, table: &Processes) -> Step
         requires { length table.now ≤ self.old.room }
         ensures heard { (result ≡ Step.Done true) ↔ (self.old.waiting.counted ≡ true) }
