@@ -1,7 +1,8 @@
 //! The primitive calls.
-ghost use Rattle.std.specs.Prelude.{◌≡◌};
+ghost use Rattle.std.specs.Prelude.{◌≡◌, map, IfSome};
+ghost use Rattle.std.specs.Option.{option_map};
 ghost use Rattle.editor_model.specs.Prims.{word, arity};
-ghost use Rattle.ek_call.specs.Primitives.{prim_of};
+ghost use Rattle.ek_call.specs.Primitives.{prim_of, named, named_in};
 
 /// A primitive call of the editor, named as in the GNU Emacs Lisp Reference Manual.
 #[derive(Clone, Copy, Debug, PartialEq, Eq)]
@@ -108,10 +109,114 @@ pub enum Primitive {
     AcceptProcessOutput,
 }
 
+/// Every call, in the order of their kinds.
+const EVERY_CALL: [Primitive; 92] = [
+    Primitive::CurrentBuffer,
+    Primitive::SetBuffer,
+    Primitive::GetBuffer,
+    Primitive::GetBufferCreate,
+    Primitive::GenerateNewBuffer,
+    Primitive::RenameBuffer,
+    Primitive::KillBuffer,
+    Primitive::BufferLiveP,
+    Primitive::BufferName,
+    Primitive::BufferList,
+    Primitive::BufferModifiedP,
+    Primitive::SetBufferModifiedP,
+    Primitive::Point,
+    Primitive::PointMin,
+    Primitive::PointMax,
+    Primitive::BufferSize,
+    Primitive::BufferNarrowedP,
+    Primitive::GotoChar,
+    Primitive::CharAfter,
+    Primitive::BufferString,
+    Primitive::BufferSubstring,
+    Primitive::BufferSubstringNoProperties,
+    Primitive::Insert,
+    Primitive::InsertAndInherit,
+    Primitive::InsertBeforeMarkers,
+    Primitive::InsertBeforeMarkersAndInherit,
+    Primitive::InsertBufferSubstring,
+    Primitive::DeleteRegion,
+    Primitive::DeleteAndExtractRegion,
+    Primitive::EraseBuffer,
+    Primitive::NarrowToRegion,
+    Primitive::Widen,
+    Primitive::MakeMarker,
+    Primitive::PointMarker,
+    Primitive::CopyMarker,
+    Primitive::SetMarker,
+    Primitive::MarkerPosition,
+    Primitive::MarkerBuffer,
+    Primitive::MarkerInsertionType,
+    Primitive::SetMarkerInsertionType,
+    Primitive::GetTextProperty,
+    Primitive::TextPropertiesAt,
+    Primitive::PutTextProperty,
+    Primitive::AddTextProperties,
+    Primitive::RemoveTextProperties,
+    Primitive::SetTextProperties,
+    Primitive::NextPropertyChange,
+    Primitive::NextSinglePropertyChange,
+    Primitive::PreviousPropertyChange,
+    Primitive::PreviousSinglePropertyChange,
+    Primitive::TextPropertyAny,
+    Primitive::TextPropertyNotAll,
+    Primitive::MakeOverlay,
+    Primitive::OverlayStart,
+    Primitive::OverlayEnd,
+    Primitive::OverlayBuffer,
+    Primitive::OverlayPut,
+    Primitive::OverlayGet,
+    Primitive::OverlayProperties,
+    Primitive::MoveOverlay,
+    Primitive::DeleteOverlay,
+    Primitive::OverlaysAt,
+    Primitive::OverlaysIn,
+    Primitive::GetCharProperty,
+    Primitive::NextOverlayChange,
+    Primitive::PreviousOverlayChange,
+    Primitive::AddHook,
+    Primitive::RemoveHook,
+    Primitive::UndoBoundary,
+    Primitive::UndoStart,
+    Primitive::UndoMore,
+    Primitive::BufferUndoList,
+    Primitive::BufferDisableUndo,
+    Primitive::BufferEnableUndo,
+    Primitive::StartProcess,
+    Primitive::ProcessList,
+    Primitive::GetProcess,
+    Primitive::ProcessName,
+    Primitive::ProcessStatus,
+    Primitive::ProcessBuffer,
+    Primitive::ProcessMark,
+    Primitive::ProcessLiveP,
+    Primitive::ProcessExitStatus,
+    Primitive::ProcessFilter,
+    Primitive::ProcessSentinel,
+    Primitive::SetProcessFilter,
+    Primitive::SetProcessSentinel,
+    Primitive::SetProcessBuffer,
+    Primitive::ProcessSendString,
+    Primitive::ProcessSendEof,
+    Primitive::DeleteProcess,
+    Primitive::AcceptProcessOutput,
+];
+
 /// The most arguments that any call takes.
 pub const MOST_ARGUMENTS: u32 = 64;
 
 impl Primitive {
+    /// The call that a word stands for in a script, or `None` where it stands for none.
+    pub fn find(name: &str) -> Option<Primitive>
+        ensures exact { option_map prim_of result ≡ named name.now }
+        ensures word { IfSome result (λ p. word (prim_of p) ≡ name.now) }
+    {
+        first_named(&EVERY_CALL, name)
+    }
+
     /// The fewest and the most arguments that the call takes.
     pub fn arity(self) -> (u32, u32)
         ensures { result ≡ arity (prim_of self) }
@@ -311,4 +416,16 @@ impl Primitive {
             Primitive::AcceptProcessOutput => "accept-process-output",
         }
     }
+}
+
+fn first_named(calls: &[Primitive], name: &str) -> Option<Primitive>
+    ensures exact { option_map prim_of result ≡ named_in (map prim_of calls.now) name.now }
+    ensures word { IfSome result (λ p. word (prim_of p) ≡ name.now) }
+{
+    for call in calls {
+        if call.name() == name {
+            return Some(*call);
+        }
+    }
+    None
 }

