@@ -62,13 +62,16 @@ string_at bytes = inside_of (word_at bytes).0 >>= (λ text. Some (text, (word_at
 abbrev pub number_at : List ℕ → Option (ℤ × List ℕ)
 number_at bytes = number_of (word_at bytes).0 >>= (λ n. Some (n, (word_at bytes).1))
 
--- a child's buffer: none, or the one of this name
+-- the buffer of a child: none, or *scratch*; what follows the word nil is given where that word comes first
+abbrev pub scratch_at : List ℕ × List ℕ → Option (Option (List ℕ) × List ℕ)
+scratch_at s = if bytes_eq s.0 (codes "*scratch*") then Some (Some s.0, s.1) else None
+
+abbrev pub buffer_by : (behind_nil : Option (List ℕ)) → List ℕ → Option (Option (List ℕ) × List ℕ)
+buffer_by (Some rest) bytes = Some (None, rest)
+buffer_by None bytes = string_at bytes >>= scratch_at
+
 abbrev pub buffer_at : List ℕ → Option (Option (List ℕ) × List ℕ)
-buffer_at bytes =
-    elim (behind (codes "nil") bytes) [
-      | Some rest ↦ Some (None, rest)
-      | None ↦ string_at bytes >>= (λ s. if bytes_eq s.0 (codes "*scratch*") then Some (Some s.0, s.1) else None)
-    ]
+buffer_at bytes = buffer_by (behind (codes "nil") bytes) bytes
 
 -- the strings that come first, at most so many, and what follows them
 unfoldable pub strings_at : (most : ℕ) → List ℕ → List (List ℕ) × List ℕ
@@ -111,12 +114,13 @@ abbrev pub start_at : List ℕ → Option (Form × List ℕ)
 start_at bytes =
     string_at bytes >>= (λ name. buffer_at name.1 >>= (λ buffer. string_at buffer.1 >>= (λ program. started name.0 buffer.0 program.0 (strings_at most_strings program.1))))
 
+-- no argument, or nil and a number
+abbrev pub accept_by : (behind_nil : Option (List ℕ)) → List ℕ → Option (Form × List ℕ)
+accept_by (Some inner) bytes = number_at inner >>= (λ n. closed AcceptProcessOutput (Nil ∷ Int n.0 ∷ []) n.1)
+accept_by None bytes = closed AcceptProcessOutput [] bytes
+
 abbrev pub accept_at : List ℕ → Option (Form × List ℕ)
-accept_at bytes =
-    elim (behind (codes "nil") bytes) [
-      | Some inner ↦ number_at inner >>= (λ n. closed AcceptProcessOutput (Nil ∷ Int n.0 ∷ []) n.1)
-      | None ↦ closed AcceptProcessOutput [] bytes
-    ]
+accept_at bytes = accept_by (behind (codes "nil") bytes) bytes
 
 -- the arguments of the call of this name
 abbrev pub call_at : (name bytes : List ℕ) → Option (Form × List ℕ)
