@@ -322,10 +322,10 @@ module _ (symbols : List (List ℕ)) (name : List Ch) (buffer : Value) (program 
       let found = strings_found symbols most_strings strings p.others more fourth few p.are_args p.so_far u in
       let (rest, h, v) = first_is_read (codes ")") more found.rest closes found.others in
       let read = start_is_read n.inside m.inside o.name found.texts bytes second third fourth found.rest rest
-          (string_read a.word n.inside bytes second e n.quotes) (o.read second third d) (string_read p.word m.inside third fourth k m.quotes) found.read h in
+      (string_read a.word n.inside bytes second e n.quotes) (o.read second third d) (string_read p.word m.inside third fourth k m.quotes) found.read h in
       let values : constants ≡ text_of n.inside ∷ buffer_value o.name ∷ text_of m.inside ∷ map text_of found.texts =
-          ap (λ t. Str t ∷ buffer ∷ plain program ∷ map plain strings) n.characters ∙ ap (λ v. text_of n.inside ∷ v ∷ plain program ∷ map plain strings) o.is_value ∙
-          ap (λ t. text_of n.inside ∷ buffer_value o.name ∷ Str t ∷ map plain strings) m.characters ∙ ap (λ l. text_of n.inside ∷ buffer_value o.name ∷ text_of m.inside ∷ l) found.values_are in
+      ap (λ t. Str t ∷ buffer ∷ plain program ∷ map plain strings) n.characters ∙ ap (λ v. text_of n.inside ∷ v ∷ plain program ∷ map plain strings) o.is_value ∙
+      ap (λ t. text_of n.inside ∷ buffer_value o.name ∷ Str t ∷ map plain strings) m.characters ∙ ap (λ l. text_of n.inside ∷ buffer_value o.name ∷ text_of m.inside ∷ l) found.values_are in
       record {
         call = record { rest = rest; read = read ∙ ap (λ l. Some (Do (call_on StartProcess l), rest)) (sym values); others = v };
         no_names = ap names a.args_are ∙ ap names b.args_are ∙ ap names p.args_are ∙ found.no_names;

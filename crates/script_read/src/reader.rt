@@ -57,8 +57,8 @@ fn forms(alloc: Global, bytes: &[u8]) -> Mem<Option<Forms>>
     Ok(Some(read))
 }
 
-/// The script that the bytes are. What is no script of the grammar so far, or has more than `LONGEST_SCRIPT` bytes, is
-/// refused with line 0.
+/// The script that the bytes are. What is no script of the grammar so far, starts more than one child, or has more than
+/// `LONGEST_SCRIPT` bytes, is refused with line 0.
 pub fn read(alloc: Global, bytes: &[u8]) -> Result<Script, ScriptFault>
     ensures script { IfOk result (λ script. IsScriptSoFar bytes.now (script_of script)) }
     ensures line { (n : ℕ) → result ≡ Err (ScriptFault.Line n) → (n ≡ 0) × IsNoScript bytes.now }
