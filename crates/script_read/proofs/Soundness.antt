@@ -1,5 +1,5 @@
 -- A form that is read is one of the grammar so far.
-use Rattle.std.proofs.Common.{◌≡◌, ℕ, zero, suc, ◌+◌, ◌<◌, ◌≤◌, List, [], ◌∷◌, ◌++◌, Bool, true, false, ◌&&◌, length, length-append, length-drop, arith, map, refl, sym, ap, ◌∙◌, append_assoc, Some, None, ℤ, inl, inr}
+use Rattle.std.proofs.Common.{◌≡◌, ℕ, zero, suc, ◌+◌, ◌<◌, ◌≤◌, List, [], ◌∷◌, ◌++◌, Bool, true, false, length, length-append, length-drop, arith, map, refl, sym, ap, ◌∙◌, append_assoc, Some, None, ℤ, inl, inr}
 use Rattle.std.specs.Prelude.{Option, if◌then◌else◌, codes}
 use Rattle.std.specs.List.{list_all, prefix_len}
 use Rattle.std.specs.Str.{bytes_eq}

@@ -1,4 +1,4 @@
-use Rattle.std.proofs.Common.{◌∷◌, [], map, sym, ap, arith}
+use Rattle.std.proofs.Common.{map, sym, ap, arith}
 use Rattle.std.proofs.lemmas.List.{map-append}
 use Rattle.editor_model.specs.Values.{Const}
 use Rattle.ek_types.specs.Listing.{items_of}
