@@ -1,6 +1,6 @@
 use Rattle.std.proofs.Common.{◌≡◌, ◌≤◌, ◌+◌, length, map, take}
 use Rattle.text_model.specs.Characters.{Scalar}
-use Rattle.script_read.proofs.forms.characters.Given as goal
+use Rattle.script_read.proofs.calls.characters.Given as goal
 
 abbrev pub invariant-loop-byte : goal.invariant-loop-byte
 invariant-loop-byte l = record {
