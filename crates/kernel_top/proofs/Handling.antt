@@ -80,7 +80,7 @@ module _ (program : Program) (k : Kernel) (u : Undo) (all : List Process) (rest 
   room_put p y text e home fits = put_where p y text e home ∙ ap (put_by y.mark text) (has_room_for (whole k all) k.content u (length (bare text)) (omega (arith, bare_length text)))
 
   -- THE CHANGE
-  room_at_commit : (q mark : ℕ) (text : List Ch) → length k.content.text + length text ≤ longest_text →
+  pub room_at_commit : (q mark : ℕ) (text : List Ch) → length k.content.text + length text ≤ longest_text →
       first_fault (commit_tests (kept_editor (whole k all) (buffer_with k.content u) q q) 0 (change (output_at q mark text)).what) ≡ None
   room_at_commit q mark text fits = ap (λ r. first_fault (None ∷ refuse BufferFull r ∷ [])) (has_room_for (whole k all) k.content u (length (bare text)) (omega (arith, bare_length text)))
 

@@ -19,7 +19,7 @@ use Rattle.kernel_top.specs.Outside.{deepest, Outside, outside, Tells, SaysAtMos
 pub lines_then : (first second : List Said) → lines (first ++ second) ≡ lines first ++ lines second
 lines_then first second = flat_map-append (λ (x : Said). x.line) first second
 
-lines_of_one : (x : Said) → lines (x ∷ []) ≡ x.line
+pub lines_of_one : (x : Said) → lines (x ∷ []) ≡ x.line
 lines_of_one x = append-nil x.line
 
 -- EXCHANGES
@@ -33,7 +33,7 @@ tells_then (Some list) b c first second h k = rw (h, option_map) at k ∙ ap Som
 
 module _ (program : Program) where
   -- what is said from a later configuration fits beside what was said before
-  left_to_say : (from to : Config) (made : List Exchange) (said : List Said) (before now : SinkState) → Reaches program deepest from made said to → SaysAtMost program from before.room →
+  pub left_to_say : (from to : Config) (made : List Exchange) (said : List Said) (before now : SinkState) → Reaches program deepest from made said to → SaysAtMost program from before.room →
       HasRoomLeft before now (lines said) → SaysAtMost program to now.room
   left_to_say from to made said before now run few left exchanges more last on =
       let whole = few (made ++ exchanges) (said ++ more) last (reaches_then program deepest from to last made exchanges said more run on) in
@@ -68,7 +68,7 @@ module _ (program : Program) where
   }
 
   -- BREAKING OFF
-  pub breaks_here : (o : Outside) (c : Config) → IsBetweenEntries c → Breaks program o o c
+  abbrev pub breaks_here : (o : Outside) (c : Config) → IsBetweenEntries c → Breaks program o o c
   breaks_here o c between = record {
     made = [];
     said = [];
@@ -84,7 +84,7 @@ module _ (program : Program) where
     roomy = λ few. refl;
   }
 
-  pub goes_breaks : (a b c : Outside) (x y : Config) → Goes program a b x y → Breaks program b c y → Breaks program a c x
+  abbrev pub goes_breaks : (a b c : Outside) (x y : Config) → Goes program a b x y → Breaks program b c y → Breaks program a c x
   goes_breaks a b c x y g h = record {
     made = g.made ++ h.made;
     said = g.said ++ h.said;
@@ -104,7 +104,7 @@ module _ (program : Program) where
   one : (c : Config) (n : Next) → step program deepest c ≡ Steps n → Reaches program deepest c [] (n.said ++ []) n.config
   one c n e = goes e stays
 
-  said_one : (c : Config) (n : Next) (x : Said) → step program deepest c ≡ Steps n → n.said ≡ x ∷ [] → Reaches program deepest c [] (x ∷ []) n.config
+  pub said_one : (c : Config) (n : Next) (x : Said) → step program deepest c ≡ Steps n → n.said ≡ x ∷ [] → Reaches program deepest c [] (x ∷ []) n.config
   said_one c n x e said = rw (said) at (rw append-nil at (one c n e))
 
   -- a line that the machine says is written
@@ -123,24 +123,22 @@ module _ (program : Program) where
   }
 
   -- or a front of it
-  pub says_front : {T E : Type 0} (old new : SinkState) (host : HostState) (c : Config) (n : Next) (x : Said) (fault : E) → step program deepest c ≡ Steps n → n.said ≡ x ∷ [] → IsBetweenEntries n.config →
+  abbrev pub says_front : {T E : Type 0} (old new : SinkState) (host : HostState) (c : Config) (n : Next) (x : Said) (fault : E) → step program deepest c ≡ Steps n → n.said ≡ x ∷ [] → IsBetweenEntries n.config →
       Writes {T = T} {E = E} old new (Err fault) x.line → Breaks program (outside old host) (outside new host) c
-  says_front old new host c n x fault e said between w =
-      let (bytes, front, appended) = w.err in
-      record {
-        made = [];
-        said = x ∷ [];
-        last = n.config;
-        run = said_one c n x e said;
-        between = between;
-        bytes = bytes;
-        front = (front.0, sym front.1 ∙ sym (lines_of_one x));
-        written = appended;
-        told = tells_nothing host.told;
-        later = w.later;
-        whole = λ fine. absurd (fine w.rose);
-        roomy = λ few. absurd (false≢true (w.roomy (rw (lines_of_one x) at (few [] (x ∷ []) n.config (said_one c n x e said)))).ok);
-      }
+  says_front old new host c n x fault e said between w = record {
+    made = [];
+    said = x ∷ [];
+    last = n.config;
+    run = said_one c n x e said;
+    between = between;
+    bytes = w.err.0;
+    front = (w.err.1.0, sym w.err.1.1 ∙ sym (lines_of_one x));
+    written = w.err.2;
+    told = tells_nothing host.told;
+    later = w.later;
+    whole = λ fine. absurd (fine w.rose);
+    roomy = λ few. absurd (false≢true (w.roomy (rw (lines_of_one x) at (few [] (x ∷ []) n.config (said_one c n x e said)))).ok);
+  }
 
   -- AN EXCHANGE
   one_asked : (c : Config) (ask : Ask) (answer : Answer) (next : Answer → Option Next) (n : Next) → step program deepest c ≡ Asks ask next → next answer ≡ Some n →

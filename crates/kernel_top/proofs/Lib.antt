@@ -2,8 +2,10 @@ pub mod Calls
 pub mod Coming
 pub mod Contents
 pub mod Dumped
+pub mod Entering
 pub mod Gathering
 pub mod Handling
+pub mod Output
 pub mod Journeys
 pub mod Prepared
 pub mod Printed

@@ -129,6 +129,14 @@ abbrev pub with_output : Kernel → (p place : ℕ) → List Ch → Kernel
 with_output k p place text = changed_kernel k (inserted_at place text k.content) (marked k.beside.markers (mark_of k p) place (length text))
 
 -- PROCESSES
+-- with these processes
+abbrev pub with_table : Kernel → List Process → Kernel
+with_table k table = record k { beside = record k.beside { processes = table } }
+
+-- with one exchange more
+abbrev pub asked_more : Kernel → Kernel
+asked_more k = record k { beside = record k.beside { asked = k.beside.asked + 1 } }
+
 abbrev pub end_spot : Kernel → (buffer : Option ℕ) → Option Spot
 end_spot k None = None
 end_spot k (Some b) = Some (record { buffer = 0; place = length k.content.text })

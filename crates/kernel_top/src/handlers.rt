@@ -6,7 +6,7 @@ ghost use Rattle.text_model.specs.Undo.{Undo};
 ghost use Rattle.editor_model.specs.Values.{Str, TheProcess};
 ghost use Rattle.plain_machine.specs.State.{State, Process, Program};
 ghost use Rattle.plain_machine.specs.Lines.{Kind, OfSentinel};
-ghost use Rattle.plain_machine.specs.Items.{Item, Enter, Exit};
+ghost use Rattle.plain_machine.specs.Items.{Item, Enter, Exit, Wait, Waiting, Target};
 ghost use Rattle.plain_machine.specs.Handling.{put_output as output, unlisted};
 ghost use Rattle.process_table.specs.Table.{StandsFor, changed};
 ghost use Rattle.host_link.specs.Hosts.{HostState};
@@ -32,9 +32,9 @@ pub fn enter_filter<K: Sink>(
     text: &Chars,
 ) -> Result<(), Stop>
     requires { process < length kernel.old.beside.processes }
-    ensures comes { (host : HostState) (program : Program) (rest : List Item) (u : Undo) (all : List Process) → StandsFor kernel.old.beside.processes all →
-        Comes result program (outside (K.state sink.old) host) (outside (K.state sink.new) host) (working (stands_at kernel.old u all) (filter_entry process text.now.items rest))
-        kernel.new (λ _ v all. working (stands_at kernel.new v all) rest) }
+    ensures comes { (host : HostState) (program : Program) (w : Waiting) (target : Target) (rest : List Item) (u : Undo) (all : List Process) → StandsFor kernel.old.beside.processes all →
+        Comes result program (outside (K.state sink.old) host) (outside (K.state sink.new) host) (working (stands_at kernel.old u all) (filter_entry process text.now.items (Wait w target ∷ rest)))
+        kernel.new (λ _ v all. working (stands_at kernel.new v all) (Wait w target ∷ rest)) }
     ensures cause { HasCause (K.state sink.old).faults (K.state sink.new).faults (result ≡ Err Stop.WriteFault) }
     ensures processes { kernel.new.beside.processes ≡ kernel.old.beside.processes }
     ensures asked { kernel.new.beside.asked ≡ kernel.old.beside.asked }
@@ -58,10 +58,10 @@ pub fn enter_sentinel<K: Sink>(
 ) -> Result<(), Stop>
     requires made { process < length kernel.old.beside.processes }
     requires some { 0 < length told.now.items }
-    ensures comes { (host : HostState) (program : Program) (rest : List Item) (u : Undo) (all : List Process) → StandsFor kernel.old.beside.processes all →
+    ensures comes { (host : HostState) (program : Program) (w : Waiting) (target : Target) (rest : List Item) (u : Undo) (all : List Process) → StandsFor kernel.old.beside.processes all →
         Comes result program (outside (K.state sink.old) host) (outside (K.state sink.new) host)
-        (working (stands_at kernel.old u all) (Enter (OfSentinel process) None (TheProcess process ∷ Str (bare told.now.items) ∷ []) ∷ rest))
-        kernel.new (λ _ v all. working (stands_at kernel.new v all) rest) }
+        (working (stands_at kernel.old u all) (Enter (OfSentinel process) None (TheProcess process ∷ Str (bare told.now.items) ∷ []) ∷ Wait w target ∷ rest))
+        kernel.new (λ _ v all. working (stands_at kernel.new v all) (Wait w target ∷ rest)) }
     ensures cause { HasCause (K.state sink.old).faults (K.state sink.new).faults (result ≡ Err Stop.WriteFault) }
     ensures ok { OnOk result (kernel.new.beside.processes ≡ changed process unlisted kernel.old.beside.processes) }
     ensures err { OnErr result (kernel.new.beside.processes ≡ kernel.old.beside.processes) }
@@ -71,7 +71,7 @@ pub fn enter_sentinel<K: Sink>(
     let words = sentinel_words(alloc, kernel.processes.get(process).name(), told)?;
     put_output(kernel, sink, process, &words)?;
     print::leave_handler(sink)?;
-    kernel.processes.unlist(process);
+    kernel.unlist(process);
     Ok(())
 }
 

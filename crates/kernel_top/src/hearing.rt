@@ -55,10 +55,10 @@ pub fn read<K: Sink, H: Host>(
     let mut room = [0u8; READ];
     let child = kernel.processes.get(process).child();
     let got = host.read(child, &mut room)?;
-    kernel.asked += 1;
+    kernel.note_asked();
     match got {
-        Got::Bytes(n) => kernel.processes.feed(process, &room[..n], &mut text),
-        Got::End | Got::Failed => kernel.processes.drain(process, &mut text),
+        Got::Bytes(n) => kernel.feed(process, &room[..n], &mut text),
+        Got::End | Got::Failed => kernel.drain(process, &mut text),
         Got::Nothing => {}
     }
     enter_filter(kernel, sink, process, &text)?;
@@ -85,14 +85,14 @@ pub fn end<K: Sink, H: Host>(
 {
     let child = kernel.processes.get(process).child();
     let ended = host.end(child)?;
-    kernel.asked += 1;
+    kernel.note_asked();
     let status = match ended {
         Ended::Running => return Ok(()),
         Ended::Code(code) => Status::Exit(code),
         Ended::Signal => Status::Signal,
         Ended::Failed => Status::Failed,
     };
-    kernel.processes.note_end(process, status);
+    kernel.note_end(process, status);
     let told = told(alloc, status)?;
     enter_sentinel(alloc, kernel, sink, process, &told)
 }

@@ -4,14 +4,22 @@ ghost use Rattle.text_model.specs.Marks.{insertion, deletion, move_marker};
 ghost use Rattle.editor_model.specs.Limits.{longest_text, most_markers};
 ghost use Rattle.plain_machine.specs.Refusals.{most_exchanges};
 ghost use Rattle.plain_machine.specs.Arguments.{find_process};
-ghost use Rattle.kernel_top.specs.Plain.{new_kernel, changed_kernel, inserted, deleted, characters, output_place, with_output, with_process};
+ghost use Rattle.kernel_top.specs.Plain.{new_kernel, changed_kernel, inserted, deleted, characters, output_place, with_output, with_process, with_table, asked_more};
+ghost use Rattle.std.specs.Prelude.{◌++◌};
+ghost use Rattle.text_model.specs.Decoding.{tail, characters as characters_of_bytes, all_characters};
+ghost use Rattle.plain_machine.specs.State.{State, process, change_process};
+ghost use Rattle.plain_machine.specs.State.{Process as Meant};
+ghost use Rattle.plain_machine.specs.Waits.{more_characters};
+ghost use Rattle.plain_machine.specs.Handling.{unlisted};
+ghost use Rattle.process_table.specs.Meaning.{status_of};
+ghost use Rattle.process_table.specs.Table.{StandsFor, changed, held_by, with_held, with_drained, with_status};
 ghost use Rattle.kernel_top.specs.Printed.{spot_of};
 ghost use Rattle.marker_set.specs.Numbered.{marker_at};
 
 use crate::core_text::CoreText;
 use ek_types::{Chars, Mem, Piece};
 use marker_set::Markers;
-use process_table::Processes;
+use process_table::{Processes, Status};
 use std::alloc::Global;
 use std::marker::Model;
 
@@ -155,5 +163,62 @@ impl Kernel {
         self.markers.note_insert(SCRATCH, place, text.len(), true);
         self.markers.set(mark, Some((SCRATCH, place + text.len())));
         Ok(())
+    }
+
+    /// One exchange more was made.
+    pub fn note_asked(&mut self)
+        requires { nat_lt self.old.beside.asked most_exchanges ≡ true }
+        ensures { self.new ≡ asked_more self.old }
+    {
+        self.asked += 1;
+    }
+
+    /// Bytes of a process were read: appends the characters of the bytes held and these, and then holds what may still
+    /// become a character. No memory is taken.
+    pub fn feed(&mut self, p: u32, bytes: &[u8], out: &mut Chars)
+        requires made { p < length self.old.beside.processes }
+        requires room { length bytes.now + 3 ≤ out.old.spare }
+        ensures table { self.new ≡ with_table self.old (changed p (with_held (tail (held_by self.old.beside.processes p ++ bytes.now))) self.old.beside.processes) }
+        ensures machine { (s : State) (x : Meant) → StandsFor self.old.beside.processes s.processes → process s p ≡ Some x → x.drained ≡ false →
+            StandsFor self.new.beside.processes (change_process p (λ y. record y { bytes = x.bytes ++ bytes.now }) s).processes }
+        ensures heard { (s : State) (x : Meant) → StandsFor self.old.beside.processes s.processes → process s p ≡ Some x → x.drained ≡ false →
+            out.new.items ≡ out.old.items ++ more_characters (characters_of_bytes x.bytes) (characters_of_bytes (x.bytes ++ bytes.now)) }
+    {
+        let _held = self.processes.get(p).held();
+        self.processes.feed(p, bytes, out);
+    }
+
+    /// The output of a process has ended: appends the bytes held as raw bytes, and then holds nothing. No memory is taken.
+    pub fn drain(&mut self, p: u32, out: &mut Chars)
+        requires made { p < length self.old.beside.processes }
+        requires room { 3 ≤ out.old.spare }
+        ensures table { self.new ≡ with_table self.old (changed p with_drained self.old.beside.processes) }
+        ensures machine { (s : State) → StandsFor self.old.beside.processes s.processes →
+            StandsFor self.new.beside.processes (change_process p (λ y. record y { drained = true }) s).processes }
+        ensures heard { (s : State) (x : Meant) → StandsFor self.old.beside.processes s.processes → process s p ≡ Some x → x.drained ≡ false →
+            out.new.items ≡ out.old.items ++ more_characters (characters_of_bytes x.bytes) (all_characters x.bytes) }
+    {
+        let _held = self.processes.get(p).held();
+        self.processes.drain(p, out);
+    }
+
+    /// Notes how a process stands.
+    pub fn note_end(&mut self, p: u32, s: Status)
+        requires { p < length self.old.beside.processes }
+        ensures table { self.new ≡ with_table self.old (changed p (with_status (status_of s)) self.old.beside.processes) }
+        ensures machine { (m : State) → StandsFor self.old.beside.processes m.processes →
+            StandsFor self.new.beside.processes (change_process p (with_status (status_of s)) m).processes }
+    {
+        self.processes.note_end(p, s);
+    }
+
+    /// Takes a process off the list.
+    pub fn unlist(&mut self, p: u32)
+        requires { p < length self.old.beside.processes }
+        ensures table { self.new ≡ with_table self.old (changed p unlisted self.old.beside.processes) }
+        ensures machine { (m : State) → StandsFor self.old.beside.processes m.processes →
+            StandsFor self.new.beside.processes (change_process p unlisted m).processes }
+    {
+        self.processes.unlist(p);
     }
 }

@@ -153,7 +153,7 @@ pub fn start_process<H: Host>(
     let program = word(alloc, program)?;
     let words = words(alloc, &args.as_slice()[3..])?;
     let spawned = host.spawn(program.as_str(), words.as_slice())?;
-    kernel.asked += 1;
+    kernel.note_asked();
     match spawned {
         Spawned::Refused => Ok(Answer::Fault(Fault::SpawnFailed)),
         Spawned::Started(child) => match kernel.add(&name, child, buffer(args.at(1))) {

@@ -1,0 +1,4 @@
+use Rattle.kernel_top.proofs.kernel.Kernel.add.Goals as goal
+
+pub returns-clause-ok : goal.returns-clause-ok
+returns-clause-ok c = ?
