@@ -15,6 +15,7 @@ use Rattle.plain_machine.specs.State.{State, Process}
 use Rattle.plain_machine.specs.Lines.{Replied, line, fault_words, quoted, run_words, shown_text, shown_live, shown_name, shown_status, shown_marker, shown_process, buffer_name, dump}
 use Rattle.process_table.specs.Table.{StandsFor, kept}
 use Rattle.marker_set.specs.Numbered.{nowhere, marker_at}
+use Rattle.marker_set.specs.Numbered as numbered
 use Rattle.ek_call.specs.Faults.{fault_of, fault_number, fault_name}
 use Rattle.ek_call.specs.declared.fault.Fault.{Fault}
 use Rattle.ek_call.specs.declared.fault.Fault.TheVariants as fault
@@ -206,10 +207,15 @@ dumped symbols k u all within stands = joined (buffer_said symbols k u) (markers
     joined {a' = a'} {b' = b'} {d' = d'} p q r = (λ i. p i ++ (q i ++ r i)) ∙ ap (λ l. l ++ (b' ++ d')) (sym (append-nil a'))
 
 -- PLACES OF MARKERS
-pub marker_within : (size : ℕ) (markers : List Marker) (k : ℕ) → k < length markers → All (IsWithin size) markers → IsWithin size (marker_at markers k)
+marker_within : (size : ℕ) (markers : List Marker) (k : ℕ) → k < length markers → All (IsWithin size) markers → IsWithin size (marker_at markers k)
 marker_within size markers k h all = rw (unwrap_or-slice_get markers k nowhere) (All-get_or (IsWithin size) markers k nowhere h all)
 
-pub placed : (size b place : ℕ) (m : Marker) → IsWithin size m → Some (record { buffer = b; place = place }) ≡ m.spot → (spot_of (Some place) ≡ m.spot) × (place ≤ size)
+placed : (size b place : ℕ) (m : Marker) → IsWithin size m → Some (record { buffer = b; place = place }) ≡ m.spot → (spot_of (Some place) ≡ m.spot) × (place ≤ size)
 placed size b place m within e =
     let known : (b ≡ 0) × (place ≤ size) = rw (← e) at within.1 in
     (ap (λ n. Some (record { buffer = n; place = place })) (sym known.0) ∙ e, known.1)
+
+pub place_known : (kernel : Kernel) (k : ℕ) (found : Option (ℕ × ℕ)) (b place : ℕ) → IsSound kernel → k < length kernel.beside.markers → found ≡ Some (b, place) →
+    numbered.spot_of found ≡ (marker_at kernel.beside.markers k).spot → (spot_of (Some place) ≡ (marker_at kernel.beside.markers k).spot) × (place ≤ length kernel.content.text)
+place_known kernel k found b place sound made is spot =
+    placed (length kernel.content.text) b place (marker_at kernel.beside.markers k) (marker_within (length kernel.content.text) kernel.beside.markers k made sound.within) (ap numbered.spot_of (sym is) ∙ spot)
