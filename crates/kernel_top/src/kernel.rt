@@ -129,7 +129,10 @@ impl Kernel {
         ensures few { IfSome result (λ place. place ≤ longest_text) }
     {
         match self.markers.place(k) {
-            Some((_, place)) => Some(place),
+            Some((_, place)) => {
+                prove!(place <= self.text.len());
+                Some(place)
+            }
             None => None,
         }
     }

@@ -43,12 +43,7 @@ fn put_process_value<K: Sink>(so_far: SoFar, sink: &mut K, name: &Chars) -> SoFa
     put(named, sink, b">")
 }
 
-fn put_answer<K: Sink>(
-    so_far: SoFar,
-    sink: &mut K,
-    answer: Answer,
-    processes: &Processes,
-) -> SoFar
+fn put_answer<K: Sink>(so_far: SoFar, sink: &mut K, answer: Answer, processes: &Processes) -> SoFar
     requires { (p : ℕ) → answer ≡ Answer.Process p → p < length processes.now }
     ensures { Continues so_far result (K.state sink.old) (K.state sink.new) (answer_words processes.now answer) }
 {

@@ -3,4 +3,5 @@ use Rattle.kernel_top.proofs.Dumped.{reply_anywhere}
 use Rattle.kernel_top.proofs.print.reply.Goals as goal
 
 pub returns : goal.returns
-returns g c = λ symbols s. writes_of (continues_same (reply_anywhere symbols s c.args.answer) (continues_then c.put_answer-said.ensures c.put.ensures))
+returns g c = λ symbols s stands.
+    writes_of (continues_same (reply_anywhere symbols s c.args.processes.now c.args.answer stands) (continues_then c.put_answer-said.ensures c.put.ensures))
