@@ -20,7 +20,7 @@ use Rattle.plain_machine.specs.Run.{stays}
 use Rattle.process_table.specs.Table.{StandsFor}
 use Rattle.host_link.specs.Hosts.{HostState}
 use Rattle.ek_types.specs.Io.{SinkState, Writes}
-use Rattle.kernel_top.specs.Plain.{Kernel}
+use Rattle.kernel_top.specs.Plain.{Kernel, with_table}
 use Rattle.kernel_top.specs.Outside.{Outside, outside, Goes, Breaks}
 use Rattle.kernel_top.specs.Standing.{stands_at, inside, working, GoesTo, BreaksAt, IsBeforeTheEnd}
 use Rattle.kernel_top.specs.Hearing.{filter_entry, words_of_sentinel}
@@ -28,6 +28,7 @@ use Rattle.kernel_top.specs.declared.answer.Stop.{Stop}
 use Rattle.kernel_top.specs.declared.answer.Stop.TheVariants as stop
 use Rattle.kernel_top.proofs.Handling.{filter_entered, sentinel_entered}
 use Rattle.kernel_top.proofs.Journeys.{goes_silently, goes_then, breaks_here, goes_breaks, says, says_front}
+use Rattle.kernel_top.proofs.Keeping.{only_processes}
 use Rattle.kernel_top.proofs.Output.{Stood, stood, breaks_at}
 
 -- WHERE OUTPUT IS PUT
@@ -91,6 +92,26 @@ module _ (program : Program) (host : HostState) (k : Kernel) (u : Undo) (all : L
     pub filter_left_breaks : {T E : Type 0} (old new : SinkState) (fault : E) → Writes {T = T} {E = E} old new (Err fault) (line program.symbols (inside s) (Left 0 None)) → BreaksAt program (outside old host) (outside new host) (leaving (OfFilter p)) k stop.WriteFault
     filter_left_breaks old new fault w =
         breaks_at program (outside old host) (outside new host) (leaving (OfFilter p)) k stop.WriteFault all (says_front program old new host (leaving (OfFilter p)) (exit program (inside s) (OfFilter p) None 0 faulted behind) _ fault refl refl tt w) stands refl tt refl
+
+    -- a sentinel's process goes off the list as it is left
+    abbrev unlisted_all : List Process
+    unlisted_all = (change_process p unlisted s).processes
+
+    unlisted_state : change_process p unlisted s ≡ stands_at k u unlisted_all
+    unlisted_state = only_processes k u all p unlisted
+
+    module _ (new_kernel : Kernel) (table : List Process) (is : new_kernel ≡ with_table k table) (stands_now : StandsFor new_kernel.beside.processes unlisted_all) where
+      unlisted_kernel : change_process p unlisted s ≡ stands_at new_kernel u unlisted_all
+      unlisted_kernel = unlisted_state ∙ ap (λ (n : Kernel). stands_at n u unlisted_all) (sym is)
+
+      pub sentinel_left : {T E : Type 0} (old new : SinkState) (value : T) → Writes {T = T} {E = E} old new (Ok value) (line program.symbols (inside s) (Left 0 None)) → Goes program (outside old host) (outside new host) (leaving (OfSentinel p)) (working (stands_at new_kernel u unlisted_all) behind)
+      sentinel_left old new value w =
+          subst (λ t. Goes program (outside old host) (outside new host) (leaving (OfSentinel p)) (working t behind)) unlisted_kernel
+          (says program old new host (leaving (OfSentinel p)) (exit program (inside s) (OfSentinel p) None 0 faulted behind) _ value refl refl w)
+
+      pub sentinel_left_breaks : {T E : Type 0} (old new : SinkState) (fault : E) → Writes {T = T} {E = E} old new (Err fault) (line program.symbols (inside s) (Left 0 None)) → BreaksAt program (outside old host) (outside new host) (leaving (OfSentinel p)) new_kernel stop.WriteFault
+      sentinel_left_breaks old new fault w =
+          breaks_at program (outside old host) (outside new host) (leaving (OfSentinel p)) new_kernel stop.WriteFault unlisted_all (says_front program old new host (leaving (OfSentinel p)) (exit program (inside s) (OfSentinel p) None 0 faulted behind) _ fault refl refl tt w) stands_now refl tt refl
 
 -- the entry of a filter with some output
 pub filter_entered_with : (p : ℕ) (text : List Ch) (rest : List Item) → 0 < length text → filter_entry p text rest ≡ Enter (OfFilter p) None (TheProcess p ∷ Str (bare text) ∷ []) ∷ rest

@@ -5,6 +5,7 @@ pub mod Dumped
 pub mod Entering
 pub mod Gathering
 pub mod Handling
+pub mod Keeping
 pub mod Output
 pub mod Journeys
 pub mod Prepared

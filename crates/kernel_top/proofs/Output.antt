@@ -18,7 +18,7 @@ use Rattle.plain_machine.specs.Handling.{put_output, enter, exit, ended_handler,
 use Rattle.plain_machine.specs.Run.{Reaches, stays}
 use Rattle.process_table.specs.Table.{StandsFor, kept, new_process}
 use Rattle.host_link.specs.Hosts.{HostState}
-use Rattle.ek_types.specs.Io.{SinkState, Writes}
+use Rattle.ek_types.specs.Io.{SinkState, Writes, HasCause, Rose}
 use Rattle.text_model.specs.Commit.{Buffer}
 use Rattle.text_model.specs.Marks.{Spot}
 use Rattle.editor_model.specs.TextCalls.{place_in}
@@ -205,3 +205,7 @@ module _ (program : Program) (host : HostState) (k : Kernel) (u : Undo) (all : L
 pub some_text : (text : List Ch) → (length text == 0) ≡ false → 0 < length text
 some_text [] e = absurd (let no : true ≡ false = e in cc)
 some_text (c ∷ text) e = omega arith
+
+-- a cause counts from before what was done first
+pub caused_later : {a b c : ℕ} {X Y : Type 0} → a ≤ b → HasCause b c X → (Y → X) → HasCause a c Y
+caused_later h cause so = record { later = omega (arith, h, cause.later); rose = λ y. omega (arith, h, cause.rose (so y)) }

@@ -12,7 +12,7 @@ ghost use Rattle.process_table.specs.Table.{StandsFor, changed};
 ghost use Rattle.host_link.specs.Hosts.{HostState};
 ghost use Rattle.ek_types.specs.Io.{HasCause};
 ghost use Rattle.kernel_top.specs.Outside.{outside};
-ghost use Rattle.kernel_top.specs.Standing.{stands_at, inside, working, Comes};
+ghost use Rattle.kernel_top.specs.Standing.{stands_at, inside, working, Comes, Hosted};
 ghost use Rattle.kernel_top.specs.Hearing.{filter_entry, words_of_sentinel, OutputComes};
 
 use crate::answer::Stop;
@@ -63,15 +63,16 @@ pub fn enter_sentinel<K: Sink>(
         (working (stands_at kernel.old u all) (Enter (OfSentinel process) None (TheProcess process ∷ Str (bare told.now.items) ∷ []) ∷ Wait w target ∷ rest))
         kernel.new (λ _ v all. working (stands_at kernel.new v all) (Wait w target ∷ rest)) }
     ensures cause { HasCause (K.state sink.old).faults (K.state sink.new).faults (result ≡ Err Stop.WriteFault) }
-    ensures ok { OnOk result (kernel.new.beside.processes ≡ changed process unlisted kernel.old.beside.processes) }
-    ensures err { OnErr result (kernel.new.beside.processes ≡ kernel.old.beside.processes) }
+    ensures hosted { (kills : List Bool) → Hosted kernel.old.beside.processes kills → Hosted kernel.new.beside.processes kills }
+    ensures count { length kernel.new.beside.processes ≡ length kernel.old.beside.processes }
     ensures asked { kernel.new.beside.asked ≡ kernel.old.beside.asked }
 {
-    print::enter_sentinel(sink, kernel.processes.get(process).name(), told)?;
-    let words = sentinel_words(alloc, kernel.processes.get(process).name(), told)?;
+    let heard = kernel.processes.get(process).name();
+    print::enter_sentinel(sink, heard, told)?;
+    let words = sentinel_words(alloc, heard, told)?;
     put_output(kernel, sink, process, &words)?;
-    print::leave_handler(sink)?;
     kernel.unlist(process);
+    print::leave_handler(sink)?;
     Ok(())
 }
 

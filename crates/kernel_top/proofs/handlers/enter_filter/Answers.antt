@@ -1,4 +1,4 @@
-use Rattle.std.proofs.Common.{◌≡◌, ◌<◌, [], ◌∷◌, sym, ap, length, arith, ◌∙◌, subst, get_or, slice_get, false, true}
+use Rattle.std.proofs.Common.{◌≡◌, ◌<◌, [], ◌∷◌, sym, ap, length, arith, ◌∙◌, subst, refl, get_or, slice_get, false, true}
 use Rattle.std.specs.Prelude.{Some, None}
 use Rattle.text_model.specs.Properties.{bare}
 use Rattle.editor_model.specs.Values.{Str, TheProcess}
@@ -12,7 +12,7 @@ use Rattle.kernel_top.specs.Standing.{stands_at, inside, working, Comes, BreaksA
 use Rattle.kernel_top.specs.declared.answer.Stop.TheVariants as stop
 use Rattle.kernel_top.proofs.Journeys.{goes_silently, goes_then}
 use Rattle.kernel_top.proofs.Handling.{filter_entered}
-use Rattle.kernel_top.proofs.Output.{some_text, nobody, made_one, stopped_by, stood}
+use Rattle.kernel_top.proofs.Output.{caused_later, some_text, nobody, made_one, stopped_by, stood}
 use Rattle.kernel_top.proofs.Entering.{nothing_entered, breaks_behind, filter_entered_with, entry_goes, entry_breaks, filter_left, filter_left_breaks}
 use Rattle.kernel_top.proofs.handlers.enter_filter.Goals as goal
 
@@ -35,7 +35,7 @@ returns-in_err-enter_filter-clause-comes g c = λ host program w target rest u a
 
 pub returns-in_err-enter_filter-clause-cause : goal.returns-in_err-enter_filter-clause-cause
 returns-in_err-enter_filter-clause-cause g c =
-    let w = c.in_err-enter_filter.ensures [] new_state 0 ? refl ? in
+    let w = c.in_err-enter_filter.ensures [] (record new_state { processes = c.get.result.now ∷ [] }) 0 c.get.result.now refl (sym c.name.ensures) in
     record { later = w.later; rose = λ failed. w.rose }
 
 pub returns-in_err-put_output-clause-comes : goal.returns-in_err-put_output-clause-comes
@@ -77,3 +77,21 @@ returns-clause-comes g c = λ host program w target rest u all stands.
     let left = filter_left program host c.put_output.new.kernel v more stands2 p w target rest faulted (g.K.Sink.state c.put_output.new.sink) (g.K.Sink.state c.leave_handler.new.sink) c.in_ok-leave_handler.field-0 (c.in_ok-leave_handler.ensures program.symbols (inside (stands_at c.put_output.new.kernel v more))) in
     rw (filter_entered_with p text (Wait w target ∷ rest) some)
     (v, more, stands2, goes_then program _ _ _ _ _ _ entered (goes_then program _ _ _ _ _ _ put left))
+
+pub returns-in_err-put_output-clause-cause : goal.returns-in_err-put_output-clause-cause
+returns-in_err-put_output-clause-cause g c =
+    let w = c.in_ok-enter_filter.ensures [] (record new_state { processes = c.get.result.now ∷ [] }) 0 c.get.result.now refl (sym c.name.ensures) in
+    let is = stopped_by c.from_residual-in_err-put_output.result c.in_err-put_output.field-0.0 c.from_residual-in_err-put_output.ensures in
+    caused_later w.later c.in_err-put_output.ensures.cause (λ failed. sym is ∙ failed)
+
+pub returns-in_err-leave_handler-clause-cause : goal.returns-in_err-leave_handler-clause-cause
+returns-in_err-leave_handler-clause-cause g c =
+    let w = c.in_ok-enter_filter.ensures [] (record new_state { processes = c.get.result.now ∷ [] }) 0 c.get.result.now refl (sym c.name.ensures) in
+    let l = c.in_err-leave_handler.ensures [] new_state in
+    record { later = omega (arith, w.later, c.in_ok-put_output.ensures.cause.later, l.later); rose = λ failed. omega (arith, w.later, c.in_ok-put_output.ensures.cause.later, l.rose) }
+
+pub returns-clause-cause : goal.returns-clause-cause
+returns-clause-cause g c =
+    let w = c.in_ok-enter_filter.ensures [] (record new_state { processes = c.get.result.now ∷ [] }) 0 c.get.result.now refl (sym c.name.ensures) in
+    let l = c.in_ok-leave_handler.ensures [] new_state in
+    record { later = omega (arith, w.later, c.in_ok-put_output.ensures.cause.later, l.later); rose = λ failed. absurd (let never = failed in cc) }

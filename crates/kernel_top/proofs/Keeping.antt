@@ -1,0 +1,58 @@
+-- A change of one process leaves the children as they are, or ends one.
+use Rattle.std.proofs.Common.{◌≡◌, ℕ, zero, suc, ◌<◌, Bool, true, false, List, [], ◌∷◌, map, length, All, slice_get, slice_set, refl, ap, sym, ◌∙◌, subst}
+use Rattle.std.specs.Prelude.{Some, None}
+use Rattle.std.specs.declared.option.Option.{Option}
+use Rattle.std.proofs.lemmas.List.{length-set}
+use Rattle.std.proofs.lemmas.List.Elements.{All-set, All-cons}
+use Rattle.text_model.specs.Undo.{Undo}
+use Rattle.plain_machine.specs.State.{State, Process, process, change_process}
+use Rattle.plain_machine.specs.Arguments.{runs}
+use Rattle.process_table.specs.Table.{changed}
+use Rattle.process_table.specs.Table.{with_table as with_processes}
+use Rattle.kernel_top.specs.Plain.{Kernel}
+use Rattle.kernel_top.specs.Standing.{stands_at, Hosted}
+use Rattle.kernel_top.proofs.Sound.{one_of_all}
+
+hosted_set : (xs : List Process) (p : ℕ) (x y : Process) (kills : List Bool) → slice_get xs p ≡ Some x → y.child ≡ x.child → (runs y.status ≡ true → runs x.status ≡ true) → Hosted xs kills → Hosted (slice_set xs p y) kills
+hosted_set [] p x y kills e child ends h = tt
+hosted_set (z ∷ xs) zero x y kills e child ends (small, lives, later, rest) =
+    let same : z ≡ x = let s : Some z ≡ Some x = e in cc in
+    let number : y.child ≡ z.child = child ∙ ap (λ (v : Process). v.child) (sym same) in
+    (
+      subst (λ n. n < length kills) (sym number) small,
+      λ r. subst (λ n. slice_get kills n ≡ Some false) (sym number) (lives (ap (λ (v : Process). runs v.status) same ∙ ends r)),
+      subst (λ n. All (λ (v : Process). n < v.child) xs) (sym number) later,
+      rest,
+    )
+hosted_set (z ∷ xs) (suc p) x y kills e child ends (small, lives, later, rest) =
+    let one = one_of_all (λ (v : Process). z.child < v.child) xs p x later e in
+    (small, lives, All-set (λ (v : Process). z.child < v.child) xs p y (subst (λ n. z.child < n) (sym child) one) later, hosted_set xs p x y kills e child ends rest)
+
+-- the list with one process changed, by what is found
+abbrev changed_list : List Process → (p : ℕ) → (Process → Process) → Option Process → List Process
+changed_list xs p f o = let s : State = elim o [ None ↦ with_processes xs | Some x ↦ record (with_processes xs) { processes = slice_set xs p (f x) } ] in s.processes
+
+pub hosted_changed : (xs : List Process) (p : ℕ) (f : Process → Process) (kills : List Bool) → ((x : Process) → (f x).child ≡ x.child) → ((x : Process) → runs (f x).status ≡ true → runs x.status ≡ true) → Hosted xs kills → Hosted (changed p f xs) kills
+hosted_changed xs p f kills child ends h = by (slice_get xs p) refl
+  where
+    by : (o : Option Process) → slice_get xs p ≡ o → Hosted (changed_list xs p f o) kills
+    by None e = h
+    by (Some x) e = hosted_set xs p x (f x) kills e (child x) (ends x) h
+
+pub changed_length : (xs : List Process) (p : ℕ) (f : Process → Process) → length (changed p f xs) ≡ length xs
+changed_length xs p f = by (slice_get xs p)
+  where
+    by : (o : Option Process) → length (changed_list xs p f o) ≡ length xs
+    by None = refl
+    by (Some x) = length-set xs p (f x)
+
+-- the machine's change of a process changes nothing but the list
+abbrev changed_state : State → (p : ℕ) → (Process → Process) → Option Process → State
+changed_state s p f o = elim o [ None ↦ s | Some x ↦ record s { processes = slice_set s.processes p (f x) } ]
+
+pub only_processes : (k : Kernel) (u : Undo) (all : List Process) (p : ℕ) (f : Process → Process) → change_process p f (stands_at k u all) ≡ stands_at k u (change_process p f (stands_at k u all)).processes
+only_processes k u all p f = by (slice_get all p)
+  where
+    by : (o : Option Process) → changed_state (stands_at k u all) p f o ≡ stands_at k u (changed_state (stands_at k u all) p f o).processes
+    by None = refl
+    by (Some x) = refl
