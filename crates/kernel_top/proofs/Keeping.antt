@@ -9,7 +9,8 @@ use Rattle.plain_machine.specs.State.{State, Process, process, change_process}
 use Rattle.plain_machine.specs.Arguments.{runs}
 use Rattle.process_table.specs.Table.{changed}
 use Rattle.process_table.specs.Table.{with_table as with_processes}
-use Rattle.kernel_top.specs.Plain.{Kernel}
+use Rattle.plain_machine.specs.Waits.{asked_more as asked_one}
+use Rattle.kernel_top.specs.Plain.{Kernel, with_table, asked_more}
 use Rattle.kernel_top.specs.Standing.{stands_at, Hosted}
 use Rattle.kernel_top.proofs.Sound.{one_of_all}
 
@@ -56,3 +57,11 @@ only_processes k u all p f = by (slice_get all p)
     by : (o : Option Process) → changed_state (stands_at k u all) p f o ≡ stands_at k u (changed_state (stands_at k u all) p f o).processes
     by None = refl
     by (Some x) = refl
+
+-- the same where one exchange more was made first
+pub asked_and_changed : (k mid new : Kernel) (table : List Process) (u : Undo) (all : List Process) (p : ℕ) (f : Process → Process) → mid ≡ asked_more k → new ≡ with_table mid table →
+    change_process p f (asked_one (stands_at k u all)) ≡ stands_at new u (change_process p f (asked_one (stands_at k u all))).processes
+asked_and_changed k mid new table u all p f m e =
+    only_processes (asked_more k) u all p f
+    ∙ ap (λ (n : Kernel). stands_at (with_table n table) u (change_process p f (asked_one (stands_at k u all))).processes) (sym m)
+    ∙ ap (λ (n : Kernel). stands_at n u (change_process p f (asked_one (stands_at k u all))).processes) (sym e)

@@ -209,3 +209,9 @@ some_text (c ∷ text) e = omega arith
 -- a cause counts from before what was done first
 pub caused_later : {a b c : ℕ} {X Y : Type 0} → a ≤ b → HasCause b c X → (Y → X) → HasCause a c Y
 caused_later h cause so = record { later = omega (arith, h, cause.later); rose = λ y. omega (arith, h, cause.rose (so y)) }
+
+-- the machine's process stands for the table's
+pub kept_is : (table all : List Process) (p : ℕ) (x y : Process) → StandsFor table all → slice_get table p ≡ Some x → slice_get all p ≡ Some y → kept y ≡ x
+kept_is table all p x y stands e f =
+    let both : Some (kept y) ≡ Some x = ap (option_map kept) (sym f) ∙ sym (slice_get-map kept all p) ∙ ap (λ l. slice_get l p) (sym stands) ∙ e in
+    cc
