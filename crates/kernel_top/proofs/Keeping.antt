@@ -7,7 +7,11 @@ use Rattle.std.proofs.lemmas.List.Elements.{All-set, All-cons}
 use Rattle.text_model.specs.Undo.{Undo}
 use Rattle.plain_machine.specs.State.{State, Process, process, change_process}
 use Rattle.plain_machine.specs.Arguments.{runs}
-use Rattle.process_table.specs.Table.{changed}
+use Rattle.std.proofs.lemmas.Bool.{false≢true}
+use Rattle.process_table.specs.Meaning.{status_of}
+use Rattle.process_table.specs.declared.process.Status as declared
+use Rattle.process_table.specs.declared.process.Status.TheVariants as written
+use Rattle.process_table.specs.Table.{changed, with_status}
 use Rattle.process_table.specs.Table.{with_table as with_processes}
 use Rattle.plain_machine.specs.Waits.{asked_more as asked_one}
 use Rattle.kernel_top.specs.Plain.{Kernel, with_table, asked_more}
@@ -65,3 +69,10 @@ asked_and_changed k mid new table u all p f m e =
     only_processes (asked_more k) u all p f
     ∙ ap (λ (n : Kernel). stands_at (with_table n table) u (change_process p f (asked_one (stands_at k u all))).processes) (sym m)
     ∙ ap (λ (n : Kernel). stands_at n u (change_process p f (asked_one (stands_at k u all))).processes) (sym e)
+
+-- a status that isn't the one of a process that runs
+pub not_running : (status : declared.Status) (x : Process) → (status ≡ written.Run → ⊥) → runs (with_status (status_of status) x).status ≡ true → runs x.status ≡ true
+not_running written.Run x never r = absurd (never refl)
+not_running (written.Exit n) x never r = absurd (false≢true r)
+not_running written.Signal x never r = absurd (false≢true r)
+not_running written.Failed x never r = absurd (false≢true r)
