@@ -1,9 +1,10 @@
 -- What asking a process in a wait comes to, by the host's answer.
-use Rattle.std.proofs.Common.{◌≡◌, ℕ, ◌≤◌, Bool, true, false, List, [], ◌∷◌, ◌++◌, length, refl, ap, sym, ◌∙◌, subst, slice_get, take}
+use Rattle.std.proofs.Common.{◌≡◌, ℕ, suc, ◌≤◌, ◌<◌, ◌+◌, Bool, true, false, List, [], ◌∷◌, ◌++◌, length, refl, ap, sym, ◌∙◌, subst, slice_get, take, arith}
 use Rattle.std.specs.Prelude.{ℤ, Some, None, nat_le, nat_lt, ◌&&◌, All}
 use Rattle.std.specs.List.{list_all}
 use Rattle.std.specs.declared.option.Option.{Option}
-use Rattle.std.proofs.lemmas.Bool.{le-leb}
+use Rattle.std.proofs.lemmas.Bool.{le-leb, lt-ltb}
+use Rattle.std.proofs.lemmas.List.{length-take-le}
 use Rattle.text_model.specs.Characters.{Ch}
 use Rattle.text_model.specs.Properties.{bare}
 use Rattle.text_model.specs.Decoding.{characters, all_characters}
@@ -136,3 +137,22 @@ module _ (program : Program) (k : Kernel) (sound : IsSound k) (u : Undo) (all : 
 
     pub end_lost : Exchanged old new children (AskEnd may.process.child) exchange.Failed → Goes program (outside sink old) (outside sink new) from (ended_config Lost)
     end_lost x = ends_as exchange.Failed Lost refl x
+
+-- the child that the host knows is the machine's
+pub child_of : {now view : Kernel} {child : ℕ} {found x : Process} (p : ℕ) → view ≡ now → slice_get view.beside.processes p ≡ Some found → child ≡ found.child → slice_get now.beside.processes p ≡ Some x → child ≡ x.child
+child_of {found = found} {x = x} p v e c m =
+    let both : Some found ≡ Some x = sym e ∙ ap (λ (k : Kernel). slice_get k.beside.processes p) v ∙ m in
+    let same : found ≡ x = cc in
+    c ∙ ap (λ (z : Process). z.child) same
+
+-- bytes that a read gave are in range
+all_bytes : (bytes : List ℕ) → All (λ b. b < 256) bytes → list_all (λ b. nat_lt b 256) bytes ≡ true
+all_bytes [] h = refl
+all_bytes (b ∷ bytes) h =
+    let first : b < 256 = h 0 0 (omega arith) in
+    rw (lt-ltb b 256 first, all_bytes bytes (λ i d k. h (suc i) d (omega (arith, k)))) refl
+
+pub room_of : (into : List ℕ) (n : ℕ) → 1 ≤ n → n ≤ length into → length into ≤ 4096 → All (λ b. b < 256) (take n into) → is_room (take n into) ≡ true
+room_of into n h k few bytes =
+    let size : length (take n into) ≡ n = length-take-le n into k in
+    rw (size, le-leb 1 n h, le-leb n 4096 (omega arith), all_bytes (take n into) bytes) refl

@@ -1,5 +1,5 @@
 //! Asking a process for its output and for its end.
-ghost use Rattle.std.specs.Prelude.{◌≡◌, ◌≢◌, Bool, None, [], ◌++◌, pos, map, ◌+◌, ◌<◌, ◌≤◌, List, ◌∷◌, length, IfOk, IfErr, OnOk, OnErr, Err, Some, true, false, slice_get, nat_lt};
+ghost use Rattle.std.specs.Prelude.{◌≡◌, ◌≢◌, All, Bool, None, [], ◌++◌, pos, map, ◌+◌, ◌<◌, ◌≤◌, List, ◌∷◌, length, IfOk, IfErr, OnOk, OnErr, Err, Some, true, false, slice_get, nat_lt};
 ghost use Rattle.text_model.specs.Undo.{Undo};
 ghost use Rattle.text_model.specs.Properties.{bare};
 ghost use Rattle.text_model.specs.Decoding.{characters, all_characters};
@@ -59,6 +59,7 @@ fn hear<K: Sink>(
     ensures hosted { (kills : List Bool) → Hosted kernel.old.beside.processes kills → Hosted kernel.new.beside.processes kills }
     ensures count { length kernel.new.beside.processes ≡ length kernel.old.beside.processes }
     ensures more { kernel.new.beside.asked ≡ kernel.old.beside.asked + 1 }
+    ensures bytes { All (λ b. b < 256) bytes.now }
 {
     kernel.note_asked();
     kernel.feed(process, bytes, text);
@@ -117,7 +118,11 @@ pub fn read<K: Sink, H: Host>(
             hear(kernel, sink, process, &room[..n], &mut text)?;
             Ok(true)
         }
-        Got::End | Got::Failed => {
+        Got::End => {
+            drain(kernel, sink, process, &mut text)?;
+            Ok(false)
+        }
+        Got::Failed => {
             drain(kernel, sink, process, &mut text)?;
             Ok(false)
         }
