@@ -12,6 +12,7 @@ pub mod Journeys
 pub mod Prepared
 pub mod Printed
 pub mod Rotating
+pub mod Rounded
 pub mod SoFar
 pub mod Sound
 pub mod Taking

@@ -36,13 +36,19 @@ fn rounds(args: &Args) -> Option<u32>
     requires { AreRounds (map arg_of (items_of args.now)) }
     ensures { RoundsOf (map arg_of (items_of args.now)) result }
 {
-    if args.len() == 0 {
+    if args.len() < 2 {
         return Some(MOST_ROUNDS as u32);
     }
-    match integer(args.at(1)) {
-        Some(n) if 1 <= n && n <= MOST_ROUNDS => Some(n as u32),
-        _ => None,
+    let Some(n) = integer(args.at(1)) else {
+        unreachable!()
+    };
+    if n < 1 {
+        return None;
     }
+    if n > MOST_ROUNDS {
+        return None;
+    }
+    Some(n as u32)
 }
 
 /// Waits until output of some process was heard, or until each was asked in as many rounds as are given.
