@@ -16,3 +16,4 @@ pub mod Rounded
 pub mod SoFar
 pub mod Sound
 pub mod Taking
+pub mod Turning
