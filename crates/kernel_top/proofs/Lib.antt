@@ -4,6 +4,7 @@ pub mod Coming
 pub mod Contents
 pub mod Dumped
 pub mod Entering
+pub mod Finishing
 pub mod Gathering
 pub mod Handling
 pub mod Keeping
