@@ -6,10 +6,13 @@ pub mod Entering
 pub mod Gathering
 pub mod Handling
 pub mod Output
+pub mod HostedLemmas
 pub mod Journeys
+pub mod Launching
 pub mod Prepared
 pub mod Printed
 pub mod Rotating
 pub mod SoFar
 pub mod Sound
+pub mod Starts
 pub mod Taking

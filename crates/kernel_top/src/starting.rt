@@ -9,13 +9,14 @@ ghost use Rattle.plain_machine.specs.State.{Process};
 ghost use Rattle.plain_machine.specs.Arguments.{encoded, is_plain};
 ghost use Rattle.ek_types.specs.Listing.{items_of};
 ghost use Rattle.ek_types.specs.Io.{SinkState};
+ghost use Rattle.ek_types.specs.Seen.{ch_of};
 ghost use Rattle.ek_call.specs.Meaning.{arg_of};
 ghost use Rattle.ek_call.specs.Faults.{fault_of};
 ghost use Rattle.kernel_top.specs.Plain.{characters as characters_of};
 ghost use Rattle.kernel_top.specs.Outside.{outside};
 ghost use Rattle.kernel_top.specs.Standing.{Hosted, StaysHosted};
 ghost use Rattle.kernel_top.specs.Calls.{AreOfStart, ComesToReply};
-ghost use Rattle.kernel_top.specs.Starting.{AreStrings, are_words, start_refused, buffer_of, texts_of};
+ghost use Rattle.kernel_top.specs.Starting.{is_word_argument, are_words, start_refused, buffer_of, text_of};
 
 use crate::answer::{Answer, Stop};
 use crate::apply::string;
@@ -34,14 +35,23 @@ const MOST_PROCESSES: u32 = 256;
 /// The most markers that are ever made.
 const MOST_MARKERS: u32 = 65_536;
 
-/// Whether a text can be a word of a command: it has neither a character 0 nor a raw byte.
+/// Whether a character can stand in a word of a command: it is neither the character 0 nor a raw byte.
+fn is_plain_character(c: Ch) -> bool
+    ensures { result ≡ is_plain (ch_of c, []) }
+{
+    match c {
+        Ch::Scalar(c) => c != '\0',
+        Ch::Raw(_) => false,
+    }
+}
+
+/// Whether a text can be a word of a command.
 fn is_word(text: &Piece) -> bool
     ensures { result ≡ list_all is_plain text.now }
 {
     for i in 0..text.len() {
-        match text.ch(i) {
-            Ch::Scalar('\0') | Ch::Raw(_) => return false,
-            Ch::Scalar(_) => {}
+        if !is_plain_character(text.ch(i)) {
+            return false;
         }
     }
     true
@@ -54,9 +64,10 @@ fn word(alloc: Global, text: &Piece) -> Mem<String>
 {
     let mut word = String::new(alloc);
     for i in 0..text.len() {
-        if let Ch::Scalar(c) = text.ch(i) {
-            word.push(c)?;
-        }
+        let Ch::Scalar(c) = text.ch(i) else {
+            unreachable!()
+        };
+        word.push(c)?;
     }
     Ok(word)
 }
@@ -71,24 +82,43 @@ fn characters(alloc: Global, text: &Piece) -> Mem<Chars>
     Ok(characters)
 }
 
+fn is_word_argument(arg: &Arg) -> bool
+    ensures { result ≡ is_word_argument (arg_of arg.now) }
+{
+    match string(arg) {
+        Some(text) => is_word(text),
+        None => false,
+    }
+}
+
 fn are_words(args: &[Arg]) -> bool
-    requires { AreStrings (map arg_of args.now) }
     ensures { result ≡ are_words (map arg_of args.now) }
 {
-    args.iter()
-        .all(|arg| string(arg).is_some_and(is_word))
+    for arg in args {
+        if !is_word_argument(arg) {
+            return false;
+        }
+    }
+    true
+}
+
+fn word_of(alloc: Global, arg: &Arg) -> Mem<String>
+    requires { is_word_argument (arg_of arg.now) ≡ true }
+    ensures { IfOk result (λ word. string_bytes word ≡ encoded (text_of (arg_of arg.now))) }
+{
+    let Some(text) = string(arg) else {
+        unreachable!()
+    };
+    word(alloc, text)
 }
 
 fn words(alloc: Global, args: &[Arg]) -> Mem<Vec<String>>
-    requires strings { AreStrings (map arg_of args.now) }
-    requires words { are_words (map arg_of args.now) ≡ true }
-    ensures { IfOk result (λ words. map string_bytes words.items ≡ map encoded (texts_of (map arg_of args.now))) }
+    requires { are_words (map arg_of args.now) ≡ true }
+    ensures { IfOk result (λ words. map string_bytes words.items ≡ map (λ arg. encoded (text_of (arg_of arg))) args.now) }
 {
     let mut words = Vec::new(alloc);
     for arg in args {
-        if let Some(text) = string(arg) {
-            words.push(word(alloc, text)?)?;
-        }
+        words.push(word_of(alloc, arg)?)?;
     }
     Ok(words)
 }
@@ -105,7 +135,6 @@ fn buffer(arg: &Arg) -> Option<u32>
 
 /// Why a start is refused before anything is asked.
 fn refusal(kernel: &Kernel, name: &Piece, program: &Piece, words: &[Arg]) -> Option<Fault>
-    requires { AreStrings (map arg_of words.now) }
     ensures { option_map fault_of result ≡ start_refused kernel.now name.now program.now (map arg_of words.now) }
 {
     if name.is_empty() || program.is_empty() || !are_words(words) {
