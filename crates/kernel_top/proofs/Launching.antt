@@ -1,8 +1,9 @@
 -- What the machine does at a start.
-use Rattle.std.proofs.Common.{◌≡◌, ◌⊎◌, ℕ, ◌+◌, ◌<◌, ◌≤◌, Bool, true, false, List, [], ◌∷◌, ◌++◌, map, length, drop, refl, ap, sym, ◌∙◌, arith, subst, Ok, Err, Result, append-nil}
+use Rattle.std.proofs.Common.{◌≡◌, ◌⊎◌, ℕ, ◌+◌, ◌<◌, ◌≤◌, Bool, true, false, List, [], ◌∷◌, ◌++◌, map, length, drop, refl, ap, sym, ◌∙◌, arith, subst, Ok, Err, Result, append-nil, inl, inr}
 use Rattle.std.specs.Prelude.{Some, None, ◌&&◌, ◌||◌, not, ◌==◌, if◌then◌else◌, nat_lt, nat_le}
 use Rattle.std.specs.List.{list_all, list_any}
 use Rattle.std.specs.declared.option.Option.{Option}
+use Rattle.std.proofs.lemmas.Bool.{lt-ltb, ne_eqb}
 use Rattle.std.proofs.lemmas.List.{length-map}
 use Rattle.std.proofs.lemmas.List.Folds.{list_all-map}
 use Rattle.text_model.specs.Characters.{Ch}
@@ -55,18 +56,16 @@ to_call program s fs values = goes refl (goes (ap (λ o. call_with o StartProces
 -- TESTS
 empty_or : (text : List Cell) → not (nat_lt 0 (length text)) ≡ (length text == 0)
 empty_or [] = refl
-empty_or (c ∷ text) = refl
+empty_or (c ∷ text) = rw (lt-ltb 0 (length (c ∷ text)) (omega arith), ne_eqb (length (c ∷ text)) 0 (λ e. omega (arith, e))) refl
 
 words_first : (values : List Value) (rest : List Test) → first_fault (map must_be_word values ++ rest) ≡ (if list_all is_word values then first_fault rest else Some WrongType)
 words_first [] rest = refl
-words_first (v ∷ values) rest = by (is_word v)
+words_first (v ∷ values) rest = by (is_word v) (words_first values rest)
   where
-    others : first_fault (map must_be_word values ++ rest) ≡ (if list_all is_word values then first_fault rest else Some WrongType)
-    others = words_first values rest
-
-    by : (b : Bool) → first_fault (refuse WrongType b ∷ (map must_be_word values ++ rest)) ≡ (if b && list_all is_word values then first_fault rest else Some WrongType)
-    by true = others
-    by false = refl
+    by : (b : Bool) → first_fault (map must_be_word values ++ rest) ≡ (if list_all is_word values then first_fault rest else Some WrongType) →
+        first_fault (refuse WrongType b ∷ (map must_be_word values ++ rest)) ≡ (if b && list_all is_word values then first_fault rest else Some WrongType)
+    by true others = others
+    by false others = refl
 
 -- the tests of a start, whose words are tested at once
 decided : (name program word words short few marks ask : Bool) →

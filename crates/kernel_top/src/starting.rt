@@ -6,7 +6,9 @@ ghost use Rattle.text_model.specs.Properties.{Cell, bare};
 ghost use Rattle.editor_model.specs.Answers.{first_fault};
 ghost use Rattle.editor_model.specs.Values.{Const, Nil as nil, Str as string_value, plain, StartProcess};
 ghost use Rattle.plain_machine.specs.State.{Process};
-ghost use Rattle.plain_machine.specs.Arguments.{encoded, is_plain};
+ghost use Rattle.plain_machine.specs.Arguments.{encoded, is_plain, find_process, process_name};
+ghost use Rattle.editor_model.specs.Arguments.{string_of};
+ghost use Rattle.process_table.specs.Table.{StandsFor};
 ghost use Rattle.ek_types.specs.Listing.{items_of};
 ghost use Rattle.ek_types.specs.Io.{SinkState};
 ghost use Rattle.ek_types.specs.Seen.{ch_of};
@@ -152,7 +154,55 @@ fn refusal(kernel: &Kernel, name: &Piece, program: &Piece, words: &[Arg]) -> Opt
     None
 }
 
+/// Why a start is refused before anything is asked, by its arguments.
+#[tactic(none)]
+fn why_refused(kernel: &Kernel, args: &Args) -> Option<Fault>
+    requires { AreOfStart (map arg_of (items_of args.now)) }
+    ensures { (start : AreOfStart (map arg_of (items_of args.now))) → option_map fault_of result ≡ start_refused kernel.now (bare start.name) (bare start.program) (drop 2 (map arg_of (items_of args.now))) }
+{
+    let Some(name) = string(args.at(0)) else {
+        unreachable!()
+    };
+    let Some(program) = string(args.at(2)) else {
+        unreachable!()
+    };
+    refusal(kernel, name, program, &args.as_slice()[2..])
+}
+
+/// What a start needs: the name and the buffer of the process, and the words of its command.
+#[derive(Drop)]
+struct Command {
+    name: Chars,
+    buffer: Option<u32>,
+    program: String,
+    words: Vec<String>,
+}
+
+#[tactic(none)]
+fn command(alloc: Global, kernel: &Kernel, args: &Args) -> Mem<Command>
+    requires start { AreOfStart (map arg_of (items_of args.now)) }
+    requires words { are_words (drop 2 (map arg_of (items_of args.now))) ≡ true }
+    ensures name { (start : AreOfStart (map arg_of (items_of args.now))) → IfOk result (λ command. command.name.items ≡ process_name kernel.now.beside.processes (characters_of (bare start.name))) }
+    ensures machine { (start : AreOfStart (map arg_of (items_of args.now))) (all : List Process) → StandsFor kernel.now.beside.processes all → IfOk result (λ command. command.name.items ≡ process_name all (characters_of (bare start.name))) }
+    ensures free { IfOk result (λ command. find_process 0 kernel.now.beside.processes command.name.items ≡ None) }
+    ensures buffer { (start : AreOfStart (map arg_of (items_of args.now))) → IfOk result (λ command. command.buffer ≡ buffer_of (Const start.buffer)) }
+    ensures program { (start : AreOfStart (map arg_of (items_of args.now))) → IfOk result (λ command. string_bytes command.program ≡ encoded (bare start.program)) }
+    ensures words { (start : AreOfStart (map arg_of (items_of args.now))) → IfOk result (λ command. map string_bytes command.words.items ≡ map (λ v. encoded (string_of v)) (map plain start.arguments)) }
+{
+    let Some(name) = string(args.at(0)) else {
+        unreachable!()
+    };
+    let name = characters(alloc, name)?;
+    Ok(Command {
+        name: kernel.processes.free_name(&name)?,
+        buffer: buffer(args.at(1)),
+        program: word_of(alloc, args.at(2))?,
+        words: words(alloc, &args.as_slice()[3..])?,
+    })
+}
+
 /// Starts a program as a process.
+#[tactic(none)]
 pub fn start_process<H: Host>(
     alloc: Global,
     kernel: &mut Kernel,
@@ -168,24 +218,15 @@ pub fn start_process<H: Host>(
     ensures made { (p : ℕ) → result ≡ Ok (Answer.Process p) → p < length kernel.new.beside.processes }
     ensures fault { result ≡ Err Stop.WriteFault → ⊥ }
 {
-    let Some(name) = string(args.at(0)) else {
-        unreachable!()
-    };
-    let Some(program) = string(args.at(2)) else {
-        unreachable!()
-    };
-    if let Some(fault) = refusal(kernel, name, program, &args.as_slice()[2..]) {
+    if let Some(fault) = why_refused(kernel, args) {
         return Ok(Answer::Fault(fault));
     }
-    let characters = characters(alloc, name)?;
-    let name = kernel.processes.free_name(&characters)?;
-    let program = word(alloc, program)?;
-    let words = words(alloc, &args.as_slice()[3..])?;
-    let spawned = host.spawn(program.as_str(), words.as_slice())?;
+    let command = command(alloc, kernel, args)?;
+    let spawned = host.spawn(command.program.as_str(), command.words.as_slice())?;
     kernel.note_asked();
     match spawned {
         Spawned::Refused => Ok(Answer::Fault(Fault::SpawnFailed)),
-        Spawned::Started(child) => match kernel.add(&name, child, buffer(args.at(1))) {
+        Spawned::Started(child) => match kernel.add(&command.name, child, command.buffer) {
             Ok(process) => Ok(Answer::Process(process)),
             Err(_) => Err(Stop::NoProcess(child)),
         },

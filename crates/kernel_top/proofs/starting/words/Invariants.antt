@@ -4,5 +4,5 @@ use Rattle.plain_machine.specs.Arguments.{encoded}
 use Rattle.kernel_top.specs.Starting.{text_of}
 use Rattle.kernel_top.proofs.starting.words.Given as goal
 
-abbrev pub invariant-loop-i : goal.invariant-loop-i
-invariant-loop-i l = map string_bytes l.words.items ≡ map (λ arg. encoded (text_of (arg_of arg))) (take l.i l.args)
+abbrev pub invariant-loop-arg : goal.invariant-loop-arg
+invariant-loop-arg l = map string_bytes l.words.items ≡ map (λ arg. encoded (text_of (arg_of arg))) (take l.arg-index l.args)
