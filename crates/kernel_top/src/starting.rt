@@ -136,6 +136,7 @@ fn buffer(arg: &Arg) -> Option<u32>
 }
 
 /// Why a start is refused before anything is asked.
+#[tactic(none)]
 fn refusal(kernel: &Kernel, name: &Piece, program: &Piece, words: &[Arg]) -> Option<Fault>
     ensures { option_map fault_of result ≡ start_refused kernel.now name.now program.now (map arg_of words.now) }
 {
@@ -171,7 +172,7 @@ fn why_refused(kernel: &Kernel, args: &Args) -> Option<Fault>
 
 /// What a start needs: the name and the buffer of the process, and the words of its command.
 #[derive(Drop)]
-struct Command {
+struct Prepared {
     name: Chars,
     buffer: Option<u32>,
     program: String,
@@ -179,7 +180,7 @@ struct Command {
 }
 
 #[tactic(none)]
-fn command(alloc: Global, kernel: &Kernel, args: &Args) -> Mem<Command>
+fn command(alloc: Global, kernel: &Kernel, args: &Args) -> Mem<Prepared>
     requires start { AreOfStart (map arg_of (items_of args.now)) }
     requires words { are_words (drop 2 (map arg_of (items_of args.now))) ≡ true }
     ensures name { (start : AreOfStart (map arg_of (items_of args.now))) → IfOk result (λ command. command.name.items ≡ process_name kernel.now.beside.processes (characters_of (bare start.name))) }
@@ -193,7 +194,7 @@ fn command(alloc: Global, kernel: &Kernel, args: &Args) -> Mem<Command>
         unreachable!()
     };
     let name = characters(alloc, name)?;
-    Ok(Command {
+    Ok(Prepared {
         name: kernel.processes.free_name(&name)?,
         buffer: buffer(args.at(1)),
         program: word_of(alloc, args.at(2))?,
