@@ -6,6 +6,7 @@ pub mod Contents
 pub mod Dumped
 pub mod Entering
 pub mod Finishing
+pub mod Killing
 pub mod Gathering
 pub mod Handling
 pub mod Keeping

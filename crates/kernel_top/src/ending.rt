@@ -2,6 +2,7 @@
 ghost use Rattle.std.specs.Prelude.{◌≡◌, ℕ, ◌+◌, ◌<◌, [], ◌∷◌, ◌++◌, drop, length, Err};
 ghost use Rattle.editor_model.specs.Values.{NoForms};
 ghost use Rattle.plain_machine.specs.State.{Program};
+ghost use Rattle.plain_machine.specs.Arguments.{runs};
 ghost use Rattle.plain_machine.specs.Items.{Config, Top};
 ghost use Rattle.ek_types.specs.Io.{HasCause};
 ghost use Rattle.kernel_top.specs.Outside.{Outside, outside};
@@ -13,7 +14,7 @@ use crate::kernel::Kernel;
 use crate::print;
 use ek_types::Sink;
 use host_link::Host;
-use process_table::Status;
+use process_table::{Process, Status};
 
 /// Kills each child that still runs. Where nothing has stopped the run so far, a line is written for each, and the dump.
 pub fn finish<K: Sink, H: Host>(
@@ -42,6 +43,12 @@ pub fn finish<K: Sink, H: Host>(
     }
 }
 
+fn still_runs(process: &Process) -> bool
+    ensures { result ≡ runs process.now.status }
+{
+    matches!(process.status(), Status::Run)
+}
+
 fn finish_one<K: Sink, H: Host>(
     so_far: Result<(), Stop>,
     kernel: &Kernel,
@@ -58,7 +65,7 @@ fn finish_one<K: Sink, H: Host>(
     ensures cause { (faults : ℕ) → HasCause faults (K.state sink.old).faults (so_far ≡ Err Stop.WriteFault) → HasCause faults (K.state sink.new).faults (result ≡ Err Stop.WriteFault) }
 {
     let process = kernel.processes.get(p);
-    if process.status() != Status::Run {
+    if !still_runs(process) {
         return so_far;
     }
     host.kill(process.child());
