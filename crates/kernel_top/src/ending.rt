@@ -33,7 +33,23 @@ pub fn finish<K: Sink, H: Host>(
     for p in 0..kernel.processes.count() {
         state = finish_one(state, kernel, host, sink, p);
     }
-    match state {
+    leave(state, kernel, host, sink)
+}
+
+/// Writes the dump, where nothing has stopped the run so far. A child that never got a process is killed too.
+fn leave<K: Sink, H: Host>(
+    so_far: Result<(), Stop>,
+    kernel: &Kernel,
+    host: &mut H,
+    sink: &mut K,
+) -> Result<(), Stop>
+    requires { Hosted (with_unmade so_far []) (H.state host.old).kills }
+    ensures over { (program : Program) (before : Outside) (from : Config) →
+        IsAtEnd so_far program before (outside (K.state sink.old) (H.state host.old)) from kernel.now (length kernel.now.beside.processes) →
+        IsOver result program before (outside (K.state sink.new) (H.state host.new)) from }
+    ensures cause { (faults : ℕ) → HasCause faults (K.state sink.old).faults (so_far ≡ Err Stop.WriteFault) → HasCause faults (K.state sink.new).faults (result ≡ Err Stop.WriteFault) }
+{
+    match so_far {
         Ok(()) => Ok(print::dump(sink, kernel)?),
         Err(Stop::NoProcess(child)) => {
             host.kill(child);

@@ -1,5 +1,5 @@
 //! The lines of a run. After a failure nothing more is written.
-ghost use Rattle.std.specs.Prelude.{◌≡◌, ℕ, ◌+◌, ◌<◌, length, ◌≤◌, List, [], ◌∷◌, ◌++◌, codes, decimal, if◌then◌else◌, Some, None, IfSome, false, slice_get};
+ghost use Rattle.std.specs.Prelude.{◌≡◌, ℕ, ◌+◌, ◌<◌, length, ◌≤◌, List, [], ◌∷◌, ◌++◌, codes, decimal, if◌then◌else◌, Some, None, IfSome, OnErr, false, slice_get};
 ghost use Rattle.text_model.specs.Properties.{bare};
 ghost use Rattle.text_model.specs.Undo.{Undo};
 ghost use Rattle.text_model.specs.Marks.{Marker};
@@ -9,7 +9,7 @@ ghost use Rattle.editor_model.specs.Limits.{longest_text};
 ghost use Rattle.plain_machine.specs.State.{State, process};
 ghost use Rattle.plain_machine.specs.State.{Process as Meant};
 ghost use Rattle.plain_machine.specs.Lines.{Replied, Entered, Left, KilledLast, OfFilter, OfSentinel, line, fault_words, shown_name, shown_marker, quoted, shown_status, buffer_name, dump as dump_of};
-ghost use Rattle.ek_types.specs.Io.{Continues, Writes};
+ghost use Rattle.ek_types.specs.Io.{Continues, Rose, Writes};
 ghost use Rattle.ek_call.specs.Faults.{fault_of};
 ghost use Rattle.kernel_top.specs.Plain.{plain_state, buffer_with};
 ghost use Rattle.kernel_top.specs.Answers.{replied, answer_words};
@@ -228,8 +228,10 @@ fn put_processes<K: Sink>(so_far: SoFar, sink: &mut K, processes: &Processes) ->
 
 /// Writes the lines of the one buffer, the markers and the processes, at the end of a run.
 pub fn dump<K: Sink>(sink: &mut K, kernel: &Kernel) -> SoFar
-    ensures { (symbols : List (List ℕ)) (u : Undo) (all : List Meant) → StandsFor kernel.now.beside.processes all →
+    ensures lines { (symbols : List (List ℕ)) (u : Undo) (all : List Meant) → StandsFor kernel.now.beside.processes all →
         Writes (K.state sink.old) (K.state sink.new) result (dump_of symbols (stands_at kernel.now u all)) }
+    ensures later { (K.state sink.old).faults ≤ (K.state sink.new).faults }
+    ensures rose { OnErr result (Rose (K.state sink.old).faults (K.state sink.new).faults) }
 {
     let buffer = put_buffer(Ok(()), sink, &kernel.text);
     let markers = put_markers(buffer, sink, kernel);
