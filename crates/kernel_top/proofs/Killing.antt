@@ -113,6 +113,11 @@ pub one_left : (list : List Process) (child : ℕ) → children (running (drop (
 one_left list child = ap (λ l. children (running (l ++ unmade (stop.NoProcess child)))) (drop_all (length list) list (omega arith))
 
 module _ (program : Program) (before : Outside) (from : Config) (k : Kernel) where
+  pub one_at_end : {T : Type 0} (so_far : Result T Stop) (now : Outside) (child : ℕ) → so_far ≡ Err (stop.NoProcess child) → IsAtEnd so_far program before now from k (length k.beside.processes) → Halts program before now from (child ∷ [])
+  one_at_end so_far now child e h =
+      let halted : IsAtEnd (Err (stop.NoProcess child)) program before now from k (length k.beside.processes) = subst (λ r. IsAtEnd r program before now from k (length k.beside.processes)) e h in
+      halts_as program before now from _ (child ∷ []) (one_left k.beside.processes child) halted
+
   -- the run so far, where nothing is dealt with yet
   pub at_first : {T : Type 0} (so_far : Result T Stop) (now : Outside) (kills : List Bool) → Hosted (with_unmade so_far k.beside.processes) kills →
       Comes so_far program before now from k (λ _ v all. working (stands_at k v all) (Top NoForms ∷ [])) → IsAtEnd so_far program before now from k 0

@@ -1,8 +1,8 @@
 use Rattle.std.proofs.Common.{◌≡◌, ℕ, Bool, true, false, List, [], ◌∷◌, length, refl, ap, sym, ◌∙◌, subst, Ok, Err, arith}
 use Rattle.plain_machine.specs.State.{new_state}
 use Rattle.kernel_top.specs.Standing.{stands_at}
-use Rattle.kernel_top.proofs.Finishing.{halts_as, halts_kill}
-use Rattle.kernel_top.proofs.Killing.{none_left, one_left, ends_whole, ends_broken}
+use Rattle.kernel_top.proofs.Finishing.{halts_kill}
+use Rattle.kernel_top.proofs.Killing.{one_at_end, ends_whole, ends_broken}
 use Rattle.kernel_top.proofs.Output.{stopped_by}
 use Rattle.kernel_top.specs.declared.answer.Stop.TheVariants as stop
 use Rattle.kernel_top.specs.Outside.{outside}
@@ -30,5 +30,5 @@ returns-in_ok-dump-in-Ok-clause-cause g c = λ faults h.
 
 pub returns-in-Err-NoProcess-clause-over : goal.returns-in-Err-NoProcess-clause-over
 returns-in-Err-NoProcess-clause-over g c = λ program before from h.
-    let left = halts_as program before (outside (g.K.Sink.state c.args.sink.now) (g.H.Host.state c.args.host.now)) from _ _ (one_left c.args.kernel.now.beside.processes c.in-Err-NoProcess.child) (rw c.in-Err-NoProcess.is at h) in
+    let left = one_at_end program before from c.args.kernel.now c.args.so_far (outside (g.K.Sink.state c.args.sink.now) (g.H.Host.state c.args.host.now)) c.in-Err-NoProcess.child (c.in-Err-NoProcess.is ∙ ap Err c.in-Err-NoProcess.field-0-is) h in
     halts_kill program before (g.K.Sink.state c.args.sink.now) (g.H.Host.state c.args.host.now) (g.H.Host.state c.kill.new.self) from _ c.in-Err-NoProcess.child [] (kill_answer c.kill.result) c.kill.ensures left
