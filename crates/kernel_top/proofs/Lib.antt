@@ -13,6 +13,7 @@ pub mod Output
 pub mod HostedLemmas
 pub mod Journeys
 pub mod Launching
+pub mod Making
 pub mod Prepared
 pub mod Printed
 pub mod Rotating

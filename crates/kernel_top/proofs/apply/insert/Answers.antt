@@ -1,4 +1,4 @@
-use Rattle.std.proofs.Common.{sym, ◌∙◌, arith}
+use Rattle.std.proofs.Common.{refl, sym, ◌∙◌, arith}
 use Rattle.text_model.specs.Properties.{bare}
 use Rattle.ek_call.specs.Meaning.{arg_of}
 use Rattle.kernel_top.proofs.Coming.{same_string, came_empty, came_full, came_inserted}
@@ -19,3 +19,6 @@ returns-clause-ok c =
     rw c.in_ok-insert.ensures.ok
     (came_inserted c.args.kernel.now (arg_of c.args.arg.now) c.in-Some.piece.now c.requires.0 c.in-Some.ensures.some plain (sym c.is_empty.ensures ∙ c.if-is_empty.false) c.insert.ensures.inside
     (omega (arith, c.len.ensures, c.len-2.ensures.exact, c.if-len.false)))
+
+pub returns-clause-processes : goal.returns-clause-processes
+returns-clause-processes c = rw c.in_ok-insert.ensures.ok refl
