@@ -41,8 +41,8 @@ pub keeps_children : {T : Type 0} (value : T) (old new : Kernel) (kills : List B
 keeps_children {T = T} value old new kills hosted same =
     stays_hosted {T = T} (Ok value) old new kills kills tt refl (subst (λ t. Hosted t kills) (sym same) hosted) (ap length same)
 
-pub keeps_unmade : {T : Type 0} (old new : Kernel) (kills : List Bool) → Hosted old.beside.processes kills → new.beside.processes ≡ old.beside.processes → StaysHosted {T = T} (Err stop.NoMemory) old kills new kills
-keeps_unmade {T = T} old new kills hosted same =
+pub keeps_unmade : (T : Type 0) (old new : Kernel) (kills : List Bool) → Hosted old.beside.processes kills → new.beside.processes ≡ old.beside.processes → StaysHosted {T = T} (Err stop.NoMemory) old kills new kills
+keeps_unmade T old new kills hosted same =
     stays_hosted {T = T} (Err stop.NoMemory) old new kills kills refl refl (subst (λ t. Hosted t kills) (sym same) hosted) (ap length same)
 
 -- a plain answer names no process
