@@ -1,11 +1,10 @@
 -- What a call on the buffer comes to, beside the sink and the host.
 use Rattle.std.proofs.Common.{◌≡◌, ℕ, ◌<◌, Bool, List, [], ◌∷◌, map, length, Ok, Err, Result, refl, sym, ap, ◌∙◌, subst, arith}
 use Rattle.std.specs.Prelude.{IfOk, OnErr}
-use Rattle.editor_model.specs.Values.{Prim, Arg}
+use Rattle.editor_model.specs.Values.{Prim, Arg, Form, Then}
 use Rattle.ek_types.specs.Io.{HasCause}
 use Rattle.plain_machine.specs.State.{Process}
 use Rattle.plain_machine.specs.Items.{Top}
-use Rattle.editor_model.specs.Values.{Then}
 use Rattle.process_table.specs.Table.{StandsFor}
 use Rattle.kernel_top.specs.Plain.{Kernel}
 use Rattle.kernel_top.specs.Answers.{called, ComesTo}
@@ -21,9 +20,11 @@ use Rattle.kernel_top.proofs.Output.{breaks_at}
 use Rattle.kernel_top.proofs.Keeping.{stays_hosted}
 
 -- a call that asks and says nothing comes to its answer
-pub replies : (prim : Prim) (args : List Arg) (o : Outside) (old new : Kernel) (a : Answer) → ComesTo (called prim args) old new a → new.beside.processes ≡ old.beside.processes → ComesToReply (Ok a) prim args o o old new
-replies prim args o old new a comes same = λ program fs u all stands.
-    let run = comes program u all fs in
+pub replies : (prim : Prim) (args : List Arg) (f : Form) (o : Outside) (old new : Kernel) (a : Answer) → called prim args ≡ f → ComesTo f old new a → new.beside.processes ≡ old.beside.processes →
+    ComesToReply (Ok a) prim args o o old new
+replies prim args f o old new a whole comes same = λ program fs u all stands.
+    let there : ComesTo (called prim args) old new a = subst (λ g. ComesTo g old new a) (sym whole) comes in
+    let run = there program u all fs in
     (run.0, all, subst (λ t. StandsFor t all) (sym same) stands, goes_silently program o _ _ run.1)
 
 -- or is broken off before anything was done
