@@ -26,10 +26,18 @@ delete_region-requires-clause-second g c =
     (on_region c.args.call.now c.at-in-DeleteRegion.result.now c.at-in-DeleteRegion-2.result.now c.requires.call c.in-DeleteRegion.is c.at-in-DeleteRegion.ensures c.at-in-DeleteRegion-2.ensures).to
 
 pub returns-in_err-insert-in-Insert-clause-comes : goal.returns-in_err-insert-in-Insert-clause-comes
-returns-in_err-insert-in-Insert-clause-comes g c = ?
+returns-in_err-insert-in-Insert-clause-comes g c =
+    let call = c.args.call.now in
+    let o = outside (g.K.Sink.state c.args.sink.now) (g.H.Host.state c.args.host.now) in
+    rw (stopped_by c.from_residual.result stop.NoMemory c.from_residual.ensures)
+    (broken (prim_of call.prim) (map arg_of (items_of call.args)) o c.args.kernel.now c.insert.new.kernel c.in_err-insert-in-Insert.ensures.err)
 
 pub returns-in_ok-insert-in-Insert-clause-comes : goal.returns-in_ok-insert-in-Insert-clause-comes
-returns-in_ok-insert-in-Insert-clause-comes g c = ?
+returns-in_ok-insert-in-Insert-clause-comes g c =
+    let call = c.args.call.now in
+    let o = outside (g.K.Sink.state c.args.sink.now) (g.H.Host.state c.args.host.now) in
+    replies (prim_of call.prim) (map arg_of (items_of call.args)) (called Insert (arg_of c.at.result.now ∷ [])) o c.args.kernel.now c.insert.new.kernel c.in_ok-insert-in-Insert.field-0
+    (on_string call c.at.result.now c.requires.call c.in-Insert.is c.at.ensures).whole c.in_ok-insert-in-Insert.ensures.ok c.insert.ensures.processes
 
 pub returns-in-GotoChar-clause-comes : goal.returns-in-GotoChar-clause-comes
 returns-in-GotoChar-clause-comes g c =
