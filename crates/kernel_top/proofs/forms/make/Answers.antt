@@ -1,4 +1,4 @@
-use Rattle.std.proofs.Common.{ap, sym, refl, [], ◌∷◌, map}
+use Rattle.std.proofs.Common.{[], ◌∷◌, map}
 use Rattle.editor_model.specs.Values.{Insert, GotoChar, DeleteRegion}
 use Rattle.ek_types.specs.Listing.{items_of}
 use Rattle.ek_call.specs.Meaning.{arg_of}
@@ -8,7 +8,7 @@ use Rattle.kernel_top.specs.Outside.{outside}
 use Rattle.kernel_top.specs.declared.answer.Stop.TheVariants as stop
 use Rattle.kernel_top.proofs.Output.{stopped_by}
 use Rattle.kernel_top.proofs.SoFar.{on_string, on_integer, on_region, on_start, on_rounds}
-use Rattle.kernel_top.proofs.Making.{replies, broken, no_cause, keeps_children, keeps_unmade, names_none}
+use Rattle.kernel_top.proofs.Making.{replies, broken}
 use Rattle.kernel_top.proofs.forms.make.Goals as goal
 
 pub insert-requires : goal.insert-requires
@@ -54,3 +54,9 @@ returns-in-DeleteRegion-clause-comes g c =
     let o = outside (g.K.Sink.state c.args.sink.now) (g.H.Host.state c.args.host.now) in
     replies (prim_of call.prim) (map arg_of (items_of call.args)) (called DeleteRegion (arg_of first ∷ arg_of second ∷ [])) o c.args.kernel.now c.delete_region.new.kernel c.delete_region.result
     (on_region call first second c.requires.call c.in-DeleteRegion.is c.at-in-DeleteRegion.ensures c.at-in-DeleteRegion-2.ensures).whole c.delete_region.ensures.comes c.delete_region.ensures.processes
+
+pub start_process-requires-clause-start : goal.start_process-requires-clause-start
+start_process-requires-clause-start g c = on_start c.args.call.now c.requires.call c.in-StartProcess.is
+
+pub accept_process_output-requires-clause-rounds : goal.accept_process_output-requires-clause-rounds
+accept_process_output-requires-clause-rounds g c = on_rounds c.args.call.now c.requires.call c.in-AcceptProcessOutput.is
