@@ -10,8 +10,8 @@ ghost use Rattle.kernel_top.specs.Answers.{called, ComesTo, place_of, place_with
 ghost use Rattle.kernel_top.specs.Calls.{IsPlain};
 
 use crate::answer::Answer;
-use crate::kernel::Kernel;
 use crate::core_text::LONGEST_TEXT;
+use crate::kernel::Kernel;
 use ek_call::{Arg, Fault};
 use ek_types::{Mem, Piece};
 
