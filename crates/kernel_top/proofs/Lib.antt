@@ -14,6 +14,7 @@ pub mod Output
 pub mod HostedLemmas
 pub mod Journeys
 pub mod Launching
+pub mod Making
 pub mod Prepared
 pub mod Printed
 pub mod Rotating

@@ -7,10 +7,11 @@ ghost use Rattle.editor_model.specs.Limits.{longest_text};
 ghost use Rattle.editor_model.specs.Values.{Const, Int as number, Str as string, Insert, GotoChar, DeleteRegion};
 ghost use Rattle.ek_call.specs.Meaning.{arg_of};
 ghost use Rattle.kernel_top.specs.Answers.{called, ComesTo, place_of, place_within};
+ghost use Rattle.kernel_top.specs.Calls.{IsPlain};
 
 use crate::answer::Answer;
-use crate::kernel::Kernel;
 use crate::core_text::LONGEST_TEXT;
+use crate::kernel::Kernel;
 use ek_call::{Arg, Fault};
 use ek_types::{Mem, Piece};
 
@@ -64,6 +65,8 @@ pub fn insert(kernel: &mut Kernel, arg: &Arg) -> Mem<Answer>
     requires { (text : List Character) × (arg_of arg.now ≡ Const (string (bare text))) }
     ensures ok { IfOk result (λ answer. ComesTo (called Insert (arg_of arg.now ∷ [])) kernel.old kernel.new answer) }
     ensures err { OnErr result (kernel.new ≡ kernel.old) }
+    ensures answer { IfOk result IsPlain }
+    ensures processes { kernel.new.beside.processes ≡ kernel.old.beside.processes }
 {
     let Some(piece) = string(arg) else {
         unreachable!()
@@ -81,7 +84,9 @@ pub fn insert(kernel: &mut Kernel, arg: &Arg) -> Mem<Answer>
 /// Puts point at a position, or at the nearer end of the text.
 pub fn goto_char(kernel: &mut Kernel, arg: &Arg) -> Answer
     requires { (i : ℤ) × (arg_of arg.now ≡ Const (number i)) }
-    ensures { ComesTo (called GotoChar (arg_of arg.now ∷ [])) kernel.old kernel.new result }
+    ensures comes { ComesTo (called GotoChar (arg_of arg.now ∷ [])) kernel.old kernel.new result }
+    ensures answer { IsPlain result }
+    ensures processes { kernel.new.beside.processes ≡ kernel.old.beside.processes }
 {
     let Some(position) = integer(arg) else {
         unreachable!()
@@ -95,7 +100,9 @@ pub fn goto_char(kernel: &mut Kernel, arg: &Arg) -> Answer
 pub fn delete_region(kernel: &mut Kernel, first: &Arg, second: &Arg) -> Answer
     requires first { (i : ℤ) × (arg_of first.now ≡ Const (number i)) }
     requires second { (i : ℤ) × (arg_of second.now ≡ Const (number i)) }
-    ensures { ComesTo (called DeleteRegion (arg_of first.now ∷ arg_of second.now ∷ [])) kernel.old kernel.new result }
+    ensures comes { ComesTo (called DeleteRegion (arg_of first.now ∷ arg_of second.now ∷ [])) kernel.old kernel.new result }
+    ensures answer { IsPlain result }
+    ensures processes { kernel.new.beside.processes ≡ kernel.old.beside.processes }
 {
     let Some(a) = integer(first) else {
         unreachable!()
