@@ -114,8 +114,8 @@ one_left list child = ap (λ l. children (running (l ++ unmade (stop.NoProcess c
 
 module _ (program : Program) (before : Outside) (from : Config) (k : Kernel) where
   pub one_at_end : {T : Type 0} (so_far : Result T Stop) (now : Outside) (child : ℕ) → so_far ≡ Err (stop.NoProcess child) → IsAtEnd so_far program before now from k (length k.beside.processes) → Halts program before now from (child ∷ [])
-  one_at_end so_far now child e h =
-      let halted : IsAtEnd (Err (stop.NoProcess child)) program before now from k (length k.beside.processes) = subst (λ r. IsAtEnd r program before now from k (length k.beside.processes)) e h in
+  one_at_end {T = T} so_far now child e h =
+      let halted : IsAtEnd {T = T} (Err (stop.NoProcess child)) program before now from k (length k.beside.processes) = subst (λ r. IsAtEnd r program before now from k (length k.beside.processes)) e h in
       halts_as program before now from _ (child ∷ []) (one_left k.beside.processes child) halted
 
   -- the run so far, where nothing is dealt with yet
