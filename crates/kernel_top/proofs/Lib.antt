@@ -9,6 +9,7 @@ pub mod Finishing
 pub mod Gathering
 pub mod Handling
 pub mod Keeping
+pub mod Outcomes
 pub mod Output
 pub mod HostedLemmas
 pub mod Journeys
@@ -21,4 +22,5 @@ pub mod SoFar
 pub mod Sound
 pub mod Starts
 pub mod Taking
+pub mod TopForms
 pub mod Turning
