@@ -1,5 +1,5 @@
 -- The forms of a script of the grammar so far.
-use Rattle.std.proofs.Common.{◌≡◌, ℕ, List, [], ◌∷◌}
+use Rattle.std.proofs.Common.{ℕ, List, [], ◌∷◌}
 use Rattle.editor_model.specs.Values.{Script}
 use Rattle.plain_machine.specs.Grammar.{Top, Run, Handler, forms_of}
 use Rattle.script_read.specs.GrammarSoFar.{AreTopsSoFar, IsScriptSoFar}
