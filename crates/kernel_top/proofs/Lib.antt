@@ -10,6 +10,7 @@ pub mod Killing
 pub mod Gathering
 pub mod Handling
 pub mod Keeping
+pub mod Outcomes
 pub mod Output
 pub mod HostedLemmas
 pub mod Journeys
@@ -23,4 +24,5 @@ pub mod SoFar
 pub mod Sound
 pub mod Starts
 pub mod Taking
+pub mod TopForms
 pub mod Turning
