@@ -1,4 +1,5 @@
 pub mod Asking
+pub mod Adding
 pub mod Calls
 pub mod Coming
 pub mod Contents
@@ -8,12 +9,15 @@ pub mod Gathering
 pub mod Handling
 pub mod Keeping
 pub mod Output
+pub mod HostedLemmas
 pub mod Journeys
+pub mod Launching
 pub mod Prepared
 pub mod Printed
 pub mod Rotating
 pub mod Rounded
 pub mod SoFar
 pub mod Sound
+pub mod Starts
 pub mod Taking
 pub mod Turning
