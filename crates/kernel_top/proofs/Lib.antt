@@ -14,6 +14,7 @@ pub mod Journeys
 pub mod Launching
 pub mod Prepared
 pub mod Printed
+pub mod Refusing
 pub mod Rotating
 pub mod Rounded
 pub mod SoFar
