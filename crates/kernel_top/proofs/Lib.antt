@@ -19,6 +19,7 @@ pub mod Rotating
 pub mod Rounded
 pub mod SoFar
 pub mod Sound
+pub mod Started
 pub mod Starts
 pub mod Taking
 pub mod Turning
