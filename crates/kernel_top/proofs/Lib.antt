@@ -18,10 +18,12 @@ pub mod Launching
 pub mod Making
 pub mod Prepared
 pub mod Printed
+pub mod Refusing
 pub mod Rotating
 pub mod Rounded
 pub mod SoFar
 pub mod Sound
+pub mod Started
 pub mod Starts
 pub mod Taking
 pub mod TopForms

@@ -140,13 +140,22 @@ fn buffer(arg: &Arg) -> Option<u32>
 fn refusal(kernel: &Kernel, name: &Piece, program: &Piece, words: &[Arg]) -> Option<Fault>
     ensures { option_map fault_of result ≡ start_refused kernel.now name.now program.now (map arg_of words.now) }
 {
-    if name.is_empty() || program.is_empty() || !are_words(words) {
+    if name.is_empty() {
         return Some(Fault::WrongType);
     }
-    if name.len() > LONGEST_NAME
-        || kernel.processes.count() >= MOST_PROCESSES
-        || kernel.markers.count() >= MOST_MARKERS
-    {
+    if program.is_empty() {
+        return Some(Fault::WrongType);
+    }
+    if !are_words(words) {
+        return Some(Fault::WrongType);
+    }
+    if name.len() > LONGEST_NAME {
+        return Some(Fault::TooMany);
+    }
+    if kernel.processes.count() >= MOST_PROCESSES {
+        return Some(Fault::TooMany);
+    }
+    if kernel.markers.count() >= MOST_MARKERS {
         return Some(Fault::TooMany);
     }
     if !kernel.may_ask() {
@@ -179,7 +188,6 @@ struct Prepared {
     words: Vec<String>,
 }
 
-#[tactic(none)]
 fn command(alloc: Global, kernel: &Kernel, args: &Args) -> Mem<Prepared>
     requires start { AreOfStart (map arg_of (items_of args.now)) }
     requires words { are_words (drop 2 (map arg_of (items_of args.now))) ≡ true }
@@ -203,7 +211,6 @@ fn command(alloc: Global, kernel: &Kernel, args: &Args) -> Mem<Prepared>
 }
 
 /// Starts a program as a process.
-#[tactic(none)]
 pub fn start_process<H: Host>(
     alloc: Global,
     kernel: &mut Kernel,
