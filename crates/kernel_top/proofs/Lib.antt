@@ -20,6 +20,7 @@ pub mod Prepared
 pub mod Printed
 pub mod Refusing
 pub mod Rotating
+pub mod Replying
 pub mod Rounded
 pub mod SoFar
 pub mod Sound

@@ -2,7 +2,7 @@
 ghost use Rattle.std.specs.Prelude.{◌≡◌, ℕ, ◌+◌, ◌-◌, ◌^◌, ◌<◌, ◌≤◌, List, [], ◌∷◌, length, map, OnOk, OnErr, Err, Ok};
 ghost use Rattle.std.specs.Io.KnownBytes.{Appends};
 ghost use Rattle.text_model.specs.Undo.{Undo};
-ghost use Rattle.editor_model.specs.Values.{Forms, NoForms, Then};
+ghost use Rattle.editor_model.specs.Values.{Do, Forms, NoForms, Then};
 ghost use Rattle.plain_machine.specs.Exchanges.{Exchange};
 ghost use Rattle.plain_machine.specs.State.{Process, Program};
 ghost use Rattle.plain_machine.specs.Items.{Top};
@@ -59,6 +59,15 @@ fn make<K: Sink, H: Host>(
     }
 }
 
+/// The call that a form so far is.
+fn only_call(form: &Form) -> &Call
+    requires { IsFormSoFar (form_of form.now) }
+    ensures { form_of form.now ≡ Do (call_of result.now) }
+{
+    let Form::Do(call) = form else { unreachable!() };
+    call
+}
+
 fn run_form<K: Sink, H: Host>(
     alloc: Global,
     kernel: &mut Kernel,
@@ -75,8 +84,7 @@ fn run_form<K: Sink, H: Host>(
     ensures cause { HasCause (K.state sink.old).faults (K.state sink.new).faults (result ≡ Err Stop.WriteFault) }
     ensures hosted { StaysHosted result kernel.old (H.state host.old).kills kernel.new (H.state host.new).kills }
 {
-    let Form::Do(call) = form else { unreachable!() };
-    let answer = make(alloc, kernel, host, sink, call)?;
+    let answer = make(alloc, kernel, host, sink, only_call(form))?;
     print::reply(sink, answer, &kernel.processes)?;
     Ok(())
 }

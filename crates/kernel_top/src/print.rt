@@ -68,7 +68,9 @@ fn put_answer<K: Sink>(so_far: SoFar, sink: &mut K, answer: Answer, processes: &
 /// Writes the line of a reply at top level.
 pub fn reply<K: Sink>(sink: &mut K, answer: Answer, processes: &Processes) -> SoFar
     requires { (p : ℕ) → answer ≡ Answer.Process p → p < length processes.now }
-    ensures { (symbols : List (List ℕ)) (s : State) → StandsFor processes.now s.processes → Writes (K.state sink.old) (K.state sink.new) result (line symbols s (Replied 0 (replied answer))) }
+    ensures lines { (symbols : List (List ℕ)) (s : State) → StandsFor processes.now s.processes → Writes (K.state sink.old) (K.state sink.new) result (line symbols s (Replied 0 (replied answer))) }
+    ensures later { (K.state sink.old).faults ≤ (K.state sink.new).faults }
+    ensures rose { OnErr result (Rose (K.state sink.old).faults (K.state sink.new).faults) }
 {
     let said = put_answer(Ok(()), sink, answer, processes);
     put(said, sink, b"\n")
