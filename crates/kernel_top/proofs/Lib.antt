@@ -22,6 +22,7 @@ pub mod Refusing
 pub mod Rotating
 pub mod Replying
 pub mod Rounded
+pub mod Running
 pub mod SoFar
 pub mod Sound
 pub mod Started

@@ -106,6 +106,7 @@ fn run_forms<K: Sink, H: Host>(
     ensures hosted { StaysHosted result kernel.old (H.state host.old).kills kernel.new (H.state host.new).kills }
 {
     for i in 0..script.forms.len() {
+        let _few = kernel.processes.count();
         run_form(alloc, kernel, host, sink, script.forms.at(i))?;
     }
     Ok(())
@@ -128,6 +129,7 @@ pub fn run_script<K: Sink, H: Host>(
     ensures cause { HasCause (K.state sink.old).faults (K.state sink.new).faults (result ≡ Err Stop.WriteFault) }
     ensures roomy { SaysAtMost (program_for (script_of script.now)) (start (script_of script.now)) (K.state sink.old).room → (K.state sink.new).faults ≡ (K.state sink.old).faults }
 {
+    machine_laws::kills_are_left();
     let mut kernel = Kernel::new(alloc);
     let ran = run_forms(alloc, &mut kernel, host, sink, script);
     finish(ran, &kernel, host, sink)
