@@ -1,5 +1,5 @@
 //! Each call that takes memory, once with ample memory, and words that stand for calls.
-use crate::{Arg, Call, Fault, Form, HandlerDef, Primitive, Reply, Value, argument};
+use crate::{Arg, Call, Fault, Form, Forms, HandlerDef, Primitive, Reply, Value, Values, argument};
 use ek_types::{Ch, Chars, Copied, ListOf, Mem, Piece, Sym};
 use std::alloc::Global;
 use std::test::Fail;
@@ -44,20 +44,56 @@ fn is_nested(value: &Value) -> bool {
     }
 }
 
+/// Values of the other kinds.
+fn flat(alloc: Global) -> Mem<Values> {
+    let mut values = ListOf::new(alloc);
+    let all = [
+        Value::Nil,
+        Value::T,
+        Value::Int(-1),
+        Value::Sym(Sym(14)),
+        Value::Buffer(1),
+        Value::Marker(2),
+        Value::Overlay(3),
+        Value::Process(4),
+    ];
+    for value in all {
+        values.push(value)?;
+    }
+    Ok(values)
+}
+
 #[test]
 fn values_and_their_copies(rt: HostRuntime) -> Result<(), Fail> {
+    assert!(rt; is_nested(&nested(rt.alloc())?.copy()?));
+    let copies = flat(rt.alloc())?.copy()?;
+    assert!(rt;
+        matches!(
+            copies.as_slice(),
+            [
+                Value::Nil,
+                Value::T,
+                Value::Int(-1),
+                Value::Sym(Sym(14)),
+                Value::Buffer(1),
+                Value::Marker(2),
+                Value::Overlay(3),
+                Value::Process(4)
+            ]
+        )
+    );
+    Ok(())
+}
+
+#[test]
+fn a_string_and_its_copy(rt: HostRuntime) -> Result<(), Fail> {
     let mut text = Chars::new(rt.alloc());
     text.push(Ch::Scalar('a'))?;
-    let string = Value::Str(Piece::plain(rt.alloc(), text)).copy()?;
-    assert_eq!(rt; string.string().map(|s| s.len()), Some(1));
-    assert!(rt; is_nested(&nested(rt.alloc())?.copy()?));
-    assert_eq!(rt; Value::Sym(Sym(14)).copy()?.symbol(), Some(Sym(14)));
-    assert!(rt; matches!(Value::Nil.copy()?, Value::Nil));
-    assert!(rt; matches!(Value::T.copy()?, Value::T));
-    assert!(rt; matches!(Value::Buffer(1).copy()?, Value::Buffer(1)));
-    assert!(rt; matches!(Value::Marker(2).copy()?, Value::Marker(2)));
-    assert!(rt; matches!(Value::Overlay(3).copy()?, Value::Overlay(3)));
-    assert!(rt; matches!(Value::Process(4).copy()?, Value::Process(4)));
+    let copy = Value::Str(Piece::plain(rt.alloc(), text)).copy()?;
+    let Some(copy) = copy.string() else {
+        return Err(Fail::from("the copy is no string"));
+    };
+    assert_eq!(rt; copy.len(), 1);
     Ok(())
 }
 
@@ -99,36 +135,71 @@ fn one(alloc: Global, form: Form) -> Mem<ListOf<Form>> {
     Ok(forms)
 }
 
+/// A block inside a block inside a `when-eq`, or the two other kinds of blocks.
+fn block(alloc: Global, of_buffers: bool) -> Mem<Form> {
+    let call = one(alloc, Form::Do(moves_a_marker(alloc)?))?;
+    if of_buffers {
+        return Ok(Form::KeepBuffer(one(alloc, Form::NoHooks(call))?));
+    }
+    let inner = one(alloc, Form::Restriction(call))?;
+    let outer = one(alloc, Form::Excursion(inner))?;
+    Ok(Form::WhenEq(Arg::Name(Sym(14)), Arg::Const(Value::T), outer))
+}
+
+/// The one form of some forms.
+fn only(forms: &Forms) -> Option<&Form> {
+    match forms.as_slice() {
+        [form] => Some(form),
+        _ => None,
+    }
+}
+
+fn is_call(form: Option<&Form>) -> bool {
+    match form {
+        Some(Form::Do(call)) => is_move_of_a_marker(call),
+        _ => false,
+    }
+}
+
 #[test]
-fn forms_and_their_copies(rt: HostRuntime) -> Result<(), Fail> {
-    let alloc = rt.alloc();
-    let call = Form::Do(moves_a_marker(alloc)?).copy()?;
-    assert!(rt; matches!(&call, Form::Do(call) if is_move_of_a_marker(call)));
-    let stored = Form::Setq(Sym(15), moves_a_marker(alloc)?).copy()?;
-    assert!(rt; matches!(&stored, Form::Setq(Sym(15), call) if is_move_of_a_marker(call)));
-    let within = Form::NoHooks(one(alloc, Form::KeepBuffer(one(alloc, call)?))?);
-    let around = Form::Excursion(one(alloc, Form::Restriction(one(alloc, within)?))?);
-    let when = Form::WhenEq(
-        Arg::Name(Sym(14)),
-        Arg::Const(Value::T),
-        one(alloc, around)?,
-    );
-    let Form::WhenEq(Arg::Name(Sym(14)), Arg::Const(Value::T), forms) = when.copy()? else {
+fn calls_and_their_copies(rt: HostRuntime) -> Result<(), Fail> {
+    assert!(rt; is_call(Some(&Form::Do(moves_a_marker(rt.alloc())?).copy()?)));
+    let Form::Setq(name, call) = Form::Setq(Sym(15), moves_a_marker(rt.alloc())?).copy()? else {
+        return Err(Fail::from("the copy is no setq"));
+    };
+    assert_eq!(rt; name, Sym(15));
+    assert!(rt; is_move_of_a_marker(&call));
+    Ok(())
+}
+
+#[test]
+fn a_block_and_its_copy(rt: HostRuntime) -> Result<(), Fail> {
+    let Form::WhenEq(Arg::Name(Sym(14)), Arg::Const(Value::T), outer) = block(
+        rt.alloc(),
+        false,
+    )?.copy()?
+    else {
         return Err(Fail::from("the copy is no when-eq of these arguments"));
     };
-    let [Form::Excursion(forms)] = forms.as_slice() else {
+    let Some(Form::Excursion(inner)) = only(&outer) else {
         return Err(Fail::from("the copy is no save-excursion"));
     };
-    let [Form::Restriction(forms)] = forms.as_slice() else {
+    let Some(Form::Restriction(forms)) = only(inner) else {
         return Err(Fail::from("the copy is no save-restriction"));
     };
-    let [Form::NoHooks(forms)] = forms.as_slice() else {
-        return Err(Fail::from("the copy is no inhibit-hooks"));
-    };
-    let [Form::KeepBuffer(forms)] = forms.as_slice() else {
+    assert!(rt; is_call(only(forms)));
+    Ok(())
+}
+
+#[test]
+fn blocks_of_buffers_and_their_copies(rt: HostRuntime) -> Result<(), Fail> {
+    let Form::KeepBuffer(inner) = block(rt.alloc(), true)?.copy()? else {
         return Err(Fail::from("the copy is no save-current-buffer"));
     };
-    assert!(rt; matches!(forms.as_slice(), [Form::Do(call)] if is_move_of_a_marker(call)));
+    let Some(Form::NoHooks(forms)) = only(&inner) else {
+        return Err(Fail::from("the copy is no inhibit-hooks"));
+    };
+    assert!(rt; is_call(only(forms)));
     Ok(())
 }
 
@@ -142,7 +213,7 @@ fn handlers_and_their_copies(rt: HostRuntime) -> Result<(), Fail> {
     let copy = HandlerDef { name, params, body }.copy()?;
     assert_eq!(rt; copy.name, name);
     assert_eq!(rt; copy.params.as_slice(), [Sym(15), Sym(16)].as_slice());
-    assert!(rt; matches!(copy.body.as_slice(), [Form::Do(call)] if is_move_of_a_marker(call)));
+    assert!(rt; is_call(only(&copy.body)));
     Ok(())
 }
 

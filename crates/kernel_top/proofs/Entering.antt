@@ -1,5 +1,5 @@
 -- How a default handler is entered and left.
-use Rattle.std.proofs.Common.{◌≡◌, ℕ, ◌<◌, arith, Bool, true, false, List, [], ◌∷◌, length, Ok, Err, refl, ap, sym, ◌∙◌, slice_get, subst}
+use Rattle.std.proofs.Common.{◌≡◌, ℕ, ◌<◌, arith, Bool, true, false, List, [], ◌∷◌, length, Ok, Err, Result, refl, ap, sym, ◌∙◌, slice_get, subst}
 use Rattle.std.specs.Prelude.{Some, None, ◌==◌}
 use Rattle.std.proofs.lemmas.Grind.{common_steps}
 use Rattle.std.specs.declared.option.Option.{Option}
@@ -22,7 +22,7 @@ use Rattle.host_link.specs.Hosts.{HostState}
 use Rattle.ek_types.specs.Io.{SinkState, Writes}
 use Rattle.kernel_top.specs.Plain.{Kernel, with_table}
 use Rattle.kernel_top.specs.Outside.{Outside, outside, Goes, Breaks}
-use Rattle.kernel_top.specs.Standing.{stands_at, inside, working, GoesTo, BreaksAt, IsBeforeTheEnd}
+use Rattle.kernel_top.specs.Standing.{stands_at, inside, working, Comes, GoesTo, BreaksAt, IsBeforeTheEnd}
 use Rattle.kernel_top.specs.Hearing.{filter_entry, words_of_sentinel}
 use Rattle.kernel_top.specs.declared.answer.Stop.{Stop}
 use Rattle.kernel_top.specs.declared.answer.Stop.TheVariants as stop
@@ -129,3 +129,7 @@ breaks_behind program a b c x y k why g h = record { breaks = goes_breaks progra
 -- and gone on
 pub goes_behind : (program : Program) (a b c : Outside) (x y : Config) (k : Kernel) (to : Undo → List Process → Config) → Goes program a b x y → GoesTo program b c y k to → GoesTo program a c x k to
 goes_behind program a b c x y k to g (v, all, stands, h) = (v, all, stands, goes_then program a b c x y (to v all) g h)
+
+pub comes_behind : {T : Type 0} (result : Result T Stop) (program : Program) (a b c : Outside) (x y : Config) (k : Kernel) (to : T → Undo → List Process → Config) → Goes program a b x y → Comes result program b c y k to → Comes result program a c x k to
+comes_behind (Ok t) program a b c x y k to g h = goes_behind program a b c x y k (to t) g h
+comes_behind (Err why) program a b c x y k to g h = breaks_behind program a b c x y k why g h

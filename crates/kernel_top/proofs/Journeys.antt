@@ -158,3 +158,41 @@ module _ (program : Program) where
     later = omega arith;
     roomy = λ few. record { faults = refl; room = omega arith };
   }
+
+  -- an exchange whose answer is told in a line
+  pub said_asked : (c : Config) (ask : Ask) (answer : Answer) (next : Answer → Option Next) (n : Next) (x : Said) → step program deepest c ≡ Asks ask next → next answer ≡ Some n → n.said ≡ x ∷ [] →
+      Reaches program deepest c (record { ask = ask; answer = answer } ∷ []) (x ∷ []) n.config
+  said_asked c ask answer next n x e k said = rw said at (one_asked c ask answer next n e k)
+
+  pub asked_says : {T E : Type 0} (old new : SinkState) (host_old host_new : HostState) (children : _) (c : Config) (ask : Ask) (answer : Answer) (next : Answer → Option Next) (n : Next) (x : Said) (value : T) →
+      step program deepest c ≡ Asks ask next → next answer ≡ Some n → n.said ≡ x ∷ [] → Exchanged host_old host_new children ask answer → Writes {T = T} {E = E} old new (Ok value) x.line →
+      Goes program (outside old host_old) (outside new host_new) c n.config
+  asked_says old new host_old host_new children c ask answer next n x value e k said exchange w = record {
+    made = record { ask = ask; answer = answer } ∷ [];
+    said = x ∷ [];
+    run = said_asked c ask answer next n x e k said;
+    written = rw (lines_of_one x) w.ok;
+    told = exchange.told;
+    later = w.later;
+    roomy = λ few.
+        let takes = w.roomy (rw (lines_of_one x) at (few (record { ask = ask; answer = answer } ∷ []) (x ∷ []) n.config (said_asked c ask answer next n x e k said))) in
+        record { faults = takes.faults; room = rw (lines_of_one x) takes.room };
+  }
+
+  abbrev pub asked_front : {T E : Type 0} (old new : SinkState) (host_old host_new : HostState) (children : _) (c : Config) (ask : Ask) (answer : Answer) (next : Answer → Option Next) (n : Next) (x : Said) (fault : E) →
+      step program deepest c ≡ Asks ask next → next answer ≡ Some n → n.said ≡ x ∷ [] → IsBetweenEntries n.config → Exchanged host_old host_new children ask answer → Writes {T = T} {E = E} old new (Err fault) x.line →
+      Breaks program (outside old host_old) (outside new host_new) c
+  asked_front old new host_old host_new children c ask answer next n x fault e k said between exchange w = record {
+    made = record { ask = ask; answer = answer } ∷ [];
+    said = x ∷ [];
+    last = n.config;
+    run = said_asked c ask answer next n x e k said;
+    between = between;
+    bytes = w.err.0;
+    front = (w.err.1.0, sym w.err.1.1 ∙ sym (lines_of_one x));
+    written = w.err.2;
+    told = exchange.told;
+    later = w.later;
+    whole = λ fine. absurd (fine w.rose);
+    roomy = λ few. absurd (false≢true (w.roomy (rw (lines_of_one x) at (few (record { ask = ask; answer = answer } ∷ []) (x ∷ []) n.config (said_asked c ask answer next n x e k said)))).ok);
+  }

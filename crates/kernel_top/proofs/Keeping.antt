@@ -1,17 +1,22 @@
 -- A change of one process leaves the children as they are, or ends one.
-use Rattle.std.proofs.Common.{◌≡◌, ℕ, zero, suc, ◌<◌, Bool, true, false, List, [], ◌∷◌, map, length, All, slice_get, slice_set, refl, ap, sym, ◌∙◌, subst}
-use Rattle.std.specs.Prelude.{Some, None}
+use Rattle.std.proofs.Common.{◌≡◌, ℕ, zero, suc, ◌<◌, Bool, true, false, List, [], ◌∷◌, map, length, All, slice_get, slice_set, refl, ap, sym, ◌∙◌, subst, Ok, Err, Result, append-nil, arith}
+use Rattle.std.specs.Prelude.{Some, None, IfErr}
 use Rattle.std.specs.declared.option.Option.{Option}
 use Rattle.std.proofs.lemmas.List.{length-set}
 use Rattle.std.proofs.lemmas.List.Elements.{All-set, All-cons}
 use Rattle.text_model.specs.Undo.{Undo}
 use Rattle.plain_machine.specs.State.{State, Process, process, change_process}
 use Rattle.plain_machine.specs.Arguments.{runs}
-use Rattle.process_table.specs.Table.{changed}
+use Rattle.std.proofs.lemmas.Bool.{false≢true}
+use Rattle.process_table.specs.Meaning.{status_of}
+use Rattle.process_table.specs.declared.process.Status as declared
+use Rattle.process_table.specs.declared.process.Status.TheVariants as written
+use Rattle.process_table.specs.Table.{changed, with_status}
 use Rattle.process_table.specs.Table.{with_table as with_processes}
 use Rattle.plain_machine.specs.Waits.{asked_more as asked_one}
 use Rattle.kernel_top.specs.Plain.{Kernel, with_table, asked_more}
-use Rattle.kernel_top.specs.Standing.{stands_at, Hosted}
+use Rattle.kernel_top.specs.Standing.{stands_at, Hosted, StaysHosted, unmade}
+use Rattle.kernel_top.specs.declared.answer.Stop.{Stop}
 use Rattle.kernel_top.proofs.Sound.{one_of_all}
 
 hosted_set : (xs : List Process) (p : ℕ) (x y : Process) (kills : List Bool) → slice_get xs p ≡ Some x → y.child ≡ x.child → (runs y.status ≡ true → runs x.status ≡ true) → Hosted xs kills → Hosted (slice_set xs p y) kills
@@ -65,3 +70,21 @@ asked_and_changed k mid new table u all p f m e =
     only_processes (asked_more k) u all p f
     ∙ ap (λ (n : Kernel). stands_at (with_table n table) u (change_process p f (asked_one (stands_at k u all))).processes) (sym m)
     ∙ ap (λ (n : Kernel). stands_at n u (change_process p f (asked_one (stands_at k u all))).processes) (sym e)
+
+-- a status that isn't the one of a process that runs
+pub not_running : (status : declared.Status) (x : Process) → (status ≡ written.Run → ⊥) → runs (with_status (status_of status) x).status ≡ true → runs x.status ≡ true
+not_running written.Run x never r = absurd (never refl)
+not_running (written.Exit n) x never r = absurd (false≢true r)
+not_running written.Signal x never r = absurd (false≢true r)
+not_running written.Failed x never r = absurd (false≢true r)
+
+-- children that stay hosted, where no child is left without a process
+pub stays_hosted : {T : Type 0} (result : Result T Stop) (old new : Kernel) (kills later : List Bool) → IfErr result (λ why. unmade why ≡ []) → later ≡ kills → Hosted new.beside.processes kills → length new.beside.processes ≡ length old.beside.processes →
+    StaysHosted result old kills new later
+stays_hosted (Ok x) old new kills later plain same h count = rw same (h, omega (arith, count))
+stays_hosted (Err why) old new kills later plain same h count = rw (same, plain, append-nil) h
+
+pub hosted_at : (list : List Process) (kills : List Bool) (p : ℕ) (x : Process) → Hosted list kills → slice_get list p ≡ Some x → x.child < length kills
+hosted_at [] kills p x h e = cc
+hosted_at (z ∷ list) kills zero x (small, lives, later, rest) e = let same : z ≡ x = let s : Some z ≡ Some x = e in cc in rw (← same) small
+hosted_at (z ∷ list) kills (suc p) x (small, lives, later, rest) e = hosted_at list kills p x rest e

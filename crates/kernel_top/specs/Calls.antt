@@ -4,7 +4,7 @@ use Rattle.text_model.specs.Characters.{Ch}
 use Rattle.text_model.specs.Undo.{Undo}
 use Rattle.editor_model.specs.Values.{Value, Nil, Int, plain, Prim, Arg, Const, Forms, Then}
 use Rattle.plain_machine.specs.State.{Process, Program}
-use Rattle.plain_machine.specs.Items.{Top}
+use Rattle.plain_machine.specs.Items.{Item, Top, Wait, Waiting, Nowhere}
 use Rattle.plain_machine.specs.Refusals.{rounds_of, most_rounds}
 use Rattle.script_read.specs.GrammarSoFar.{IsBufferSoFar}
 use Rattle.process_table.specs.Table.{StandsFor}
@@ -13,6 +13,7 @@ use Rattle.kernel_top.specs.Answers.{called, replied}
 use Rattle.kernel_top.specs.Outside.{Outside}
 use Rattle.kernel_top.specs.Standing.{stands_at, working, Comes}
 use Rattle.kernel_top.specs.declared.answer.Answer.{Answer}
+use Rattle.kernel_top.specs.declared.answer.Answer.TheVariants as answer
 use Rattle.kernel_top.specs.declared.answer.Stop.{Stop}
 
 -- From this kernel the machine comes by a call at top level to its reply, which isn't told yet, or the run is broken off:
@@ -47,3 +48,13 @@ pub record AreOfStart (args : List Arg) : Type 0 where
   pub arguments : List (List Ch)
   pub home : IsBufferSoFar buffer
   pub are : args ≡ map Const (plain name ∷ buffer ∷ plain program ∷ map plain arguments)
+
+-- an answer that names no process
+abbrev pub IsPlain : Answer → Type 0
+IsPlain (answer.Process p) = ⊥
+IsPlain _ = Unit {0}
+
+-- what stands next behind a turn of a wait: its answer, or the wait as it goes on
+abbrev pub turn_item : Option Answer → Waiting → Item
+turn_item None w = Wait w Nowhere
+turn_item (Some a) w = reply_item (replied a)

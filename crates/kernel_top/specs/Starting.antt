@@ -2,27 +2,25 @@
 use Rattle.std.specs.Prelude.{◌≡◌, ℕ, Bool, true, false, ◌&&◌, ◌||◌, not, ◌==◌, nat_lt, nat_le, List, [], ◌∷◌, length, map, if◌then◌else◌, Option, Some, None}
 use Rattle.std.specs.List.{list_all}
 use Rattle.text_model.specs.Properties.{Cell}
-use Rattle.editor_model.specs.Values.{Arg, Const, Str, Nil, Fault, WrongType, TooMany, ExchangesSpent}
+use Rattle.editor_model.specs.Values.{Arg, Const, Name, Nil, Fault, WrongType, TooMany, ExchangesSpent}
 use Rattle.editor_model.specs.Limits.{longest_name, most_markers}
-use Rattle.plain_machine.specs.Arguments.{is_plain}
+use Rattle.editor_model.specs.Arguments.{string_of}
+use Rattle.plain_machine.specs.Arguments.{is_word}
 use Rattle.plain_machine.specs.Refusals.{most_processes, most_exchanges}
 use Rattle.kernel_top.specs.Plain.{Kernel}
 
--- each is a string
-abbrev pub AreStrings : List Arg → Type 0
-AreStrings [] = Unit {0}
-AreStrings (Const (Str text) ∷ args) = AreStrings args
-AreStrings _ = ⊥
+-- the text of an argument that is a string
+abbrev pub text_of : Arg → List Cell
+text_of (Const v) = string_of v
+text_of (Name s) = []
 
--- the texts of arguments that are strings
-abbrev pub texts_of : List Arg → List (List Cell)
-texts_of [] = []
-texts_of (Const (Str text) ∷ args) = text ∷ texts_of args
-texts_of (a ∷ args) = texts_of args
+-- a constant that can be a word of a command
+abbrev pub is_word_argument : Arg → Bool
+is_word_argument (Const v) = is_word v
+is_word_argument (Name s) = false
 
--- each can be a word of a command
 abbrev pub are_words : List Arg → Bool
-are_words args = list_all (λ text. list_all is_plain text) (texts_of args)
+are_words args = list_all is_word_argument args
 
 -- the buffer of a start: none for nil, else the one
 abbrev pub buffer_of : Arg → Option ℕ

@@ -1,5 +1,5 @@
 //! The default filter and the default sentinel (GNU Emacs Lisp Reference Manual, Filter Functions and Sentinels).
-ghost use Rattle.std.specs.Prelude.{◌≡◌, ◌+◌, ◌<◌, ◌++◌, List, [], ◌∷◌, Bool, false, length, map, IfOk, OnOk, OnErr, Err, Some, None, codes};
+ghost use Rattle.std.specs.Prelude.{◌≡◌, ◌+◌, ◌<◌, ◌++◌, List, [], ◌∷◌, Bool, false, length, map, IfOk, IfErr, OnOk, OnErr, Err, Some, None, codes};
 ghost use Rattle.text_model.specs.Characters.{Ch as Character, Scalar};
 ghost use Rattle.text_model.specs.Properties.{bare};
 ghost use Rattle.text_model.specs.Undo.{Undo};
@@ -12,7 +12,7 @@ ghost use Rattle.process_table.specs.Table.{StandsFor, changed};
 ghost use Rattle.host_link.specs.Hosts.{HostState};
 ghost use Rattle.ek_types.specs.Io.{HasCause};
 ghost use Rattle.kernel_top.specs.Outside.{outside};
-ghost use Rattle.kernel_top.specs.Standing.{stands_at, inside, working, Comes, Hosted};
+ghost use Rattle.kernel_top.specs.Standing.{stands_at, inside, working, Comes, Hosted, unmade};
 ghost use Rattle.kernel_top.specs.Hearing.{filter_entry, words_of_sentinel, OutputComes};
 
 use crate::answer::Stop;
@@ -35,6 +35,7 @@ pub fn enter_filter<K: Sink>(
     ensures comes { (host : HostState) (program : Program) (w : Waiting) (target : Target) (rest : List Item) (u : Undo) (all : List Process) → StandsFor kernel.old.beside.processes all →
         Comes result program (outside (K.state sink.old) host) (outside (K.state sink.new) host) (working (stands_at kernel.old u all) (filter_entry process text.now.items (Wait w target ∷ rest)))
         kernel.new (λ _ v all. working (stands_at kernel.new v all) (Wait w target ∷ rest)) }
+    ensures plain { IfErr result (λ why. unmade why ≡ []) }
     ensures cause { HasCause (K.state sink.old).faults (K.state sink.new).faults (result ≡ Err Stop.WriteFault) }
     ensures processes { kernel.new.beside.processes ≡ kernel.old.beside.processes }
     ensures asked { kernel.new.beside.asked ≡ kernel.old.beside.asked }
@@ -62,6 +63,7 @@ pub fn enter_sentinel<K: Sink>(
         Comes result program (outside (K.state sink.old) host) (outside (K.state sink.new) host)
         (working (stands_at kernel.old u all) (Enter (OfSentinel process) None (TheProcess process ∷ Str (bare told.now.items) ∷ []) ∷ Wait w target ∷ rest))
         kernel.new (λ _ v all. working (stands_at kernel.new v all) (Wait w target ∷ rest)) }
+    ensures plain { IfErr result (λ why. unmade why ≡ []) }
     ensures cause { HasCause (K.state sink.old).faults (K.state sink.new).faults (result ≡ Err Stop.WriteFault) }
     ensures hosted { (kills : List Bool) → Hosted kernel.old.beside.processes kills → Hosted kernel.new.beside.processes kills }
     ensures count { length kernel.new.beside.processes ≡ length kernel.old.beside.processes }
@@ -111,6 +113,7 @@ fn put_output<K: Sink>(
     ensures comes { (host : HostState) (program : Program) (kind : Kind) (rest : List Item) (u : Undo) (all : List Process) → StandsFor kernel.old.beside.processes all →
         OutputComes result program (outside (K.state sink.old) host) (outside (K.state sink.new) host)
         (output (inside (stands_at kernel.old u all)) process (bare text.now.items) (Exit kind None 0 false ∷ rest)) kind rest kernel.new }
+    ensures plain { IfErr result (λ why. unmade why ≡ []) }
     ensures cause { HasCause (K.state sink.old).faults (K.state sink.new).faults (result ≡ Err Stop.WriteFault) }
     ensures processes { kernel.new.beside.processes ≡ kernel.old.beside.processes }
     ensures asked { kernel.new.beside.asked ≡ kernel.old.beside.asked }

@@ -1,5 +1,5 @@
 //! Asking a process for its output and for its end.
-ghost use Rattle.std.specs.Prelude.{◌≡◌, ◌≢◌, Bool, None, [], ◌++◌, pos, map, ◌+◌, ◌<◌, ◌≤◌, List, ◌∷◌, length, IfOk, OnOk, OnErr, Err, Some, true, false, slice_get, nat_lt};
+ghost use Rattle.std.specs.Prelude.{◌≡◌, ◌≢◌, All, Bool, None, [], ◌++◌, pos, map, ◌+◌, ◌<◌, ◌≤◌, List, ◌∷◌, length, IfOk, IfErr, OnOk, OnErr, Err, Some, true, false, slice_get, nat_lt};
 ghost use Rattle.text_model.specs.Undo.{Undo};
 ghost use Rattle.text_model.specs.Properties.{bare};
 ghost use Rattle.text_model.specs.Decoding.{characters, all_characters};
@@ -18,7 +18,7 @@ ghost use Rattle.wait_loop.specs.KeptWaits.{noted};
 ghost use Rattle.wait_loop.specs.Rounds.{AsksProcess};
 ghost use Rattle.ek_types.specs.Io.{HasCause};
 ghost use Rattle.kernel_top.specs.Outside.{outside};
-ghost use Rattle.kernel_top.specs.Standing.{stands_at, working, Comes, Hosted, StaysHosted};
+ghost use Rattle.kernel_top.specs.Standing.{stands_at, working, Comes, Hosted, StaysHosted, unmade};
 ghost use Rattle.text_model.specs.Characters.{Scalar};
 ghost use Rattle.plain_machine.specs.Waits.{exit_text};
 ghost use Rattle.kernel_top.specs.Hearing.{told_of, filter_entry, IsAsked};
@@ -54,10 +54,12 @@ fn hear<K: Sink>(
         Comes result program (outside (K.state sink.old) host) (outside (K.state sink.new) host)
         (working (change_process process (λ z. record z { bytes = y.bytes ++ bytes.now }) (asked_one (stands_at kernel.old u all))) (filter_entry process (more_characters (characters y.bytes) (characters (y.bytes ++ bytes.now))) (Wait w target ∷ rest)))
         kernel.new (λ _ v2 all2. working (stands_at kernel.new v2 all2) (Wait w target ∷ rest)) }
+    ensures plain { IfErr result (λ why. unmade why ≡ []) }
     ensures cause { HasCause (K.state sink.old).faults (K.state sink.new).faults (result ≡ Err Stop.WriteFault) }
     ensures hosted { (kills : List Bool) → Hosted kernel.old.beside.processes kills → Hosted kernel.new.beside.processes kills }
     ensures count { length kernel.new.beside.processes ≡ length kernel.old.beside.processes }
     ensures more { kernel.new.beside.asked ≡ kernel.old.beside.asked + 1 }
+    ensures bytes { All (λ b. b < 256) bytes.now }
 {
     kernel.note_asked();
     kernel.feed(process, bytes, text);
@@ -78,6 +80,7 @@ fn drain<K: Sink>(
         Comes result program (outside (K.state sink.old) host) (outside (K.state sink.new) host)
         (working (change_process process (λ z. record z { drained = true }) (asked_one (stands_at kernel.old u all))) (filter_entry process (more_characters (characters y.bytes) (all_characters y.bytes)) (Wait w target ∷ rest)))
         kernel.new (λ _ v2 all2. working (stands_at kernel.new v2 all2) (Wait w target ∷ rest)) }
+    ensures plain { IfErr result (λ why. unmade why ≡ []) }
     ensures cause { HasCause (K.state sink.old).faults (K.state sink.new).faults (result ≡ Err Stop.WriteFault) }
     ensures hosted { (kills : List Bool) → Hosted kernel.old.beside.processes kills → Hosted kernel.new.beside.processes kills }
     ensures count { length kernel.new.beside.processes ≡ length kernel.old.beside.processes }
@@ -115,7 +118,11 @@ pub fn read<K: Sink, H: Host>(
             hear(kernel, sink, process, &room[..n], &mut text)?;
             Ok(true)
         }
-        Got::End | Got::Failed => {
+        Got::End => {
+            drain(kernel, sink, process, &mut text)?;
+            Ok(false)
+        }
+        Got::Failed => {
             drain(kernel, sink, process, &mut text)?;
             Ok(false)
         }
@@ -140,6 +147,7 @@ fn ended<K: Sink>(
         Comes result program (outside (K.state sink.old) host) (outside (K.state sink.new) host)
         (working (change_process process (with_status (status_of status)) (asked_one (stands_at kernel.old u all))) (Enter (OfSentinel process) None (TheProcess process ∷ Str (bare (told_of (status_of status))) ∷ []) ∷ Wait w target ∷ rest))
         kernel.new (λ _ v2 all2. working (stands_at kernel.new v2 all2) (Wait w target ∷ rest)) }
+    ensures plain { IfErr result (λ why. unmade why ≡ []) }
     ensures cause { HasCause (K.state sink.old).faults (K.state sink.new).faults (result ≡ Err Stop.WriteFault) }
     ensures hosted { (kills : List Bool) → Hosted kernel.old.beside.processes kills → Hosted kernel.new.beside.processes kills }
     ensures count { length kernel.new.beside.processes ≡ length kernel.old.beside.processes }

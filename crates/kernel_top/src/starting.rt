@@ -6,16 +6,19 @@ ghost use Rattle.text_model.specs.Properties.{Cell, bare};
 ghost use Rattle.editor_model.specs.Answers.{first_fault};
 ghost use Rattle.editor_model.specs.Values.{Const, Nil as nil, Str as string_value, plain, StartProcess};
 ghost use Rattle.plain_machine.specs.State.{Process};
-ghost use Rattle.plain_machine.specs.Arguments.{encoded, is_plain};
+ghost use Rattle.plain_machine.specs.Arguments.{encoded, is_plain, find_process, process_name};
+ghost use Rattle.editor_model.specs.Arguments.{string_of};
+ghost use Rattle.process_table.specs.Table.{StandsFor};
 ghost use Rattle.ek_types.specs.Listing.{items_of};
 ghost use Rattle.ek_types.specs.Io.{SinkState};
+ghost use Rattle.ek_types.specs.Seen.{ch_of};
 ghost use Rattle.ek_call.specs.Meaning.{arg_of};
 ghost use Rattle.ek_call.specs.Faults.{fault_of};
 ghost use Rattle.kernel_top.specs.Plain.{characters as characters_of};
 ghost use Rattle.kernel_top.specs.Outside.{outside};
 ghost use Rattle.kernel_top.specs.Standing.{Hosted, StaysHosted};
 ghost use Rattle.kernel_top.specs.Calls.{AreOfStart, ComesToReply};
-ghost use Rattle.kernel_top.specs.Starting.{AreStrings, are_words, start_refused, buffer_of, texts_of};
+ghost use Rattle.kernel_top.specs.Starting.{is_word_argument, are_words, start_refused, buffer_of, text_of};
 
 use crate::answer::{Answer, Stop};
 use crate::apply::string;
@@ -34,14 +37,23 @@ const MOST_PROCESSES: u32 = 256;
 /// The most markers that are ever made.
 const MOST_MARKERS: u32 = 65_536;
 
-/// Whether a text can be a word of a command: it has neither a character 0 nor a raw byte.
+/// Whether a character can stand in a word of a command: it is neither the character 0 nor a raw byte.
+fn is_plain_character(c: Ch) -> bool
+    ensures { result ≡ is_plain (ch_of c, []) }
+{
+    match c {
+        Ch::Scalar(c) => c != '\0',
+        Ch::Raw(_) => false,
+    }
+}
+
+/// Whether a text can be a word of a command.
 fn is_word(text: &Piece) -> bool
     ensures { result ≡ list_all is_plain text.now }
 {
     for i in 0..text.len() {
-        match text.ch(i) {
-            Ch::Scalar('\0') | Ch::Raw(_) => return false,
-            Ch::Scalar(_) => {}
+        if !is_plain_character(text.ch(i)) {
+            return false;
         }
     }
     true
@@ -54,9 +66,10 @@ fn word(alloc: Global, text: &Piece) -> Mem<String>
 {
     let mut word = String::new(alloc);
     for i in 0..text.len() {
-        if let Ch::Scalar(c) = text.ch(i) {
-            word.push(c)?;
-        }
+        let Ch::Scalar(c) = text.ch(i) else {
+            unreachable!()
+        };
+        word.push(c)?;
     }
     Ok(word)
 }
@@ -71,24 +84,43 @@ fn characters(alloc: Global, text: &Piece) -> Mem<Chars>
     Ok(characters)
 }
 
+fn is_word_argument(arg: &Arg) -> bool
+    ensures { result ≡ is_word_argument (arg_of arg.now) }
+{
+    match string(arg) {
+        Some(text) => is_word(text),
+        None => false,
+    }
+}
+
 fn are_words(args: &[Arg]) -> bool
-    requires { AreStrings (map arg_of args.now) }
     ensures { result ≡ are_words (map arg_of args.now) }
 {
-    args.iter()
-        .all(|arg| string(arg).is_some_and(is_word))
+    for arg in args {
+        if !is_word_argument(arg) {
+            return false;
+        }
+    }
+    true
+}
+
+fn word_of(alloc: Global, arg: &Arg) -> Mem<String>
+    requires { is_word_argument (arg_of arg.now) ≡ true }
+    ensures { IfOk result (λ word. string_bytes word ≡ encoded (text_of (arg_of arg.now))) }
+{
+    let Some(text) = string(arg) else {
+        unreachable!()
+    };
+    word(alloc, text)
 }
 
 fn words(alloc: Global, args: &[Arg]) -> Mem<Vec<String>>
-    requires strings { AreStrings (map arg_of args.now) }
-    requires words { are_words (map arg_of args.now) ≡ true }
-    ensures { IfOk result (λ words. map string_bytes words.items ≡ map encoded (texts_of (map arg_of args.now))) }
+    requires { are_words (map arg_of args.now) ≡ true }
+    ensures { IfOk result (λ words. map string_bytes words.items ≡ map (λ arg. encoded (text_of (arg_of arg))) args.now) }
 {
     let mut words = Vec::new(alloc);
     for arg in args {
-        if let Some(text) = string(arg) {
-            words.push(word(alloc, text)?)?;
-        }
+        words.push(word_of(alloc, arg)?)?;
     }
     Ok(words)
 }
@@ -104,8 +136,8 @@ fn buffer(arg: &Arg) -> Option<u32>
 }
 
 /// Why a start is refused before anything is asked.
+#[tactic(none)]
 fn refusal(kernel: &Kernel, name: &Piece, program: &Piece, words: &[Arg]) -> Option<Fault>
-    requires { AreStrings (map arg_of words.now) }
     ensures { option_map fault_of result ≡ start_refused kernel.now name.now program.now (map arg_of words.now) }
 {
     if name.is_empty() || program.is_empty() || !are_words(words) {
@@ -123,7 +155,55 @@ fn refusal(kernel: &Kernel, name: &Piece, program: &Piece, words: &[Arg]) -> Opt
     None
 }
 
+/// Why a start is refused before anything is asked, by its arguments.
+#[tactic(none)]
+fn why_refused(kernel: &Kernel, args: &Args) -> Option<Fault>
+    requires { AreOfStart (map arg_of (items_of args.now)) }
+    ensures { (start : AreOfStart (map arg_of (items_of args.now))) → option_map fault_of result ≡ start_refused kernel.now (bare start.name) (bare start.program) (drop 2 (map arg_of (items_of args.now))) }
+{
+    let Some(name) = string(args.at(0)) else {
+        unreachable!()
+    };
+    let Some(program) = string(args.at(2)) else {
+        unreachable!()
+    };
+    refusal(kernel, name, program, &args.as_slice()[2..])
+}
+
+/// What a start needs: the name and the buffer of the process, and the words of its command.
+#[derive(Drop)]
+struct Prepared {
+    name: Chars,
+    buffer: Option<u32>,
+    program: String,
+    words: Vec<String>,
+}
+
+#[tactic(none)]
+fn command(alloc: Global, kernel: &Kernel, args: &Args) -> Mem<Prepared>
+    requires start { AreOfStart (map arg_of (items_of args.now)) }
+    requires words { are_words (drop 2 (map arg_of (items_of args.now))) ≡ true }
+    ensures name { (start : AreOfStart (map arg_of (items_of args.now))) → IfOk result (λ command. command.name.items ≡ process_name kernel.now.beside.processes (characters_of (bare start.name))) }
+    ensures machine { (start : AreOfStart (map arg_of (items_of args.now))) (all : List Process) → StandsFor kernel.now.beside.processes all → IfOk result (λ command. command.name.items ≡ process_name all (characters_of (bare start.name))) }
+    ensures free { IfOk result (λ command. find_process 0 kernel.now.beside.processes command.name.items ≡ None) }
+    ensures buffer { (start : AreOfStart (map arg_of (items_of args.now))) → IfOk result (λ command. command.buffer ≡ buffer_of (Const start.buffer)) }
+    ensures program { (start : AreOfStart (map arg_of (items_of args.now))) → IfOk result (λ command. string_bytes command.program ≡ encoded (bare start.program)) }
+    ensures words { (start : AreOfStart (map arg_of (items_of args.now))) → IfOk result (λ command. map string_bytes command.words.items ≡ map (λ v. encoded (string_of v)) (map plain start.arguments)) }
+{
+    let Some(name) = string(args.at(0)) else {
+        unreachable!()
+    };
+    let name = characters(alloc, name)?;
+    Ok(Prepared {
+        name: kernel.processes.free_name(&name)?,
+        buffer: buffer(args.at(1)),
+        program: word_of(alloc, args.at(2))?,
+        words: words(alloc, &args.as_slice()[3..])?,
+    })
+}
+
 /// Starts a program as a process.
+#[tactic(none)]
 pub fn start_process<H: Host>(
     alloc: Global,
     kernel: &mut Kernel,
@@ -139,24 +219,15 @@ pub fn start_process<H: Host>(
     ensures made { (p : ℕ) → result ≡ Ok (Answer.Process p) → p < length kernel.new.beside.processes }
     ensures fault { result ≡ Err Stop.WriteFault → ⊥ }
 {
-    let Some(name) = string(args.at(0)) else {
-        unreachable!()
-    };
-    let Some(program) = string(args.at(2)) else {
-        unreachable!()
-    };
-    if let Some(fault) = refusal(kernel, name, program, &args.as_slice()[2..]) {
+    if let Some(fault) = why_refused(kernel, args) {
         return Ok(Answer::Fault(fault));
     }
-    let characters = characters(alloc, name)?;
-    let name = kernel.processes.free_name(&characters)?;
-    let program = word(alloc, program)?;
-    let words = words(alloc, &args.as_slice()[3..])?;
-    let spawned = host.spawn(program.as_str(), words.as_slice())?;
+    let command = command(alloc, kernel, args)?;
+    let spawned = host.spawn(command.program.as_str(), command.words.as_slice())?;
     kernel.note_asked();
     match spawned {
         Spawned::Refused => Ok(Answer::Fault(Fault::SpawnFailed)),
-        Spawned::Started(child) => match kernel.add(&name, child, buffer(args.at(1))) {
+        Spawned::Started(child) => match kernel.add(&command.name, child, command.buffer) {
             Ok(process) => Ok(Answer::Process(process)),
             Err(_) => Err(Stop::NoProcess(child)),
         },

@@ -4,7 +4,7 @@ use super::*;
 use crate::asking::Answers;
 use crate::recorder::Recorder;
 use crate::shown::shown;
-use ek_types::{ListOf, NoMemory};
+use ek_types::{Copied, ListOf, NoMemory};
 use std::test::Fail;
 
 fn answers(alloc: Global, first: Answer, second: Answer) -> Mem<Answers> {
@@ -70,6 +70,17 @@ fn a_child_is_played_in_order(rt: HostRuntime) -> Result<(), Fail> {
     let mut host = host(rt.alloc(), Vec::new(rt.alloc()))?;
     let told = all_calls(rt.alloc(), &mut host)?;
     assert_eq!(rt; told.as_str(), ALL);
+    Ok(())
+}
+
+#[test]
+fn exchanges_and_their_copy(rt: HostRuntime) -> Result<(), Fail> {
+    let mut host = host(rt.alloc(), Vec::new(rt.alloc()))?;
+    let _ = all_calls(rt.alloc(), &mut host)?;
+    let Some(list) = host.told() else {
+        return Err(Fail::from("the host tells nothing"));
+    };
+    assert_eq!(rt; shown(rt.alloc(), &list.copy()?)?.as_str(), ALL);
     Ok(())
 }
 

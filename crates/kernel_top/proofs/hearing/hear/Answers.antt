@@ -1,5 +1,6 @@
 use Rattle.std.proofs.Common.{◌≡◌, ◌<◌, ◌++◌, [], ◌∷◌, sym, ap, length, arith, ◌∙◌, subst, refl, get_or, slice_get, false, true}
 use Rattle.std.specs.Prelude.{Some, None}
+use Rattle.std.proofs.lemmas.List.Elements.{All-from_get_or}
 use Rattle.text_model.specs.Decoding.{characters, all_characters, tail}
 use Rattle.plain_machine.specs.State.{State, Process, change_process}
 use Rattle.plain_machine.specs.Waits.{more_characters}
@@ -32,3 +33,6 @@ returns-clause-hosted g c = λ kills h.
     subst (λ l. Hosted l kills) (sym c.enter_filter.ensures.processes)
     (subst (λ (n : Kernel). Hosted n.beside.processes kills) (sym c.feed.ensures.table)
     (hosted_changed c.note_asked.new.self.beside.processes c.args.process _ kills (λ x. refl) (λ x r. r) (subst (λ (n : Kernel). Hosted n.beside.processes kills) (sym c.note_asked.ensures) h)))
+
+pub returns-clause-bytes : goal.returns-clause-bytes
+returns-clause-bytes g c = All-from_get_or (λ b. b < 256) c.args.bytes.now 0 (λ i h. omega (arith, c.type_inv.bytes i))
