@@ -67,7 +67,13 @@ fn work(rt: &HostRuntime) -> Result<(), Failure> {
     let lines = LineWriter::new(rt.alloc(), io::writer(rt)).map_err(|_| Failure::Memory)?;
     let mut sink = WriterSink::new(lines);
     let mut host = Recorder::new(rt.alloc(), RealHost::new(rt.alloc(), rt));
-    let status = run(rt.alloc(), words.as_slice(), &mut source, &mut sink, &mut host);
+    let status = run(
+        rt.alloc(),
+        words.as_slice(),
+        &mut source,
+        &mut sink,
+        &mut host,
+    );
     drop(host);
     let finished = sink.finish();
     result_of(status)?;

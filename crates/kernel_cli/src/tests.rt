@@ -17,10 +17,13 @@ fn written(rt: &HostRuntime, script: &str) -> Result<(Status, Vec<u8>), Fail> {
 
 #[test]
 fn a_child_is_heard_out(rt: HostRuntime) -> Result<(), Fail> {
-    let script = "(start-process \"c\" \"*scratch*\" \"printf\" \"ab\")(accept-process-output)(accept-process-output)";
+    let script =
+        "(start-process \"c\" \"*scratch*\" \"printf\" \"ab\")(accept-process-output)(accept-process-output)";
     let (status, bytes) = written(&rt, script)?;
     assert_eq!(rt; status, Status::Done);
-    assert_eq!(rt; bytes.as_slice(), b"= #<process c>
+    assert_eq!(rt;
+        bytes.as_slice(),
+        b"= #<process c>
 > filter default #<process c> \"ab\"
 < default
 = t
@@ -31,7 +34,9 @@ buffer *scratch* point 23 min 1 max 23 modified t current
 text \"ab\\nProcess c finished\\n\"
 marker 0 #<marker at 23 in *scratch*>
 process 0 #<process c> exit 0
-".as_slice());
+"
+            .as_slice()
+    );
     Ok(())
 }
 
@@ -50,8 +55,11 @@ const SILENT: [(&str, &str, &str, &str); 3] = [
 #[test]
 fn an_end_is_told(rt: HostRuntime) -> Result<(), Fail> {
     for (shell, told, end, ended) in SILENT {
-        let script = format!(in rt.alloc(); "(start-process \"c\" \"*scratch*\" \"sh\" \"-c\" \"{shell}\")(accept-process-output)")?;
-        let want = format!(in rt.alloc(); "= #<process c>
+        let script = format!(in rt.alloc();
+            "(start-process \"c\" \"*scratch*\" \"sh\" \"-c\" \"{shell}\")(accept-process-output)"
+        )?;
+        let want = format!(in rt.alloc();
+            "= #<process c>
 > sentinel default #<process c> \"{told}\\n\"
 < default
 = nil
@@ -59,7 +67,8 @@ buffer *scratch* point {end} min 1 max {end} modified t current
 text \"\\nProcess c {told}\\n\"
 marker 0 #<marker at {end} in *scratch*>
 process 0 #<process c> {ended}
-")?;
+"
+        )?;
         let (status, bytes) = written(&rt, script.as_str())?;
         assert_eq!(rt; status, Status::Done, "{shell}");
         assert_eq!(rt; bytes.as_slice(), want.as_bytes(), "{shell}");
@@ -71,28 +80,37 @@ process 0 #<process c> {ended}
 fn a_child_that_is_not_waited_for_is_killed(rt: HostRuntime) -> Result<(), Fail> {
     let (status, bytes) = written(&rt, "(start-process \"c\" nil \"yes\")(insert \"a\")")?;
     assert_eq!(rt; status, Status::Done);
-    assert_eq!(rt; bytes.as_slice(), b"= #<process c>
+    assert_eq!(rt;
+        bytes.as_slice(),
+        b"= #<process c>
 = nil
 kill #<process c>
 buffer *scratch* point 2 min 1 max 2 modified t current
 text \"a\"
 marker 0 #<marker in no buffer>
 process 0 #<process c> run 0
-".as_slice());
+"
+            .as_slice()
+    );
     Ok(())
 }
 
 #[test]
 fn a_program_that_is_not_there_leaves_no_process(rt: HostRuntime) -> Result<(), Fail> {
-    let script = "(start-process \"c\" \"*scratch*\" \"no-such-program\")(accept-process-output)(accept-process-output nil 1)";
+    let script =
+        "(start-process \"c\" \"*scratch*\" \"no-such-program\")(accept-process-output)(accept-process-output nil 1)";
     let (status, bytes) = written(&rt, script)?;
     assert_eq!(rt; status, Status::Done);
-    assert_eq!(rt; bytes.as_slice(), b"! 12 spawn-failed
+    assert_eq!(rt;
+        bytes.as_slice(),
+        b"! 12 spawn-failed
 = nil
 = nil
 buffer *scratch* point 1 min 1 max 1 modified nil current
 text \"\"
-".as_slice());
+"
+            .as_slice()
+    );
     Ok(())
 }
 
@@ -111,7 +129,9 @@ fn a_long_output_is_read_to_its_end(rt: HostRuntime) -> Result<(), Fail> {
         "buffer *scratch* point 1048597 min 1 max 1048597 modified t current\ntext \"",
     )?;
     want.push_str(" ".repeat(rt.alloc(), 1_048_576)?.as_str())?;
-    want.push_str("\\nProcess c finished\\n\"\nmarker 0 #<marker at 1048597 in *scratch*>\nprocess 0 #<process c> exit 0\n")?;
+    want.push_str(
+        "\\nProcess c finished\\n\"\nmarker 0 #<marker at 1048597 in *scratch*>\nprocess 0 #<process c> exit 0\n",
+    )?;
     let (status, bytes) = written(&rt, script.as_str())?;
     assert_eq!(rt; status, Status::Done);
     assert!(rt; bytes.ends_with(want.as_bytes()));

@@ -23,8 +23,7 @@ hosted_set : (xs : List Process) (p : ℕ) (x y : Process) (kills : List Bool) �
 hosted_set [] p x y kills e child ends h = tt
 hosted_set (z ∷ xs) zero x y kills e child ends (small, lives, later, rest) =
     let same : z ≡ x = let s : Some z ≡ Some x = e in cc in
-    let number : y.child ≡ z.child = child ∙ ap (λ (v : Process). v.child) (sym same) in
-    (
+    let number : y.child ≡ z.child = child ∙ ap (λ (v : Process). v.child) (sym same) in (
       subst (λ n. n < length kills) (sym number) small,
       λ r. subst (λ n. slice_get kills n ≡ Some false) (sym number) (lives (ap (λ (v : Process). runs v.status) same ∙ ends r)),
       subst (λ n. All (λ (v : Process). n < v.child) xs) (sym number) later,

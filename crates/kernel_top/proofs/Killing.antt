@@ -68,13 +68,13 @@ module _ (k : Kernel) (p : ℕ) (x : Process) (made : slice_get k.beside.process
 
         pub end_kills : {E : Type 0} → Goes program before (outside sink_old old) from (at p) → Writes {T = Unit {0}} {E = E} sink_old sink_new (Ok tt) said_line → Goes program before (outside sink_new new) from (at (p + 1))
         end_kills gone w = goes_then program before (outside sink_old old) (outside sink_new new) from (at p) (at (p + 1)) gone
-          (asked_says program sink_old sink_new old new kills (at p) (Kill x.child) (kill_answer r) _ (killing program k v all stands p x made) (kill_said program k v all stands p x made) tt (kills_it program k v all stands p x made runs_it) (answered_kill (killing program k v all stands p x made) r) refl exchange w)
+            (asked_says program sink_old sink_new old new kills (at p) (Kill x.child) (kill_answer r) _ (killing program k v all stands p x made) (kill_said program k v all stands p x made) tt (kills_it program k v all stands p x made runs_it) (answered_kill (killing program k v all stands p x made) r) refl exchange w)
 
         pub end_kill_broken : {E : Type 0} (fault : E) (lists : List Bool) → Hosted (drop (p + 1) list) lists → Goes program before (outside sink_old old) from (at p) → Writes {T = Unit {0}} {E = E} sink_old sink_new (Err fault) said_line → Halts program before (outside sink_new new) from (children (running (drop (p + 1) list ++ [])))
         end_kill_broken fault lists hosted gone w =
             let broken = asked_front program sink_old sink_new old new kills (at p) (Kill x.child) (kill_answer r) _ (killing program k v all stands p x made) (kill_said program k v all stands p x made) fault (kills_it program k v all stands p x made runs_it) (answered_kill (killing program k v all stands p x made) r) refl tt exchange w in
             halts_of program before (outside sink_new new) from _ (goes_breaks program before (outside sink_old old) (outside sink_new new) from (at p) gone broken)
-              (left_behind program k v all stands p x made lists hosted ∙ ap (λ l. children (running l)) (sym (append-nil (drop (p + 1) list))))
+            (left_behind program k v all stands p x made lists hosted ∙ ap (λ l. children (running l)) (sym (append-nil (drop (p + 1) list))))
 
 -- THE END
 before_the_end : (c : Config) → IsBeforeTheEnd c → to_kill c ≡ running_children c.state.processes
@@ -137,16 +137,20 @@ module _ (program : Program) (before : Outside) (from : Config) (k : Kernel) whe
 
     to_dump : Goes program before (outside old host) from done_with → Goes program before (outside old host) from dumping
     to_dump gone = goes_then program before (outside old host) (outside old host) from done_with dumping gone
-      (goes_silently program (outside old host) done_with dumping (goes (ap (λ o. finish_one program s (length k.beside.processes) o) (none_after k.beside.processes all stands)) stays))
+        (goes_silently program (outside old host) done_with dumping (goes (ap (λ o. finish_one program s (length k.beside.processes) o) (none_after k.beside.processes all stands)) stays))
 
     abbrev dumped : Said
     dumped = record { event = Dumped; line = line program.symbols s Dumped }
 
     pub ends_whole : {E : Type 0} → Goes program before (outside old host) from done_with → Writes {T = Unit {0}} {E = E} old new (Ok tt) (line program.symbols s Dumped) →
         (last : Config) × (step program deepest last ≡ Ended) × Goes program before (outside new host) from last
-    ends_whole gone w = (working s [], refl, goes_then program before (outside old host) (outside new host) from dumping (working s []) (to_dump gone)
-      (says program old new host dumping (machine_says program s Dumped s []) dumped tt refl refl w))
+    ends_whole gone w = (
+      working s [],
+      refl,
+      goes_then program before (outside old host) (outside new host) from dumping (working s []) (to_dump gone)
+          (says program old new host dumping (machine_says program s Dumped s []) dumped tt refl refl w),
+    )
 
     pub ends_broken : {E : Type 0} (fault : E) → Goes program before (outside old host) from done_with → Writes {T = Unit {0}} {E = E} old new (Err fault) (line program.symbols s Dumped) → Halts program before (outside new host) from []
     ends_broken fault gone w = halts_of program before (outside new host) from [] (goes_breaks program before (outside old host) (outside new host) from dumping (to_dump gone)
-      (says_front program old new host dumping (machine_says program s Dumped s []) dumped fault refl refl tt w)) refl
+        (says_front program old new host dumping (machine_says program s Dumped s []) dumped fault refl refl tt w)) refl

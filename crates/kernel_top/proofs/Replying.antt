@@ -2,7 +2,6 @@
 use Rattle.std.proofs.Common.{◌≡◌, ℕ, List, [], ◌∷◌, Ok, Err, Result, refl}
 use Rattle.text_model.specs.Undo.{Undo}
 use Rattle.editor_model.specs.Values.{Forms, Reply, Answered, Refused}
-
 use Rattle.plain_machine.specs.State.{State, Process, Program}
 use Rattle.plain_machine.specs.Lines.{Replied, line}
 use Rattle.plain_machine.specs.Items.{Top, Said, Config, Next, Goes as Steps}

@@ -143,7 +143,9 @@ end_spot k (Some b) = Some (record { buffer = 0; place = length k.content.text }
 
 -- with a process more, whose mark stands at the end where it has the buffer
 abbrev pub with_process : Kernel → (name : List Ch) → (child : ℕ) → (buffer : Option ℕ) → Kernel
-with_process k name child buffer = record k { beside = record k.beside {
-  markers = k.beside.markers ++ record { spot = end_spot k buffer; advances = false } ∷ [];
-  processes = k.beside.processes ++ new_process name child buffer (length k.beside.markers) ∷ [];
-} }
+with_process k name child buffer = record k {
+  beside = record k.beside {
+    markers = k.beside.markers ++ record { spot = end_spot k buffer; advances = false } ∷ [];
+    processes = k.beside.processes ++ new_process name child buffer (length k.beside.markers) ∷ [];
+  };
+}

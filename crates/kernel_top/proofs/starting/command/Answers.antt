@@ -56,7 +56,7 @@ returns-clause-machine c = λ start all stands.
     c.in_ok-free_name.ensures.machine all (listed ∙ stands) ∙ ap (process_name all) (c.in_ok-name.ensures ∙ ap characters name)
 
 pub returns-clause-free : goal.returns-clause-free
-returns-clause-free c = 
+returns-clause-free c =
     let listed : c.kernel.inside.processes ≡ c.args.kernel.now.beside.processes = ap (λ (n : Kernel). n.beside.processes) c.kernel.view_is in
     ap (λ l. find_process 0 l c.in_ok-free_name.field-0.items) (sym listed) ∙ c.in_ok-free_name.ensures.free
 
