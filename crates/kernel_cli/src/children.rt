@@ -2,17 +2,17 @@
 //!
 //! A read waits for the pipe and the question how a child has ended waits for the child, so this host never answers
 //! `Nothing` or `Running`. It tells no exchanges. A child that is killed, or that has ended when it is asked, is reaped.
-ghost use Rattle.std.specs.Prelude.{◌≡◌, [], None, false, vec_len};
+ghost use Rattle.std.specs.Prelude.{◌≡◌, [], None, false, vec_len, IsSome, OnOk};
+ghost use Rattle.std.specs.Process.{child_status};
 ghost use Rattle.host_link.specs.Hosts.{HostState};
 
 use ek_types::{Mem, NoMemory};
 use host_link::{Ended, Exchanges, Got, Host, KillAnswer, SendAnswer, Spawned};
 use std::alloc::{AllocError, Global};
-use std::io::{Read, Write};
-use std::process::{Child, Command, Processes, Stdio};
+use std::io::{self, Read, Write};
+use std::process::{Child, Command, OpenProcess, Processes, Stdio};
 
 /// The children that this process has started, by number, with the count of the calls on them that failed.
-#[derive(Drop)]
 pub struct RealHost<'a, R: Processes> {
     rt: &'a R,
     alloc: Global,
@@ -36,6 +36,36 @@ impl<'a, R: Processes> RealHost<'a, R> {
             faults: 0,
         }
     }
+}
+
+/// Reaps what is left: children that were never killed, whose end couldn't be had, or that couldn't be killed. One that
+/// can't be killed now either, since it runs as another user, loses its pipes and isn't waited for.
+impl<R: Processes> Drop for RealHost<'_, R> {
+    fn drop(self) {
+        let RealHost {
+            rt: _,
+            alloc: _,
+            mut children,
+            kills: _,
+            faults: _,
+        } = self;
+        for child in &mut children {
+            child.stdin = None;
+            child.stdout = None;
+            if kill_and_reap(child).is_err() {
+                let _ = child.try_wait();
+            }
+        }
+    }
+}
+
+/// Ends a child that may still run. One that was waited for already is left alone.
+fn kill_and_reap<P: OpenProcess>(child: &mut Child<P>) -> io::Result<()>
+    ensures reaped { OnOk result (IsSome (child_status child.new)) }
+{
+    child.kill()?;
+    child.wait()?;
+    Ok(())
 }
 
 fn command_of(alloc: Global, program: &str, args: &[String]) -> Result<Command, AllocError> {
@@ -126,14 +156,13 @@ impl<'a, R: Processes> Host for RealHost<'a, R> {
     /// Kills the child and reaps it.
     fn kill(&mut self, child: u32) -> KillAnswer {
         self.kills[child as usize] = true;
-        if self.children[child as usize].kill().is_err() {
-            self.faults = self.faults.saturating_add(1);
-            return KillAnswer::Failed;
+        match kill_and_reap(&mut self.children[child as usize]) {
+            Ok(()) => KillAnswer::Killed,
+            Err(_) => {
+                self.faults = self.faults.saturating_add(1);
+                KillAnswer::Failed
+            }
         }
-        if self.children[child as usize].wait().is_err() {
-            self.faults = self.faults.saturating_add(1);
-        }
-        KillAnswer::Killed
     }
 }
 

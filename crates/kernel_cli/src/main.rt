@@ -4,6 +4,8 @@
 mod children;
 mod standard;
 
+use children::RealHost;
+use host_link::Recorder;
 use kernel_top::{Status, run};
 use standard::{ReaderSource, WriterSink};
 use std::env;
@@ -64,7 +66,15 @@ fn work(rt: &HostRuntime) -> Result<(), Failure> {
     let mut source = ReaderSource::new(rt.reader());
     let lines = LineWriter::new(rt.alloc(), io::writer(rt)).map_err(|_| Failure::Memory)?;
     let mut sink = WriterSink::new(lines);
-    let status = run(rt.alloc(), words.as_slice(), &mut source, &mut sink);
+    let mut host = Recorder::new(rt.alloc(), RealHost::new(rt.alloc(), rt));
+    let status = run(
+        rt.alloc(),
+        words.as_slice(),
+        &mut source,
+        &mut sink,
+        &mut host,
+    );
+    drop(host);
     let finished = sink.finish();
     result_of(status)?;
     finished.map_err(|_| Failure::Write)
@@ -79,3 +89,6 @@ fn main(rt: HostRuntime) -> ExitCode {
         }
     }
 }
+
+#[cfg(test)]
+mod tests;

@@ -7,7 +7,9 @@ use Rattle.editor_model.specs.Values.{Script}
 use Rattle.plain_machine.specs.Exchanges.{Exchange}
 use Rattle.plain_machine.specs.Grammar.{longest_script}
 use Rattle.script_read.specs.GrammarSoFar.{IsScriptSoFar, IsNoScript}
-use Rattle.kernel_top.specs.Outcomes.{IsRun, Outcome, HasEnded, SaysAtMost}
+use Rattle.plain_machine.specs.Run.{start}
+use Rattle.kernel_top.specs.Outside.{SaysAtMost}
+use Rattle.kernel_top.specs.Outcomes.{IsRun, Outcome, HasEnded, program_for}
 use Rattle.kernel_top.specs.declared.status.Status.{Status}
 use Rattle.kernel_top.specs.declared.status.Status.TheVariants as status
 
@@ -52,5 +54,5 @@ module _ (words : List (List ℕ)) (read written bytes : List ℕ) (exchanges : 
   completes status.ReadFault o r w nr nw = absurd (nr (r refl))
   completes status.WriteFault o r w nr nw = absurd (nw (w refl))
 
-pub few_as : (a b : Script) (most : ℕ) → a ≡ b → SaysAtMost b most → SaysAtMost a most
+pub few_as : (a b : Script) (most : ℕ) → a ≡ b → SaysAtMost (program_for b) (start b) most → SaysAtMost (program_for a) (start a) most
 few_as a b most e few = rw e few

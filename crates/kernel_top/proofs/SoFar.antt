@@ -4,11 +4,11 @@ use Rattle.std.specs.Prelude.{ℤ}
 use Rattle.std.proofs.lemmas.Option.{slice_get-map}
 use Rattle.text_model.specs.Characters.{Ch}
 use Rattle.text_model.specs.Properties.{bare}
-use Rattle.editor_model.specs.Values.{Prim, Insert, GotoChar, DeleteRegion, Int, Str, Const, Forms, Do}
+use Rattle.editor_model.specs.Values.{Prim, Insert, GotoChar, DeleteRegion, StartProcess, AcceptProcessOutput, Nil, Int, Str, plain, Const, Forms, Do}
 use Rattle.editor_model.specs.Values as model
 use Rattle.ek_types.specs.Listing.{items_of}
 use Rattle.plain_machine.specs.Grammar.{Top, Run, Handler, forms_of}
-use Rattle.script_read.specs.GrammarSoFar.{IsCallSoFar, call_on, AreTopsSoFar, IsScriptSoFar}
+use Rattle.script_read.specs.GrammarSoFar.{IsCallSoFar, inserts, goes, deletes, starts, waits, waits_for, call_on, AreTopsSoFar, IsScriptSoFar}
 use Rattle.ek_call.specs.Meaning.{arg_of, call_of, form_of, joined}
 use Rattle.ek_call.specs.Primitives.{prim_of}
 use Rattle.ek_call.specs.declared.call.Arg.{Arg}
@@ -16,6 +16,7 @@ use Rattle.ek_call.specs.declared.call.Call.{Call}
 use Rattle.ek_call.specs.declared.form.Form.{Form}
 use Rattle.ek_call.specs.declared.primitive.Primitive.TheVariants as written
 use Rattle.kernel_top.specs.Answers.{called}
+use Rattle.kernel_top.specs.Calls.{AreOfStart, AreRounds}
 use Rattle.kernel_top.specs.Forms.{IsFormSoFar, AreFormsSoFar}
 
 -- an argument of a call whose arguments are known
@@ -43,26 +44,54 @@ module _ (call : Call) where
   prim_is prim c p e = sym (ap prim_of p) ∙ ap (λ c. c.prim) e
 
   pub on_string : (arg : Arg) → IsCallSoFar (call_of call) → call.prim ≡ written.Insert → slice_get (items_of call.args) 0 ≡ Some arg → OnString arg
-  on_string arg (inl (text, e)) p h =
+  on_string arg (inserts text e) p h =
       let is : arg_of arg ≡ Const (Str (bare text)) = same_some (arg_of arg) (Const (Str (bare text))) (sym (arg_at call 0 arg h) ∙ ap (λ c. slice_get c.args 0) e) in
       record { text = (text, is); whole = ap Do e ∙ ap (λ a. called Insert (a ∷ [])) (sym is) }
-  on_string arg (inr (inl (i, e))) p h = absurd (let no = prim_is written.Insert (call_on GotoChar (Int i ∷ [])) p e in cc)
-  on_string arg (inr (inr (i, j, e))) p h = absurd (let no = prim_is written.Insert (call_on DeleteRegion (Int i ∷ Int j ∷ [])) p e in cc)
+  on_string arg (goes i e) p h = absurd (let no = prim_is written.Insert (call_on GotoChar (Int i ∷ [])) p e in cc)
+  on_string arg (deletes i j e) p h = absurd (let no = prim_is written.Insert (call_on DeleteRegion (Int i ∷ Int j ∷ [])) p e in cc)
+  on_string arg (starts name buffer program arguments home e) p h = absurd (let no = prim_is written.Insert (call_on StartProcess (plain name ∷ buffer ∷ plain program ∷ map plain arguments)) p e in cc)
+  on_string arg (waits e) p h = absurd (let no = prim_is written.Insert (call_on AcceptProcessOutput []) p e in cc)
+  on_string arg (waits_for n e) p h = absurd (let no = prim_is written.Insert (call_on AcceptProcessOutput (Nil ∷ Int n ∷ [])) p e in cc)
 
   pub on_integer : (arg : Arg) → IsCallSoFar (call_of call) → call.prim ≡ written.GotoChar → slice_get (items_of call.args) 0 ≡ Some arg → OnInteger arg
-  on_integer arg (inl (text, e)) p h = absurd (let no = prim_is written.GotoChar (call_on Insert (Str (bare text) ∷ [])) p e in cc)
-  on_integer arg (inr (inl (i, e))) p h =
+  on_integer arg (inserts text e) p h = absurd (let no = prim_is written.GotoChar (call_on Insert (plain text ∷ [])) p e in cc)
+  on_integer arg (goes i e) p h =
       let is : arg_of arg ≡ Const (Int i) = same_some (arg_of arg) (Const (Int i)) (sym (arg_at call 0 arg h) ∙ ap (λ c. slice_get c.args 0) e) in
       record { integer = (i, is); whole = ap Do e ∙ ap (λ a. called GotoChar (a ∷ [])) (sym is) }
-  on_integer arg (inr (inr (i, j, e))) p h = absurd (let no = prim_is written.GotoChar (call_on DeleteRegion (Int i ∷ Int j ∷ [])) p e in cc)
+  on_integer arg (deletes i j e) p h = absurd (let no = prim_is written.GotoChar (call_on DeleteRegion (Int i ∷ Int j ∷ [])) p e in cc)
+  on_integer arg (starts name buffer program arguments home e) p h = absurd (let no = prim_is written.GotoChar (call_on StartProcess (plain name ∷ buffer ∷ plain program ∷ map plain arguments)) p e in cc)
+  on_integer arg (waits e) p h = absurd (let no = prim_is written.GotoChar (call_on AcceptProcessOutput []) p e in cc)
+  on_integer arg (waits_for n e) p h = absurd (let no = prim_is written.GotoChar (call_on AcceptProcessOutput (Nil ∷ Int n ∷ [])) p e in cc)
 
   pub on_region : (first second : Arg) → IsCallSoFar (call_of call) → call.prim ≡ written.DeleteRegion → slice_get (items_of call.args) 0 ≡ Some first → slice_get (items_of call.args) 1 ≡ Some second → OnRegion first second
-  on_region first second (inl (text, e)) p h k = absurd (let no = prim_is written.DeleteRegion (call_on Insert (Str (bare text) ∷ [])) p e in cc)
-  on_region first second (inr (inl (i, e))) p h k = absurd (let no = prim_is written.DeleteRegion (call_on GotoChar (Int i ∷ [])) p e in cc)
-  on_region first second (inr (inr (i, j, e))) p h k =
+  on_region first second (inserts text e) p h k = absurd (let no = prim_is written.DeleteRegion (call_on Insert (plain text ∷ [])) p e in cc)
+  on_region first second (goes i e) p h k = absurd (let no = prim_is written.DeleteRegion (call_on GotoChar (Int i ∷ [])) p e in cc)
+  on_region first second (deletes i j e) p h k =
       let is : arg_of first ≡ Const (Int i) = same_some (arg_of first) (Const (Int i)) (sym (arg_at call 0 first h) ∙ ap (λ c. slice_get c.args 0) e) in
       let too : arg_of second ≡ Const (Int j) = same_some (arg_of second) (Const (Int j)) (sym (arg_at call 1 second k) ∙ ap (λ c. slice_get c.args 1) e) in
       record { from = (i, is); to = (j, too); whole = ap Do e ∙ ap (λ a. called DeleteRegion (a ∷ Const (Int j) ∷ [])) (sym is) ∙ ap (λ a. called DeleteRegion (arg_of first ∷ a ∷ [])) (sym too) }
+  on_region first second (starts name buffer program arguments home e) p h k = absurd (let no = prim_is written.DeleteRegion (call_on StartProcess (plain name ∷ buffer ∷ plain program ∷ map plain arguments)) p e in cc)
+  on_region first second (waits e) p h k = absurd (let no = prim_is written.DeleteRegion (call_on AcceptProcessOutput []) p e in cc)
+  on_region first second (waits_for n e) p h k = absurd (let no = prim_is written.DeleteRegion (call_on AcceptProcessOutput (Nil ∷ Int n ∷ [])) p e in cc)
+
+  pub on_start : IsCallSoFar (call_of call) → call.prim ≡ written.StartProcess → AreOfStart (map arg_of (items_of call.args))
+  on_start (inserts text e) p = absurd (let no = prim_is written.StartProcess (call_on Insert (plain text ∷ [])) p e in cc)
+  on_start (goes i e) p = absurd (let no = prim_is written.StartProcess (call_on GotoChar (Int i ∷ [])) p e in cc)
+  on_start (deletes i j e) p = absurd (let no = prim_is written.StartProcess (call_on DeleteRegion (Int i ∷ Int j ∷ [])) p e in cc)
+  on_start (starts name buffer program arguments home e) p =
+      record { name = name; buffer = buffer; program = program; arguments = arguments; home = home; are = ap (λ (c : model.Call). c.args) e }
+  on_start (waits e) p = absurd (let no = prim_is written.StartProcess (call_on AcceptProcessOutput []) p e in cc)
+  on_start (waits_for n e) p = absurd (let no = prim_is written.StartProcess (call_on AcceptProcessOutput (Nil ∷ Int n ∷ [])) p e in cc)
+
+  pub on_rounds : IsCallSoFar (call_of call) → call.prim ≡ written.AcceptProcessOutput → AreRounds (map arg_of (items_of call.args))
+  on_rounds (inserts text e) p = absurd (let no = prim_is written.AcceptProcessOutput (call_on Insert (plain text ∷ [])) p e in cc)
+  on_rounds (goes i e) p = absurd (let no = prim_is written.AcceptProcessOutput (call_on GotoChar (Int i ∷ [])) p e in cc)
+  on_rounds (deletes i j e) p = absurd (let no = prim_is written.AcceptProcessOutput (call_on DeleteRegion (Int i ∷ Int j ∷ [])) p e in cc)
+  on_rounds (starts name buffer program arguments home e) p = absurd (let no = prim_is written.AcceptProcessOutput (call_on StartProcess (plain name ∷ buffer ∷ plain program ∷ map plain arguments)) p e in cc)
+  on_rounds (waits e) p =
+      inl (ap (λ (c : model.Call). c.args) e)
+  on_rounds (waits_for n e) p =
+      inr (n, ap (λ (c : model.Call). c.args) e)
 
 pub form_at : (forms : List Form) (i : ℕ) (f : Form) → AreFormsSoFar (joined (map form_of forms)) → slice_get forms i ≡ Some f → IsFormSoFar (form_of f)
 form_at [] i f are h = cc

@@ -1,4 +1,11 @@
 pub mod Answers
+pub mod Calls
+pub mod Ending
 pub mod Forms
+pub mod Hearing
 pub mod Outcomes
+pub mod Outside
 pub mod Plain
+pub mod Printed
+pub mod Standing
+pub mod Starting

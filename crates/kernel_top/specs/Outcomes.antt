@@ -6,9 +6,9 @@ use Rattle.plain_machine.specs.Exchanges.{Exchange}
 use Rattle.plain_machine.specs.State.{Program}
 use Rattle.plain_machine.specs.Symbols.{program_of}
 use Rattle.plain_machine.specs.Grammar.{longest_script}
-use Rattle.plain_machine.specs.Items.{Said, Config}
-use Rattle.plain_machine.specs.Run.{Reaches, start, lines}
+use Rattle.plain_machine.specs.Run.{lines}
 use Rattle.plain_machine.specs.WholeRuns.{Ran, BrokenOff}
+use Rattle.kernel_top.specs.Outside.{deepest}
 use Rattle.script_read.specs.GrammarSoFar.{IsScriptSoFar, IsNoScript}
 use Rattle.kernel_top.specs.declared.status.Status.{Status}
 use Rattle.kernel_top.specs.declared.status.Status.TheVariants as status
@@ -17,20 +17,12 @@ use Rattle.kernel_top.specs.declared.status.Status.TheVariants as status
 abbrev pub IsRun : List (List ℕ) → Type 0
 IsRun words = words ≡ codes "run" ∷ []
 
--- how deep handlers may be nested
-abbrev pub deepest : ℕ
-deepest = 16
-
 -- a script's program: so far no natives belong to it
 abbrev pub program_for : Script → Program
 program_for script = program_of script [] (λ native args past. None)
 
 abbrev pub RanScript : Script → List Exchange → (written : List ℕ) → Type 0
 RanScript script exchanges written = Ran (program_for script) deepest script exchanges written
-
--- no run of the machine on the script says more bytes than these
-abbrev pub SaysAtMost : Script → ℕ → Type 0
-SaysAtMost script most = (said : List Said) (last : Config) → Reaches (program_for script) deepest (start script) [] said last → length (lines said) ≤ most
 
 -- a run that was broken off; where the sink didn't fail, what it wrote is whole lines
 pub record StoppedScript (script : Script) (exchanges : List Exchange) (written : List ℕ) (unfaulted : Type 0) : Type 0 where
@@ -61,3 +53,10 @@ Outcome status.NoMemory words read written exchanges ended unfaulted =
 abbrev pub HasEnded : (before now : Option (List ℕ)) → Type 0
 HasEnded None now = Unit {0}
 HasEnded (Some left) now = IsAtEnd now
+
+-- the run ended before anything could be asked of the host
+abbrev pub IsUnasked : Status → Type 0
+IsUnasked status.Usage = Unit {0}
+IsUnasked status.ReadFault = Unit {0}
+IsUnasked (status.Script line) = Unit {0}
+IsUnasked _ = ⊥

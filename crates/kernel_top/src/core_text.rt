@@ -1,11 +1,10 @@
 //! The one buffer of the first path: a plain vector of characters, with point.
 ghost use Rattle.std.specs.Prelude.{◌≡◌, ◌+◌, ◌-◌, ◌<◌, ◌≤◌, ◌++◌, length, map, take, drop, OnOk, OnErr, slice_get, Some, vec_len, vec_capacity};
 ghost use Rattle.ek_types.specs.Seen.{ch_of};
-ghost use Rattle.text_model.specs.Places.{after_delete};
 ghost use Rattle.editor_model.specs.Limits.{longest_text};
-ghost use Rattle.kernel_top.specs.Plain.{new_content, inserted, deleted, characters};
+ghost use Rattle.kernel_top.specs.Plain.{new_content, inserted, inserted_at, deleted, characters};
 
-use ek_types::{Ch, Mem, Piece};
+use ek_types::{Ch, Chars, Mem, Piece, place_after_delete, place_after_insert};
 use std::alloc::Global;
 use std::marker::Model;
 
@@ -43,6 +42,16 @@ fn append(text: &mut Vec<Ch>, piece: &Piece)
     }
 }
 
+/// Puts some characters behind others, with no memory taken.
+fn append_chars(text: &mut Vec<Ch>, more: &Chars)
+    requires { vec_len text.old + length more.now.items ≤ vec_capacity text.old }
+    ensures { map ch_of text.new.items ≡ map ch_of text.old.items ++ more.now.items }
+{
+    for i in 0..more.len() {
+        text.push_reserved(more.at(i));
+    }
+}
+
 /// Moves the last `n` characters to a place.
 fn bring_forward(text: &mut [Ch], place: usize, n: usize)
     requires { place + n ≤ length text.old }
@@ -58,20 +67,6 @@ fn put_behind(text: &mut [Ch], from: usize, to: usize)
     ensures { text.new ≡ take from text.old ++ (drop to text.old ++ drop from (take to text.old)) }
 {
     text[from..].rotate_left(to - from);
-}
-
-/// Where a place goes when the part from one place to another is taken out.
-fn after_deletion(place: usize, from: usize, to: usize) -> usize
-    requires { from ≤ to }
-    ensures { result ≡ after_delete from to place }
-{
-    if place <= from {
-        place
-    } else if place < to {
-        from
-    } else {
-        place - (to - from)
-    }
 }
 
 impl CoreText {
@@ -138,6 +133,22 @@ impl CoreText {
         Ok(())
     }
 
+    /// Puts characters in at a place; point there or behind it moves along. A refusal leaves the text as it was.
+    pub fn insert_at(&mut self, place: usize, more: &Chars) -> Mem<()>
+        requires within { place ≤ length self.old.text }
+        requires room { length self.old.text + length more.now.items ≤ longest_text }
+        ensures ok { OnOk result (self.new ≡ inserted_at place more.now.items self.old) }
+        ensures err { OnErr result (self.new ≡ self.old) }
+    {
+        let count = more.len();
+        self.text.reserve(count)?;
+        append_chars(&mut self.text, more);
+        bring_forward(&mut self.text, place, count);
+        self.point = place_after_insert(place, count, true, self.point);
+        self.modified = true;
+        Ok(())
+    }
+
     /// Takes the part from one place to another out.
     pub fn delete(&mut self, from: usize, to: usize)
         requires order { from ≤ to }
@@ -148,7 +159,7 @@ impl CoreText {
         put_behind(&mut self.text, from, to);
         let left = self.text.len() - (to - from);
         self.text.truncate(left);
-        self.point = after_deletion(self.point, from, to);
+        self.point = place_after_delete(from, to, self.point);
         self.modified = true;
     }
 }

@@ -1,71 +1,136 @@
 //! Forms, one after another.
-ghost use Rattle.std.specs.Prelude.{◌≡◌, ℕ, List, [], OnOk, OnErr, IfOk, IfErr, Err};
+ghost use Rattle.std.specs.Prelude.{◌≡◌, ℕ, ◌+◌, ◌-◌, ◌^◌, ◌<◌, ◌≤◌, List, [], ◌∷◌, length, map, OnOk, OnErr, Err, Ok};
 ghost use Rattle.std.specs.Io.KnownBytes.{Appends};
-ghost use Rattle.editor_model.specs.Values.{Do};
+ghost use Rattle.text_model.specs.Undo.{Undo};
+ghost use Rattle.editor_model.specs.Values.{Do, Forms, NoForms, Then};
+ghost use Rattle.plain_machine.specs.Exchanges.{Exchange};
+ghost use Rattle.plain_machine.specs.State.{Process, Program};
+ghost use Rattle.plain_machine.specs.Items.{Top};
+ghost use Rattle.plain_machine.specs.Run.{start};
+ghost use Rattle.process_table.specs.Table.{StandsFor};
 ghost use Rattle.script_read.specs.GrammarSoFar.{IsCallSoFar};
 ghost use Rattle.ek_types.specs.Io.{HasCause, Rose};
-ghost use Rattle.ek_call.specs.Meaning.{call_of, form_of, script_of};
-ghost use Rattle.kernel_top.specs.Answers.{ComesTo};
+ghost use Rattle.ek_types.specs.Listing.{items_of};
+ghost use Rattle.ek_call.specs.Meaning.{arg_of, call_of, form_of, joined, script_of};
+ghost use Rattle.ek_call.specs.Primitives.{prim_of};
 ghost use Rattle.kernel_top.specs.Forms.{IsFormSoFar, AreFormsSoFar};
-ghost use Rattle.kernel_top.specs.Outcomes.{RanScript, StoppedScript, SaysAtMost};
+ghost use Rattle.kernel_top.specs.Outside.{outside, Tells, SaysAtMost};
+ghost use Rattle.kernel_top.specs.Standing.{stands_at, working, Comes, Hosted, StaysHosted};
+ghost use Rattle.kernel_top.specs.Calls.{ComesToReply};
+ghost use Rattle.kernel_top.specs.Outcomes.{program_for, RanScript, StoppedScript};
 
-use crate::answer::Answer;
+use crate::answer::{Answer, Stop};
 use crate::apply::{delete_region, goto_char, insert};
-use crate::core_text::CoreText;
+use crate::ending::finish;
+use crate::kernel::Kernel;
 use crate::print;
+use crate::starting::start_process;
+use crate::waiting::accept_process_output;
 use ek_call::{Call, Form, Primitive, Script};
-use ek_types::{Mem, Sink};
+use ek_types::Sink;
+use host_link::Host;
 use std::alloc::Global;
 
-/// Why a run was broken off.
-#[derive(Clone, Copy, Debug, PartialEq, Eq)]
-pub enum Stop {
-    WriteFault,
-    NoMemory,
-}
-
-fn make(core: &mut CoreText, call: &Call) -> Mem<Answer>
-    requires { IsCallSoFar (call_of call.now) }
-    ensures ok { IfOk result (λ answer. ComesTo (Do (call_of call.now)) core.old core.new answer) }
-    ensures err { OnErr result (core.new ≡ core.old) }
+fn make<K: Sink, H: Host>(
+    alloc: Global,
+    kernel: &mut Kernel,
+    host: &mut H,
+    sink: &mut K,
+    call: &Call,
+) -> Result<Answer, Stop>
+    requires call { IsCallSoFar (call_of call.now) }
+    requires hosted { Hosted kernel.old.beside.processes (H.state host.old).kills }
+    requires few { length (H.state host.old).kills < 2 ^ 32 - 1 }
+    ensures comes { ComesToReply result (prim_of call.now.prim) (map arg_of (items_of call.now.args))
+        (outside (K.state sink.old) (H.state host.old)) (outside (K.state sink.new) (H.state host.new)) kernel.old kernel.new }
+    ensures cause { HasCause (K.state sink.old).faults (K.state sink.new).faults (result ≡ Err Stop.WriteFault) }
+    ensures hosted { StaysHosted result kernel.old (H.state host.old).kills kernel.new (H.state host.new).kills }
+    ensures made { (p : ℕ) → result ≡ Ok (Answer.Process p) → p < length kernel.new.beside.processes }
 {
     match call.prim {
-        Primitive::Insert => insert(core, call.args.at(0)),
-        Primitive::GotoChar => Ok(goto_char(core, call.args.at(0))),
-        Primitive::DeleteRegion => Ok(delete_region(core, call.args.at(0), call.args.at(1))),
+        Primitive::Insert => Ok(insert(kernel, call.args.at(0))?),
+        Primitive::GotoChar => Ok(goto_char(kernel, call.args.at(0))),
+        Primitive::DeleteRegion => Ok(delete_region(kernel, call.args.at(0), call.args.at(1))),
+        Primitive::StartProcess => start_process(alloc, kernel, host, &call.args),
+        Primitive::AcceptProcessOutput => {
+            accept_process_output(alloc, kernel, host, sink, &call.args)
+        }
         _ => unreachable!(),
     }
 }
 
-fn run_form(core: &mut CoreText, form: &Form) -> Mem<Answer>
+/// The call that a form so far is.
+fn only_call(form: &Form) -> &Call
     requires { IsFormSoFar (form_of form.now) }
-    ensures ok { IfOk result (λ answer. ComesTo (form_of form.now) core.old core.new answer) }
-    ensures err { OnErr result (core.new ≡ core.old) }
+    ensures { form_of form.now ≡ Do (call_of result.now) }
 {
     let Form::Do(call) = form else { unreachable!() };
-    make(core, call)
+    call
 }
 
-/// Runs all forms of a script, and writes their lines and the dump.
-pub fn run_script<K: Sink>(alloc: Global, script: &Script, sink: &mut K) -> Result<(), Stop>
-    requires { AreFormsSoFar (script_of script.now).forms }
-    ensures ok { OnOk result ((written : List ℕ) × Appends (K.state sink.old).held (K.state sink.new).held written × RanScript (script_of script.now) [] written) }
-    ensures err { OnErr result ((written : List ℕ) × Appends (K.state sink.old).held (K.state sink.new).held written
-        × StoppedScript (script_of script.now) [] written (Rose (K.state sink.old).faults (K.state sink.new).faults → ⊥)) }
+fn run_form<K: Sink, H: Host>(
+    alloc: Global,
+    kernel: &mut Kernel,
+    host: &mut H,
+    sink: &mut K,
+    form: &Form,
+) -> Result<(), Stop>
+    requires form { IsFormSoFar (form_of form.now) }
+    requires hosted { Hosted kernel.old.beside.processes (H.state host.old).kills }
+    requires few { length (H.state host.old).kills < 2 ^ 32 - 1 }
+    ensures comes { (program : Program) (fs : Forms) (u : Undo) (all : List Process) → StandsFor kernel.old.beside.processes all →
+        Comes result program (outside (K.state sink.old) (H.state host.old)) (outside (K.state sink.new) (H.state host.new))
+        (working (stands_at kernel.old u all) (Top (Then (form_of form.now) fs) ∷ [])) kernel.new (λ _ v more. working (stands_at kernel.new v more) (Top fs ∷ [])) }
     ensures cause { HasCause (K.state sink.old).faults (K.state sink.new).faults (result ≡ Err Stop.WriteFault) }
-    ensures roomy { SaysAtMost (script_of script.now) (K.state sink.old).room → (K.state sink.new).faults ≡ (K.state sink.old).faults }
+    ensures hosted { StaysHosted result kernel.old (H.state host.old).kills kernel.new (H.state host.new).kills }
 {
-    let mut core = CoreText::new(alloc);
+    let answer = make(alloc, kernel, host, sink, only_call(form))?;
+    print::reply(sink, answer, &kernel.processes)?;
+    Ok(())
+}
+
+fn run_forms<K: Sink, H: Host>(
+    alloc: Global,
+    kernel: &mut Kernel,
+    host: &mut H,
+    sink: &mut K,
+    script: &Script,
+) -> Result<(), Stop>
+    requires forms { AreFormsSoFar (script_of script.now).forms }
+    requires hosted { Hosted kernel.old.beside.processes (H.state host.old).kills }
+    requires few { length (H.state host.old).kills ≤ 2 ^ 31 + length kernel.old.beside.processes }
+    ensures comes { (program : Program) (u : Undo) (all : List Process) → StandsFor kernel.old.beside.processes all →
+        Comes result program (outside (K.state sink.old) (H.state host.old)) (outside (K.state sink.new) (H.state host.new))
+        (working (stands_at kernel.old u all) (Top (script_of script.now).forms ∷ [])) kernel.new (λ _ v more. working (stands_at kernel.new v more) (Top NoForms ∷ [])) }
+    ensures cause { HasCause (K.state sink.old).faults (K.state sink.new).faults (result ≡ Err Stop.WriteFault) }
+    ensures hosted { StaysHosted result kernel.old (H.state host.old).kills kernel.new (H.state host.new).kills }
+{
     for i in 0..script.forms.len() {
-        let Ok(answer) = run_form(&mut core, script.forms.at(i)) else {
-            return Err(Stop::NoMemory);
-        };
-        let Ok(()) = print::reply(sink, answer) else {
-            return Err(Stop::WriteFault);
-        };
+        let _few = kernel.processes.count();
+        run_form(alloc, kernel, host, sink, script.forms.at(i))?;
     }
-    match print::dump(sink, &core) {
-        Ok(()) => Ok(()),
-        Err(_) => Err(Stop::WriteFault),
-    }
+    Ok(())
+}
+
+/// Runs all forms of a script, kills the children that still run, and writes the lines and the dump.
+pub fn run_script<K: Sink, H: Host>(
+    alloc: Global,
+    script: &Script,
+    host: &mut H,
+    sink: &mut K,
+) -> Result<(), Stop>
+    requires forms { AreFormsSoFar (script_of script.now).forms }
+    requires few { length (H.state host.old).kills ≤ 2 ^ 31 }
+    ensures ok { OnOk result ((written : List ℕ) × (exchanges : List Exchange) × Appends (K.state sink.old).held (K.state sink.new).held written
+        × Tells (H.state host.old).told (H.state host.new).told exchanges × RanScript (script_of script.now) exchanges written) }
+    ensures err { OnErr result ((written : List ℕ) × (exchanges : List Exchange) × Appends (K.state sink.old).held (K.state sink.new).held written
+        × Tells (H.state host.old).told (H.state host.new).told exchanges
+        × StoppedScript (script_of script.now) exchanges written (Rose (K.state sink.old).faults (K.state sink.new).faults → ⊥)) }
+    ensures cause { HasCause (K.state sink.old).faults (K.state sink.new).faults (result ≡ Err Stop.WriteFault) }
+    ensures roomy { SaysAtMost (program_for (script_of script.now)) (start (script_of script.now)) (K.state sink.old).room → (K.state sink.new).faults ≡ (K.state sink.old).faults }
+{
+    machine_laws::kills_are_left();
+    let mut kernel = Kernel::new(alloc);
+    let ran = run_forms(alloc, &mut kernel, host, sink, script);
+    finish(ran, &kernel, host, sink)
 }

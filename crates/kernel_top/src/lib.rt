@@ -3,11 +3,19 @@
 
 mod answer;
 mod apply;
+mod ascii;
 mod core_text;
+mod ending;
 mod forms;
+mod handlers;
+mod hearing;
+mod kernel;
 mod print;
+mod starting;
 mod status;
 mod top;
+mod waiting;
+mod words;
 
 pub use status::Status;
 pub use top::run;

@@ -1,5 +1,6 @@
 use super::*;
-use ek_types::{MemorySink, MemorySource};
+use ek_types::{ListOf, MemorySink, MemorySource};
+use host_link::{Answer, Answers, Host, MemoryHost, Play};
 use std::alloc::Global;
 use std::test::Fail;
 
@@ -10,19 +11,19 @@ const FIRST_LINES: &[u8] =
 
 /// The most bytes of a call, and the call that fails.
 #[derive(Clone, Copy)]
-struct Host {
+struct Calls {
     piece: usize,
     fails: Option<u32>,
 }
 
-const WHOLE: Host = Host {
+const WHOLE: Calls = Calls {
     piece: 1000,
     fails: None,
 };
 
-fn failing(alloc: Global, host: Host) -> Result<Vec<u32>, Fail> {
+fn failing(alloc: Global, calls: Calls) -> Result<Vec<u32>, Fail> {
     let mut fails = Vec::new(alloc);
-    if let Some(call) = host.fails {
+    if let Some(call) = calls.fails {
         fails.push(call)?;
     }
     Ok(fails)
@@ -32,8 +33,8 @@ fn outcome(
     alloc: Global,
     words: &[&str],
     script: &str,
-    from: Host,
-    to: Host,
+    from: Calls,
+    to: Calls,
 ) -> Result<(Status, Vec<u8>), Fail> {
     let mut given = Vec::new(alloc);
     for word in words {
@@ -42,7 +43,8 @@ fn outcome(
     let bytes = script.as_bytes().to_vec(alloc)?;
     let mut source = MemorySource::new(bytes, from.piece.max(1), failing(alloc, from)?);
     let mut sink = MemorySink::new(alloc, 10_000, to.piece.max(1), failing(alloc, to)?)?;
-    let status = run(alloc, given.as_slice(), &mut source, &mut sink);
+    let mut host = MemoryHost::new(Vec::new(alloc), Vec::new(alloc));
+    let status = run(alloc, given.as_slice(), &mut source, &mut sink, &mut host);
     Ok((status, sink.bytes().to_vec(alloc)?))
 }
 
@@ -128,7 +130,7 @@ fn a_source_that_fails_at_any_call(rt: HostRuntime) -> Result<(), Fail> {
     for piece in [1, 2, 3, 7] {
         let calls = FIRST.len().div_ceil(piece) + 1;
         for call in 0..60u32 {
-            let from = Host {
+            let from = Calls {
                 piece,
                 fails: Some(call),
             };
@@ -149,7 +151,7 @@ fn a_source_that_fails_at_any_call(rt: HostRuntime) -> Result<(), Fail> {
 fn a_sink_that_fails_at_any_call(rt: HostRuntime) -> Result<(), Fail> {
     for piece in [1, 2, 3, 7] {
         for call in 0..100u32 {
-            let to = Host {
+            let to = Calls {
                 piece,
                 fails: Some(call),
             };
@@ -168,12 +170,68 @@ fn a_sink_that_fails_at_any_call(rt: HostRuntime) -> Result<(), Fail> {
 
 #[test]
 fn a_sink_of_single_bytes_that_fails_at_call_3(rt: HostRuntime) -> Result<(), Fail> {
-    let to = Host {
+    let to = Calls {
         piece: 1,
         fails: Some(3),
     };
     let (status, bytes) = outcome(rt.alloc(), &["run"], "", WHOLE, to)?;
     assert_eq!(rt; status, Status::WriteFault);
     assert_eq!(rt; bytes.as_slice(), b"buf".as_slice());
+    Ok(())
+}
+
+fn bytes_of(alloc: Global, text: &[u8]) -> Result<Answer, Fail> {
+    let mut bytes = ListOf::new(alloc);
+    for byte in text {
+        bytes.push(*byte)?;
+    }
+    Ok(Answer::Bytes(bytes))
+}
+
+/// A host with one child, which gives these texts, one at a read, and then exits with code 0.
+fn one_child(alloc: Global, reads: &[&[u8]], fails: &[u32]) -> Result<MemoryHost, Fail> {
+    let mut answers: Answers = ListOf::new(alloc);
+    for text in reads {
+        answers.push(bytes_of(alloc, text)?)?;
+    }
+    let mut plays = Vec::new(alloc);
+    plays.push(Play {
+        reads: answers,
+        ends: ListOf::new(alloc),
+    })?;
+    Ok(MemoryHost::new(plays, fails.to_vec(alloc)?))
+}
+
+const CHILD: &str =
+    "(start-process \"c\" \"*scratch*\" \"cat\")(accept-process-output)(accept-process-output)";
+
+const CHILD_LINES: &[u8] = b"= #<process c>
+> filter default #<process c> \"ab\"
+< default
+= t
+> sentinel default #<process c> \"finished\\n\"
+< default
+= nil
+buffer *scratch* point 23 min 1 max 23 modified t current
+text \"ab\\nProcess c finished\\n\"
+marker 0 #<marker at 23 in *scratch*>
+process 0 #<process c> exit 0
+";
+
+fn over(alloc: Global, script: &str, host: &mut MemoryHost) -> Result<(Status, Vec<u8>), Fail> {
+    let mut words = Vec::new(alloc);
+    words.push(String::from_str(alloc, "run")?)?;
+    let mut source = MemorySource::new(script.as_bytes().to_vec(alloc)?, 1000, Vec::new(alloc));
+    let mut sink = MemorySink::new(alloc, 100_000, 1000, Vec::new(alloc))?;
+    let status = run(alloc, words.as_slice(), &mut source, &mut sink, host);
+    Ok((status, sink.bytes().to_vec(alloc)?))
+}
+
+#[test]
+fn a_child_is_heard_out(rt: HostRuntime) -> Result<(), Fail> {
+    let mut host = one_child(rt.alloc(), &[b"ab"], &[])?;
+    let (status, bytes) = over(rt.alloc(), CHILD, &mut host)?;
+    assert_eq!(rt; status, Status::Done);
+    assert_eq!(rt; bytes.as_slice(), CHILD_LINES);
     Ok(())
 }

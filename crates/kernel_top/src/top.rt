@@ -1,15 +1,20 @@
 //! The top call.
-ghost use Rattle.std.specs.Prelude.{◌≡◌, ◌<◌, ◌≤◌, ◌↔◌, ◌⊎◌, ◌+◌, ℕ, List, [], ◌∷◌, codes, length, Err, IfOk, IfErr, map, string_bytes, true, Some, IsTrue};
+ghost use Rattle.std.specs.Prelude.{◌≡◌, ◌<◌, ◌^◌, ◌≤◌, ◌↔◌, ◌⊎◌, ◌+◌, ℕ, List, [], ◌∷◌, codes, length, Err, IfOk, IfErr, map, string_bytes, true, Some, IsTrue};
 ghost use Rattle.std.specs.Io.KnownBytes.{Consumes, Appends};
 ghost use Rattle.editor_model.specs.Values.{Script as Meant};
 ghost use Rattle.plain_machine.specs.Grammar.{longest_script};
 ghost use Rattle.ek_types.specs.Io.{HasCause, Rose};
 ghost use Rattle.script_read.specs.GrammarSoFar.{IsScriptSoFar};
-ghost use Rattle.kernel_top.specs.Outcomes.{IsRun, HasEnded, Outcome, SaysAtMost};
+ghost use Rattle.plain_machine.specs.Exchanges.{Exchange};
+ghost use Rattle.plain_machine.specs.Run.{start};
+ghost use Rattle.kernel_top.specs.Outside.{Tells, SaysAtMost};
+ghost use Rattle.kernel_top.specs.Outcomes.{IsRun, HasEnded, Outcome, IsUnasked, program_for};
 
-use crate::forms::{Stop, run_script};
+use crate::answer::Stop;
+use crate::forms::run_script;
 use crate::status::Status;
 use ek_types::{Sink, Source, Took};
+use host_link::Host;
 use script_read::{LONGEST_SCRIPT, ScriptFault, read};
 use std::alloc::Global;
 
@@ -59,46 +64,53 @@ fn read_all<S: Source>(alloc: Global, source: &mut S) -> Result<Vec<u8>, Refused
 }
 
 /// Reads the script that the bytes are, and runs it.
-fn run_bytes<K: Sink>(alloc: Global, bytes: &[u8], sink: &mut K) -> Status
-    ensures outcome { (written : List ℕ) × Appends (K.state sink.old).held (K.state sink.new).held written
-        × Outcome result (codes "run" ∷ []) bytes.now written [] (Unit {0}) (Rose (K.state sink.old).faults (K.state sink.new).faults → ⊥) }
+fn run_bytes<K: Sink, H: Host>(alloc: Global, bytes: &[u8], host: &mut H, sink: &mut K) -> Status
+    requires { length (H.state host.old).kills ≤ 2 ^ 31 }
+    ensures outcome { (written : List ℕ) × (exchanges : List Exchange) × Appends (K.state sink.old).held (K.state sink.new).held written
+        × Tells (H.state host.old).told (H.state host.new).told exchanges
+        × Outcome result (codes "run" ∷ []) bytes.now written exchanges (Unit {0}) (Rose (K.state sink.old).faults (K.state sink.new).faults → ⊥) }
     ensures no_read { result ≡ Status.ReadFault → ⊥ }
+    ensures unasked { IsUnasked result → H.state host.new ≡ H.state host.old }
     ensures write_fault { HasCause (K.state sink.old).faults (K.state sink.new).faults (result ≡ Status.WriteFault) }
-    ensures roomy { (script : Meant) → IsScriptSoFar bytes.now script → SaysAtMost script (K.state sink.old).room → (K.state sink.new).faults ≡ (K.state sink.old).faults }
+    ensures roomy { (script : Meant) → IsScriptSoFar bytes.now script → SaysAtMost (program_for script) (start script) (K.state sink.old).room → (K.state sink.new).faults ≡ (K.state sink.old).faults }
 {
     match read(alloc, bytes) {
-        Ok(script) => match run_script(alloc, &script, sink) {
+        Ok(script) => match run_script(alloc, &script, host, sink) {
             Ok(()) => Status::Done,
             Err(Stop::WriteFault) => Status::WriteFault,
-            Err(Stop::NoMemory) => Status::NoMemory,
+            Err(Stop::NoMemory | Stop::NoProcess(_)) => Status::NoMemory,
         },
         Err(ScriptFault::Line(line)) => Status::Script(line),
         Err(ScriptFault::NoMemory) => Status::NoMemory,
     }
 }
 
-fn run_words<S: Source, K: Sink>(
+fn run_words<S: Source, K: Sink, H: Host>(
     alloc: Global,
     words: &[String],
     source: &mut S,
     sink: &mut K,
+    host: &mut H,
 ) -> Status
-    ensures outcome { (read written : List ℕ) × Consumes (S.state source.old).left (S.state source.new).left read × (length read ≤ longest_script + 1)
+    requires { length (H.state host.old).kills ≤ 2 ^ 31 }
+    ensures outcome { (read written : List ℕ) × (exchanges : List Exchange) × Consumes (S.state source.old).left (S.state source.new).left read × (length read ≤ longest_script + 1)
         × Appends (K.state sink.old).held (K.state sink.new).held written
-        × Outcome result (map string_bytes words.now) read written []
+        × Tells (H.state host.old).told (H.state host.new).told exchanges
+        × Outcome result (map string_bytes words.now) read written exchanges
         (HasEnded (S.state source.old).left (S.state source.new).left) (Rose (K.state sink.old).faults (K.state sink.new).faults → ⊥) }
     ensures untouched { result ≡ Status.Usage → (S.state source.new ≡ S.state source.old) × (K.state sink.new ≡ K.state sink.old) }
+    ensures unasked { IsUnasked result → H.state host.new ≡ H.state host.old }
     ensures read_fault { HasCause (S.state source.old).faults (S.state source.new).faults (result ≡ Status.ReadFault) }
     ensures write_fault { HasCause (K.state sink.old).faults (K.state sink.new).faults (result ≡ Status.WriteFault) }
     ensures unfailing { IsTrue (S.state source.old).unfailing → (S.state source.new).faults ≡ (S.state source.old).faults }
     ensures roomy { (bytes : List ℕ) (script : Meant) → (S.state source.old).left ≡ Some bytes → IsScriptSoFar bytes script
-        → SaysAtMost script (K.state sink.old).room → (K.state sink.new).faults ≡ (K.state sink.old).faults }
+        → SaysAtMost (program_for script) (start script) (K.state sink.old).room → (K.state sink.new).faults ≡ (K.state sink.old).faults }
 {
     if !is_run(words) {
         return Status::Usage;
     }
     match read_all(alloc, source) {
-        Ok(bytes) => run_bytes(alloc, bytes.as_slice(), sink),
+        Ok(bytes) => run_bytes(alloc, bytes.as_slice(), host, sink),
         Err(Refused::Failed) => Status::ReadFault,
         Err(Refused::TooLong) => Status::Script(0),
         Err(Refused::NoMemory) => Status::NoMemory,
@@ -111,26 +123,30 @@ fn run_words<S: Source, K: Sink>(
 /// The status says what was read and written, as `outcome` has it: for `Done` the lines are those of the plain machine's
 /// whole run on the script. `unfailing` and `roomy`: neither side fails where the source is known not to, and where the
 /// sink has room for all that the machine says. No more than one byte behind the longest script, of 1,048,576 bytes, is asked of the source.
-pub fn run<S: Source, K: Sink>(
+pub fn run<S: Source, K: Sink, H: Host>(
     alloc: Global,
     words: &[String],
     source: &mut S,
     sink: &mut K,
+    host: &mut H,
 ) -> Status
-    ensures outcome { (read written : List ℕ) × Consumes (S.state source.old).left (S.state source.new).left read × (length read ≤ longest_script + 1)
+    requires { length (H.state host.old).kills ≤ 2 ^ 31 }
+    ensures outcome { (read written : List ℕ) × (exchanges : List Exchange) × Consumes (S.state source.old).left (S.state source.new).left read × (length read ≤ longest_script + 1)
         × Appends (K.state sink.old).held (K.state sink.new).held written
-        × Outcome result (map string_bytes words.now) read written []
+        × Tells (H.state host.old).told (H.state host.new).told exchanges
+        × Outcome result (map string_bytes words.now) read written exchanges
         (HasEnded (S.state source.old).left (S.state source.new).left) (Rose (K.state sink.old).faults (K.state sink.new).faults → ⊥) }
     ensures untouched { result ≡ Status.Usage → (S.state source.new ≡ S.state source.old) × (K.state sink.new ≡ K.state sink.old) }
+    ensures unasked { IsUnasked result → H.state host.new ≡ H.state host.old }
     ensures read_fault { HasCause (S.state source.old).faults (S.state source.new).faults (result ≡ Status.ReadFault) }
     ensures write_fault { HasCause (K.state sink.old).faults (K.state sink.new).faults (result ≡ Status.WriteFault) }
     ensures unfailing { IsTrue (S.state source.old).unfailing → (S.state source.new).faults ≡ (S.state source.old).faults }
     ensures roomy { (bytes : List ℕ) (script : Meant) → (S.state source.old).left ≡ Some bytes → IsScriptSoFar bytes script
-        → SaysAtMost script (K.state sink.old).room → (K.state sink.new).faults ≡ (K.state sink.old).faults }
+        → SaysAtMost (program_for script) (start script) (K.state sink.old).room → (K.state sink.new).faults ≡ (K.state sink.old).faults }
     ensures complete { (bytes : List ℕ) (script : Meant) → IsRun (map string_bytes words.now)
         → (S.state source.old).left ≡ Some bytes → IsScriptSoFar bytes script
         → (Rose (S.state source.old).faults (S.state source.new).faults → ⊥) → (Rose (K.state sink.old).faults (K.state sink.new).faults → ⊥)
         → (result ≡ Status.Done) ⊎ (result ≡ Status.NoMemory) }
 {
-    run_words(alloc, words, source, sink)
+    run_words(alloc, words, source, sink, host)
 }

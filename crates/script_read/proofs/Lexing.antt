@@ -81,27 +81,33 @@ ends_alone c rest t =
     let not_glue : (c == 39 || c == 35) ≡ false = grind (arith, nat_tests) in
     (rw not_word, rw not_glue)
 
+quoted_unglued : (inside : List ℕ) → is_glued (Plain (34 ∷ (inside ++ 34 ∷ []))) ≡ false
+quoted_unglued [] = refl
+quoted_unglued (d ∷ inside) = refl
+
+unquoted_unglued : (c : ℕ) (bytes : List ℕ) → is_word_byte c ≡ true → is_glued (Plain (c ∷ bytes)) ≡ false
+unquoted_unglued c [] e = (word_byte c e).is_glue
+unquoted_unglued c (d ∷ bytes) e = refl
+
+-- what follows a word of these isn't glued to it
+pub lexeme_unglued : (word : List ℕ) → Lexeme word → is_glued (Plain word) ≡ false
+lexeme_unglued word (parenthesis c t e) = rw e (grind (arith, nat_tests))
+lexeme_unglued word (quoted inside all e) = rw e (quoted_unglued inside)
+lexeme_unglued word (unquoted c bytes all e) = rw e (unquoted_unglued c bytes (and_parts (is_word_byte c) (list_all is_word_byte bytes) all).0)
+
 ends_quoted : (inside rest : List ℕ) → EndsThere (Plain (34 ∷ (inside ++ 34 ∷ []))) rest
-ends_quoted inside rest = (rw (last_quote 34 inside), rw (two_at_least inside))
+ends_quoted inside rest = (rw (last_quote 34 inside), rw (quoted_unglued inside))
   where
     last_quote : (c : ℕ) (inside : List ℕ) → ends_with is_word_byte (c ∷ (inside ++ 34 ∷ [])) ≡ false
     last_quote c [] = refl
     last_quote c (d ∷ inside) = last_quote d inside
 
-    two_at_least : (inside : List ℕ) → is_glued (Plain (34 ∷ (inside ++ 34 ∷ []))) ≡ false
-    two_at_least [] = refl
-    two_at_least (d ∷ inside) = refl
-
 ends_unquoted : (c : ℕ) (bytes rest : List ℕ) → list_all is_word_byte (c ∷ bytes) ≡ true → begins_with is_word_byte rest ≡ false → EndsThere (Plain (c ∷ bytes)) rest
-ends_unquoted c bytes rest all stops = (rw stops (and_false (ends_with is_word_byte (c ∷ bytes))), rw (not_glued c bytes (word_byte c (and_parts (is_word_byte c) (list_all is_word_byte bytes) all).0).is_glue))
+ends_unquoted c bytes rest all stops = (rw stops (and_false (ends_with is_word_byte (c ∷ bytes))), rw (unquoted_unglued c bytes (and_parts (is_word_byte c) (list_all is_word_byte bytes) all).0))
   where
     and_false : (a : Bool) → not (a && false) ≡ true
     and_false true = refl
     and_false false = refl
-
-    not_glued : (c : ℕ) (bytes : List ℕ) → (c == 39 || c == 35) ≡ false → is_glued (Plain (c ∷ bytes)) ≡ false
-    not_glued c [] e = e
-    not_glued c (d ∷ bytes) e = refl
 
 -- a word stands there, or none is read
 pub data FirstWord (bytes : List ℕ) : Type 0 where

@@ -3,6 +3,8 @@ pub mod Fronts
 pub mod Lexing
 pub mod Spelled
 pub mod Literals
+pub mod Strings
+pub mod Starts
 pub mod Soundness
 pub mod Completeness
 pub mod Scripts

@@ -1,6 +1,5 @@
 -- Strings and numbers.
 use Rattle.std.proofs.Common.{◌≡◌, ℕ, ◌-◌, List, [], ◌∷◌, ◌++◌, Bool, true, false, ◌||◌, not, ◌==◌, length, map, refl, sym, ap, ◌∙◌, arith, append-nil, length-append, Some, None, ℤ, pos, neg_ℤ, inl, inr}
-use Rattle.std.specs.Prelude.{codes}
 use Rattle.std.specs.List.{list_all}
 use Rattle.std.proofs.Math.Seq.{take-append_seam}
 use Rattle.std.proofs.lemmas.Bool.{and_parts, and_from, eqb-true, false≢true}
@@ -9,12 +8,11 @@ use Rattle.std.proofs.lemmas.List.Folds.{list_all-append}
 use Rattle.std.proofs.lemmas.Option.{same_Some}
 use Rattle.text_model.specs.Characters.{Ch, Scalar}
 use Rattle.text_model.specs.Decoding.{Whole, within, range, front, against, against_any, characters_after, tail_after, all_characters}
-use Rattle.plain_machine.specs.Symbols.{same_word}
-use Rattle.plain_machine.specs.Words.{Plain, is_digit, are_digits, digits_value, IsInt, is_word_byte, is_plain_byte, IsInside, nothing, escaped, octal, IsString, StartsAnew}
+use Rattle.plain_machine.specs.Words.{Plain, is_digit, are_digits, digits_value, IsInt, is_word_byte, is_plain_byte, is_glued, IsInside, nothing, escaped, octal, IsString, StartsAnew}
 use Rattle.script_read.specs.GrammarSoFar.{is_byte_so_far, is_word_so_far}
 use Rattle.script_read.specs.Reading.{is_text_byte, inside_of, digits_of, number_of}
 use Rattle.script_read.proofs.Binding.{bind_some}
-use Rattle.script_read.proofs.Lexing.{Lexeme, parenthesis, quoted, unquoted}
+use Rattle.script_read.proofs.Lexing.{Lexeme, parenthesis, quoted, unquoted, lexeme_unglued}
 
 -- ASCII IS ITS OWN CHARACTERS
 is_ascii : (c : ℕ) → is_text_byte c ≡ true → within (range 0x00 0x7F) c ≡ true
@@ -89,10 +87,17 @@ string_from word text q =
     let run : IsInside (text ++ []) (all_characters text ++ []) = IsInside.plain text (all_by is_text_byte is_plain_byte text_is_plain text q.all_text) tt nothing in
     (text, q.spelled, rw (append-nil, append-nil, all_characters-ascii text q.all_text) at run)
 
+lexeme_so_far : (word : List ℕ) → Lexeme word → list_all is_byte_so_far word ≡ true → is_word_so_far (Plain word) ≡ true
+lexeme_so_far word lexeme all = rw (all, lexeme_unglued word lexeme)
+
+pub quotes_lexeme : (word inside : List ℕ) → Quotes inside word → Lexeme word
+quotes_lexeme word inside q = quoted inside q.all_text q.spelled
+
 pub quoted_so_far : (word text : List ℕ) → Quotes text word → is_word_so_far (Plain word) ≡ true
 quoted_so_far word text q =
     let all = all_by is_text_byte is_byte_so_far text_so_far text q.all_text in
-    rw (q.spelled, list_all-append is_byte_so_far text (34 ∷ []), all)
+    let bytes : list_all is_byte_so_far word ≡ true = rw (q.spelled, list_all-append is_byte_so_far text (34 ∷ []), all) in
+    lexeme_so_far word (quotes_lexeme word text q) bytes
 
 -- the inside of a string without backslashes
 inside_plain : {inside : List ℕ} {text : List Ch} → IsInside inside text → list_all is_byte_so_far inside ≡ true → (list_all is_plain_byte inside ≡ true) × (text ≡ all_characters inside)
@@ -113,14 +118,11 @@ inside_plain (octal a b c e more) all = absurd (false≢true all)
 -- a string of the grammar so far is read
 pub quotes_of_string : (word : List ℕ) (text : List Ch) → IsString word text → is_word_so_far (Plain word) ≡ true → (inside : List ℕ) × Quotes inside word × (text ≡ map Scalar inside)
 quotes_of_string word text (inside, spelled, is_inside) so_far =
-    let all = (and_parts (list_all is_byte_so_far word) (not (same_word word (codes "#"))) so_far).0 in
+    let all = (and_parts (list_all is_byte_so_far word) (not (is_glued (Plain word))) so_far).0 in
     let all_inside = (and_parts (list_all is_byte_so_far inside) true (rw (spelled, list_all-append is_byte_so_far inside (34 ∷ [])) at all)).0 in
     let (plain_bytes, characters) = inside_plain is_inside all_inside in
     let all_text = text_by inside plain_bytes all_inside in
     (inside, record { all_text = all_text; spelled = spelled }, characters ∙ all_characters-ascii inside all_text)
-
-pub quotes_lexeme : (word inside : List ℕ) → Quotes inside word → Lexeme word
-quotes_lexeme word inside q = quoted inside q.all_text q.spelled
 
 -- NUMBERS
 digit_is_letter : (c : ℕ) → is_digit c ≡ true → is_word_byte c ≡ true
@@ -131,9 +133,6 @@ digit_so_far c e = grind (arith, nat_tests)
 
 no_dash : (c : ℕ) → is_digit c ≡ true → (c == 45) ≡ false
 no_dash c e = grind (arith, nat_tests)
-
-no_hash : (c : ℕ) → is_digit c ≡ true → (c == 35) ≡ false
-no_hash c e = grind (arith, nat_tests)
 
 all_digits : (word : List ℕ) → are_digits word ≡ true → list_all is_digit word ≡ true
 all_digits word e = (and_parts (list_all is_digit word) _ e).0
@@ -171,7 +170,9 @@ number_lexeme [] i (inl (are, is)) = absurd (false≢true are)
 number_lexeme (c ∷ word) i (inl (are, is)) = unquoted c word (all_by is_digit is_word_byte digit_is_letter (c ∷ word) (all_digits (c ∷ word) are)) refl
 number_lexeme word i (inr (digits, spelled, are, is)) = unquoted 45 digits (all_by is_digit is_word_byte digit_is_letter digits (all_digits digits are)) spelled
 
+digits_so_far : (word : List ℕ) (i : ℤ) → IsInt word i → list_all is_byte_so_far word ≡ true
+digits_so_far word i (inl (are, is)) = all_by is_digit is_byte_so_far digit_so_far word (all_digits word are)
+digits_so_far word i (inr (digits, spelled, are, is)) = rw (spelled, all_by is_digit is_byte_so_far digit_so_far digits (all_digits digits are))
+
 pub number_so_far : (word : List ℕ) (i : ℤ) → IsInt word i → is_word_so_far (Plain word) ≡ true
-number_so_far [] i (inl (are, is)) = absurd (false≢true are)
-number_so_far (c ∷ word) i (inl (are, is)) = rw (all_by is_digit is_byte_so_far digit_so_far (c ∷ word) (all_digits (c ∷ word) are), no_hash c (first_digit c word are))
-number_so_far word i (inr (digits, spelled, are, is)) = rw (spelled, all_by is_digit is_byte_so_far digit_so_far digits (all_digits digits are))
+number_so_far word i is = lexeme_so_far word (number_lexeme word i is) (digits_so_far word i is)

@@ -1,15 +1,15 @@
 -- What is read is a script of the grammar so far, and each of those is read.
-use Rattle.std.proofs.Common.{◌≡◌, ℕ, ◌≤◌, List, [], ◌∷◌, ◌++◌, true, length, take, refl, sym, ap, ◌∙◌, arith, append-nil, take-append-drop, Some, inl, inr}
+use Rattle.std.proofs.Common.{◌≡◌, ℕ, ◌<◌, ◌≤◌, List, [], ◌∷◌, ◌++◌, true, length, map, take, refl, sym, ap, ◌∙◌, arith, append-nil, take-append-drop, Some}
 use Rattle.std.specs.Prelude.{codes}
 use Rattle.std.specs.List.{prefix_len, list_all}
 use Rattle.std.proofs.lemmas.Bool.{and_parts}
 use Rattle.std.proofs.lemmas.Option.{same_Some}
 use Rattle.std.proofs.lemmas.List.Folds.{list_all-append}
-use Rattle.editor_model.specs.Values.{Call, Form, Forms, Do, Setq, In, WhenEq, NoForms, Then, HandlerDef, Script}
+use Rattle.editor_model.specs.Values.{Value, plain, Const, Call, Form, Forms, Do, Setq, In, WhenEq, NoForms, Then, HandlerDef, Script}
 use Rattle.plain_machine.specs.Symbols.{first_symbols, with_names}
 use Rattle.plain_machine.specs.Words.{Word, names, is_blank}
-use Rattle.plain_machine.specs.Grammar.{Top, Run, Handler, AreTops, handlers_of, forms_of, names_of_form, registers, AllKeepLimits, longest_script}
-use Rattle.script_read.specs.GrammarSoFar.{is_word_so_far, IsCallSoFar, AreTopsSoFar, IsScriptSoFar, IsNoScript}
+use Rattle.plain_machine.specs.Grammar.{Top, Run, Handler, AreTops, handlers_of, forms_of, names_of_args, names_of_form, registers, AllKeepLimits, longest_script}
+use Rattle.script_read.specs.GrammarSoFar.{is_word_so_far, IsCallSoFar, inserts, goes, deletes, starts, waits, waits_for, AreTopsSoFar, count_starts, IsScriptSoFar, IsNoScript}
 use Rattle.script_read.specs.Reading.{skipped, behind, split_word, word_at, call_at, form_at, Reads, script_with}
 use Rattle.script_read.proofs.Fronts.{front_passes}
 use Rattle.script_read.proofs.Lexing.{skipped_blanks}
@@ -69,10 +69,17 @@ tops_read (Then f fs) bytes (rest, e, more) =
     }
 
 -- LIMITS
+names_of_constants : (constants : List Value) (more : List ℕ) → names_of_args (map Const constants) more ≡ more
+names_of_constants [] more = refl
+names_of_constants (v ∷ constants) more = names_of_constants constants more
+
 no_registers : (c : Call) (more : List ℕ) → IsCallSoFar c → names_of_form (Do c) more ≡ more
-no_registers c more (inl (text, e)) = rw e
-no_registers c more (inr (inl (i, e))) = rw e
-no_registers c more (inr (inr (i, j, e))) = rw e
+no_registers c more (inserts text e) = rw e
+no_registers c more (goes i e) = rw e
+no_registers c more (deletes i j e) = rw e
+no_registers c more (starts name buffer program strings b e) = rw e (names_of_constants (map plain strings) more)
+no_registers c more (waits e) = rw e
+no_registers c more (waits_for i e) = rw e
 
 -- calls alone keep all limits
 record KeptLimits (tops : List Top) : Type 0 where
@@ -90,8 +97,8 @@ limits_kept (Run (WhenEq a b forms) ∷ tops) (call, so_far) = absurd call
 limits_kept (Handler d ∷ tops) (call, so_far) = absurd call
 
 -- forms that are read are a script of the grammar so far
-pub read_is_script : (forms : Forms) (bytes : List ℕ) → length bytes ≤ longest_script → Reads forms bytes → IsScriptSoFar bytes (script_with forms)
-read_is_script forms bytes short reads =
+pub read_is_script : (forms : Forms) (bytes : List ℕ) → length bytes ≤ longest_script → count_starts forms ≤ 1 → Reads forms bytes → IsScriptSoFar bytes (script_with forms)
+read_is_script forms bytes short once reads =
     let r = tops_read forms bytes reads in
     let limits = limits_kept r.tops r.tops_so_far in
     let (written, no_comment) = words_from_spelled r.words bytes r.spelled in
@@ -114,6 +121,7 @@ read_is_script forms bytes short reads =
       no_comment = no_comment;
       words_so_far = r.words_so_far;
       calls_so_far = r.tops_so_far;
+      one_start = once;
     }
 
 -- EACH SCRIPT IS READ
@@ -190,7 +198,13 @@ one_script bytes first second s t =
 pub no_script : (bytes : List ℕ) → ((forms : Forms) → Reads forms bytes → ⊥) → IsNoScript bytes
 no_script bytes none script s = none script.forms (script_is_read bytes script s).reads
 
+-- more than one of the forms that were read starts a child
+pub started_twice : (bytes : List ℕ) (forms : Forms) → Reads forms bytes → 1 < count_starts forms → IsNoScript bytes
+started_twice bytes forms reads twice script s =
+    let same : forms ≡ script.forms = reads_once forms script.forms bytes reads (script_is_read bytes script s).reads in
+    absurd (omega (arith, s.one_start, ap count_starts same))
+
 -- the script that is made of forms that were read
-pub whole_script : (bytes : List ℕ) (symbols : List (List ℕ)) (handlers : List HandlerDef) (forms : Forms) → length bytes ≤ longest_script → symbols ≡ first_symbols → handlers ≡ [] → Reads forms bytes →
+pub whole_script : (bytes : List ℕ) (symbols : List (List ℕ)) (handlers : List HandlerDef) (forms : Forms) → length bytes ≤ longest_script → symbols ≡ first_symbols → handlers ≡ [] → count_starts forms ≤ 1 → Reads forms bytes →
     IsScriptSoFar bytes (record { symbols = symbols; handlers = handlers; forms = forms })
-whole_script bytes symbols handlers forms short e f reads = rw (e, f) (read_is_script forms bytes short reads)
+whole_script bytes symbols handlers forms short e f once reads = rw (e, f) (read_is_script forms bytes short once reads)

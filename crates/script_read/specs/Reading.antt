@@ -1,9 +1,10 @@
 -- Reading from left to right: what stands at the front of some bytes, and what follows it.
-use Rattle.std.specs.Prelude.{◌≡◌, ℕ, ◌+◌, ◌-◌, List, [], ◌∷◌, length, take, drop, map, codes, Bool, ◌&&◌, ◌||◌, not, ◌==◌, nat_le, if◌then◌else◌, ℤ, pos, neg_ℤ, Option, Some, None}
+use Rattle.std.specs.Prelude.{◌≡◌, ℕ, zero, suc, ◌+◌, ◌-◌, List, [], ◌∷◌, length, take, drop, map, codes, Bool, ◌&&◌, ◌||◌, not, ◌==◌, nat_le, if◌then◌else◌, ℤ, pos, neg_ℤ, Option, Some, None}
 use Rattle.std.specs.List.{prefix_len}
 use Rattle.std.specs.Str.{bytes_eq}
 use Rattle.text_model.specs.Characters.{Scalar}
-use Rattle.editor_model.specs.Values.{Prim, Insert, GotoChar, DeleteRegion, Value, Int, plain, Form, Forms, Do, NoForms, Then, Script}
+use Rattle.editor_model.specs.Values.{Prim, Insert, GotoChar, DeleteRegion, StartProcess, AcceptProcessOutput, Value, Nil, Int, plain, Form, Forms, Do, NoForms, Then, Script}
+use Rattle.editor_model.specs.Prims.{most_arguments}
 use Rattle.plain_machine.specs.Symbols.{first_symbols}
 use Rattle.plain_machine.specs.Words.{is_blank, is_word_byte, begins_with, are_digits, digits_value}
 use Rattle.script_read.specs.GrammarSoFar.{call_on}
@@ -61,6 +62,26 @@ string_at bytes = inside_of (word_at bytes).0 >>= (λ text. Some (text, (word_at
 abbrev pub number_at : List ℕ → Option (ℤ × List ℕ)
 number_at bytes = number_of (word_at bytes).0 >>= (λ n. Some (n, (word_at bytes).1))
 
+-- the buffer of a child: none, or *scratch*; what follows the word nil is given where that word comes first
+abbrev pub scratch_at : List ℕ × List ℕ → Option (Option (List ℕ) × List ℕ)
+scratch_at s = if bytes_eq s.0 (codes "*scratch*") then Some (Some s.0, s.1) else None
+
+abbrev pub buffer_by : (behind_nil : Option (List ℕ)) → List ℕ → Option (Option (List ℕ) × List ℕ)
+buffer_by (Some rest) bytes = Some (None, rest)
+buffer_by None bytes = string_at bytes >>= scratch_at
+
+abbrev pub buffer_at : List ℕ → Option (Option (List ℕ) × List ℕ)
+buffer_at bytes = buffer_by (behind (codes "nil") bytes) bytes
+
+-- the strings that come first, at most so many, and what follows them
+unfoldable pub strings_at : (most : ℕ) → List ℕ → List (List ℕ) × List ℕ
+strings_at zero bytes = ([], bytes)
+strings_at (suc n) bytes =
+    elim (string_at bytes) [
+      | Some s ↦ (s.0 ∷ (strings_at n s.1).0, (strings_at n s.1).1)
+      | None ↦ ([], bytes)
+    ]
+
 -- CALLS
 -- a call on these constants, closed in front of these bytes
 abbrev pub closed : Prim → List Value → List ℕ → Option (Form × List ℕ)
@@ -78,12 +99,37 @@ goto_at bytes = number_at bytes >>= (λ n. closed GotoChar (Int n.0 ∷ []) n.1)
 abbrev pub delete_at : List ℕ → Option (Form × List ℕ)
 delete_at bytes = number_at bytes >>= (λ from. number_at from.1 >>= (λ to. closed DeleteRegion (Int from.0 ∷ Int to.0 ∷ []) to.1))
 
+abbrev pub buffer_value : Option (List ℕ) → Value
+buffer_value None = Nil
+buffer_value (Some name) = text_of name
+
+-- how many arguments of the program a call may have, behind the child's name, its buffer and the program
+abbrev pub most_strings : ℕ
+most_strings = most_arguments - 3
+
+abbrev pub started : (name : List ℕ) (buffer : Option (List ℕ)) (program : List ℕ) → List (List ℕ) × List ℕ → Option (Form × List ℕ)
+started name buffer program strings = closed StartProcess (text_of name ∷ buffer_value buffer ∷ text_of program ∷ map text_of strings.0) strings.1
+
+abbrev pub start_at : List ℕ → Option (Form × List ℕ)
+start_at bytes =
+    string_at bytes >>= (λ name. buffer_at name.1 >>= (λ buffer. string_at buffer.1 >>= (λ program. started name.0 buffer.0 program.0 (strings_at most_strings program.1))))
+
+-- no argument, or nil and a number
+abbrev pub accept_by : (behind_nil : Option (List ℕ)) → List ℕ → Option (Form × List ℕ)
+accept_by (Some inner) bytes = number_at inner >>= (λ n. closed AcceptProcessOutput (Nil ∷ Int n.0 ∷ []) n.1)
+accept_by None bytes = closed AcceptProcessOutput [] bytes
+
+abbrev pub accept_at : List ℕ → Option (Form × List ℕ)
+accept_at bytes = accept_by (behind (codes "nil") bytes) bytes
+
 -- the arguments of the call of this name
 abbrev pub call_at : (name bytes : List ℕ) → Option (Form × List ℕ)
 call_at name bytes =
     if bytes_eq name (codes "insert") then insert_at bytes else
     (if bytes_eq name (codes "goto-char") then goto_at bytes else
-    (if bytes_eq name (codes "delete-region") then delete_at bytes else None))
+    (if bytes_eq name (codes "delete-region") then delete_at bytes else
+    (if bytes_eq name (codes "start-process") then start_at bytes else
+    (if bytes_eq name (codes "accept-process-output") then accept_at bytes else None))))
 
 -- the first form, and what follows it
 unfoldable pub form_at : List ℕ → Option (Form × List ℕ)

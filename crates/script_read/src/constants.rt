@@ -1,10 +1,11 @@
 //! Strings and numbers.
-ghost use Rattle.std.specs.Prelude.{◌≡◌, ◌<◌, ◌≤◌, ◌^◌, true, length, option_map, IfSome};
+ghost use Rattle.std.specs.Prelude.{◌≡◌, ◌<◌, ◌≤◌, ◌^◌, true, length, codes, option_map, IfSome, if◌then◌else◌};
 ghost use Rattle.std.specs.List.{list_all};
+ghost use Rattle.std.specs.Str.{bytes_eq};
 ghost use Rattle.plain_machine.specs.Words.{is_digit, are_digits, digits_value};
-ghost use Rattle.script_read.specs.Reading.{inside_of, digits_of, number_of, string_at, number_at};
+ghost use Rattle.script_read.specs.Reading.{inside_of, digits_of, number_of, string_at, number_at, buffer_at};
 
-use crate::words::word;
+use crate::words::{expect, word};
 
 /// What stands between the quotes of a string.
 fn inside(word: &[u8]) -> Option<&[u8]>
@@ -88,4 +89,26 @@ pub fn number(bytes: &[u8]) -> Option<(i64, &[u8])>
         Some(n) => Some((n, rest)),
         None => None,
     }
+}
+
+fn scratch(name: &[u8]) -> Option<&[u8]>
+    ensures { option_map (λ n. n.now) result ≡ (if bytes_eq name.now (codes "*scratch*") then Some name.now else None) }
+{
+    if name == b"*scratch*".as_slice() {
+        Some(name)
+    } else {
+        None
+    }
+}
+
+/// The buffer of a child, and what follows it: `nil`, or the string `"*scratch*"`.
+pub fn buffer(bytes: &[u8]) -> Option<(Option<&[u8]>, &[u8])>
+    ensures { option_map (λ b. (option_map (λ name. name.now) b.0, b.1.now)) result ≡ buffer_at bytes.now }
+{
+    if let Some(rest) = expect(b"nil", bytes) {
+        return Some((None, rest));
+    }
+    let (name, rest) = string(bytes)?;
+    let name = scratch(name)?;
+    Some((Some(name), rest))
 }

@@ -1,6 +1,9 @@
-//! Scripts from bytes: the calls of `insert`, `goto-char` and `delete-region` on constants, with blanks between them.
+//! Scripts from bytes: the calls of `insert`, `goto-char`, `delete-region`, `start-process` and `accept-process-output` on
+//! constants, with blanks between them. A script starts at most one child.
 #![tactic(auto)]
 
+mod calls;
+mod children;
 mod constants;
 mod forms;
 mod laws;

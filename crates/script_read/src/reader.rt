@@ -6,7 +6,7 @@ ghost use Rattle.ek_call.specs.Meaning.{form_of, joined, script_of};
 ghost use Rattle.script_read.specs.GrammarSoFar.{IsScriptSoFar, IsNoScript};
 ghost use Rattle.script_read.specs.Reading.{skipped, Reads};
 
-use crate::forms::form;
+use crate::forms::{count_starts, form};
 use crate::words::skip;
 use ek_call::{Forms, Script};
 use ek_types::{ListOf, Mem, NoMemory, Symbols};
@@ -57,8 +57,8 @@ fn forms(alloc: Global, bytes: &[u8]) -> Mem<Option<Forms>>
     Ok(Some(read))
 }
 
-/// The script that the bytes are. What is no script of the grammar so far, or has more than `LONGEST_SCRIPT` bytes, is
-/// refused with line 0.
+/// The script that the bytes are. What is no script of the grammar so far, starts more than one child, or has more than
+/// `LONGEST_SCRIPT` bytes, is refused with line 0.
 pub fn read(alloc: Global, bytes: &[u8]) -> Result<Script, ScriptFault>
     ensures script { IfOk result (λ script. IsScriptSoFar bytes.now (script_of script)) }
     ensures line { (n : ℕ) → result ≡ Err (ScriptFault.Line n) → (n ≡ 0) × IsNoScript bytes.now }
@@ -70,6 +70,9 @@ pub fn read(alloc: Global, bytes: &[u8]) -> Result<Script, ScriptFault>
     let Some(forms) = forms(alloc, bytes)? else {
         return Err(ScriptFault::Line(0));
     };
+    if count_starts(&forms) > 1 {
+        return Err(ScriptFault::Line(0));
+    }
     let symbols = Symbols::new(alloc)?;
     Ok(Script {
         symbols,

@@ -2,6 +2,8 @@ use super::*;
 use ek_call::{Arg, Call, Form, Prim, Value};
 use std::test::Fail;
 
+mod children;
+
 /// Texts of the grammar.
 const SCRIPTS: [&str; 32] = [
     "",
@@ -152,7 +154,13 @@ fn other_texts_are_refused(rt: HostRuntime) {
 
 #[test]
 fn a_form_that_is_cut_is_refused(rt: HostRuntime) {
-    for whole in ["(insert \"ab\")", "(goto-char 12)", "(delete-region 12 -3)"] {
+    for whole in [
+        "(insert \"ab\")",
+        "(goto-char 12)",
+        "(delete-region 12 -3)",
+        "(start-process \"c\" nil \"cat\" \"-u\")",
+        "(accept-process-output nil 12)",
+    ] {
         let bytes = whole.as_bytes();
         for kept in 1..bytes.len() {
             assert_eq!(rt;

@@ -1,74 +1,41 @@
-use Rattle.std.proofs.Common.{map, refl, arith, []}
-use Rattle.std.proofs.lemmas.Bool.{false≢true}
-use Rattle.std.proofs.lemmas.List.{length-map}
-use Rattle.ek_types.specs.Listing.{items_of}
-use Rattle.ek_call.specs.Meaning.{form_of, script_of}
-use Rattle.plain_machine.specs.State.{new_state}
-use Rattle.editor_model.specs.Editor.{new_undo}
-use Rattle.kernel_top.proofs.SoFar.{form_at, mapped_at}
-use Rattle.kernel_top.proofs.Scripts.{so_far_start, so_far_more, stopped_between, stopped_writing, ran_all, stopped_dumping, no_fault_in_reply, no_fault_in_dump}
+use Rattle.std.proofs.Common.{◌≡◌, [], ◌∷◌, sym, ap, refl, subst, arith, List}
+use Rattle.editor_model.specs.Editor.{empty_buffer}
+use Rattle.editor_model.specs.Values.{NoForms}
+use Rattle.plain_machine.specs.State.{Process}
+use Rattle.plain_machine.specs.Run.{start}
+use Rattle.plain_machine.specs.Items.{Top}
+use Rattle.process_table.specs.Table.{StandsFor}
+use Rattle.ek_call.specs.Meaning.{script_of}
+use Rattle.kernel_top.specs.Plain.{Kernel, new_kernel}
+use Rattle.kernel_top.specs.Outside.{outside}
+use Rattle.kernel_top.specs.Outcomes.{program_for}
+use Rattle.kernel_top.specs.Standing.{stands_at, working, Comes}
+use Rattle.kernel_top.proofs.Running.{ran, stopped, room_was_enough}
 use Rattle.kernel_top.proofs.forms.run_script.Goals as goal
 
-pub loop-i-init : goal.loop-i-init
-loop-i-init g c = rw c.new-core.ensures (so_far_start (script_of c.args.script.now) (map form_of (items_of c.args.script.now.forms)) refl (g.K.Sink.state c.args.sink.now))
-
-pub run_form-requires : goal.run_form-requires
-run_form-requires g c = form_at (items_of c.args.script.now.forms) c.loop-i.i c.at.result.now c.requires c.at.ensures
-
-pub returns-in_default-clause-err : goal.returns-in_default-clause-err
-returns-in_default-clause-err g c =
-    stopped_between (script_of c.args.script.now) (map form_of (items_of c.args.script.now.forms)) refl c.loop-i.i c.loop-i.core _ _ _ c.loop-i.invariant
-
-pub returns-in_default-reply-clause-err : goal.returns-in_default-reply-clause-err
-returns-in_default-reply-clause-err g c =
-    stopped_writing (script_of c.args.script.now) (map form_of (items_of c.args.script.now.forms)) refl c.loop-i.i (form_of c.at.result.now) c.loop-i.core c.run_form.new.core c.in-Ok.answer c.in_default-reply.field-0 _ _ _ _
-    (mapped_at form_of (items_of c.args.script.now.forms) c.loop-i.i c.at.result.now c.at.ensures) c.in-Ok.ensures.ok c.loop-i.invariant c.in_default-reply.ensures
-    (λ unfaulted. unfaulted (omega (arith, c.loop-i.invariant.later, (c.in_default-reply.ensures [] new_state).rose)))
-
-pub returns-in_default-reply-clause-cause : goal.returns-in_default-reply-clause-cause
-returns-in_default-reply-clause-cause g c = record {
-  later = omega (arith, c.loop-i.invariant.later, (c.in_default-reply.ensures [] new_state).later);
-  rose = λ failed. omega (arith, c.loop-i.invariant.later, (c.in_default-reply.ensures [] new_state).rose);
-}
-
-pub loop-i-preserved : goal.loop-i-preserved
-loop-i-preserved g c =
-    so_far_more (script_of c.args.script.now) (map form_of (items_of c.args.script.now.forms)) refl c.loop-i.i (form_of c.at.result.now) c.loop-i.core c.run_form.new.core c.in-Ok.answer c.in-Ok-reply.field-0 _ _ _
-    (mapped_at form_of (items_of c.args.script.now.forms) c.loop-i.i c.at.result.now c.at.ensures) c.in-Ok.ensures.ok c.loop-i.invariant c.in-Ok-reply.ensures
-
-pub returns-in-Ok-dump-clause-ok : goal.returns-in-Ok-dump-clause-ok
-returns-in-Ok-dump-clause-ok g c =
-    ran_all (script_of c.args.script.now) (map form_of (items_of c.args.script.now.forms)) refl c.loop-i.i c.loop-i.core c.in-Ok-dump.field-0 _ _ _ (rw length-map (omega arith)) c.loop-i.invariant c.in-Ok-dump.ensures
-
-pub returns-in-Ok-dump-clause-cause : goal.returns-in-Ok-dump-clause-cause
-returns-in-Ok-dump-clause-cause g c = record {
-  later = omega (arith, c.loop-i.invariant.later, (c.in-Ok-dump.ensures [] new_undo).later);
-  rose = λ failed. absurd (let never = failed in cc);
-}
+pub returns-clause-ok : goal.returns-clause-ok
+returns-clause-ok g c =
+    let script = script_of c.args.script.now in
+    let o = outside (g.K.Sink.state c.args.sink.now) (g.H.Host.state c.args.host.now) in
+    let n = outside (g.K.Sink.state c.finish.new.sink) (g.H.Host.state c.finish.new.host) in
+    let none : StandsFor c.new-kernel.result.beside.processes [] = ap (λ (k : Kernel). k.beside.processes) c.new-kernel.ensures in
+    let came = c.run_forms-ran.ensures.comes (program_for script) empty_buffer.undo [] none in
+    ran script o n c.finish.result (c.finish.ensures.over (program_for script) o (start script) (rw c.new-kernel.ensures at came))
 
 pub returns-clause-err : goal.returns-clause-err
 returns-clause-err g c =
-    stopped_dumping (script_of c.args.script.now) (map form_of (items_of c.args.script.now.forms)) refl c.loop-i.i c.loop-i.core c.in-Err.field-0 _ _ _ _ (rw length-map (omega arith)) c.loop-i.invariant c.in-Err.ensures
-    (λ unfaulted. unfaulted (omega (arith, c.loop-i.invariant.later, (c.in-Err.ensures [] new_undo).rose)))
-
-pub returns-clause-cause : goal.returns-clause-cause
-returns-clause-cause g c = record {
-  later = omega (arith, c.loop-i.invariant.later, (c.in-Err.ensures [] new_undo).later);
-  rose = λ failed. omega (arith, c.loop-i.invariant.later, (c.in-Err.ensures [] new_undo).rose);
-}
-
-pub returns-in_default-clause-roomy : goal.returns-in_default-clause-roomy
-returns-in_default-clause-roomy g c = λ few. (c.loop-i.invariant.roomy few).faults
-
-pub returns-in_default-reply-clause-roomy : goal.returns-in_default-reply-clause-roomy
-returns-in_default-reply-clause-roomy g c = λ few.
-    absurd (no_fault_in_reply (script_of c.args.script.now) (map form_of (items_of c.args.script.now.forms)) refl c.loop-i.i (form_of c.at.result.now) c.loop-i.core c.run_form.new.core c.in-Ok.answer c.in_default-reply.field-0 _ _ _
-    (mapped_at form_of (items_of c.args.script.now.forms) c.loop-i.i c.at.result.now c.at.ensures) c.in-Ok.ensures.ok c.loop-i.invariant c.in_default-reply.ensures few)
-
-pub returns-in-Ok-dump-clause-roomy : goal.returns-in-Ok-dump-clause-roomy
-returns-in-Ok-dump-clause-roomy g c = λ few.
-    (no_fault_in_dump (script_of c.args.script.now) (map form_of (items_of c.args.script.now.forms)) refl c.loop-i.i c.loop-i.core _ _ _ _ (rw length-map (omega arith)) c.loop-i.invariant c.in-Ok-dump.ensures few).1
+    let script = script_of c.args.script.now in
+    let o = outside (g.K.Sink.state c.args.sink.now) (g.H.Host.state c.args.host.now) in
+    let n = outside (g.K.Sink.state c.finish.new.sink) (g.H.Host.state c.finish.new.host) in
+    let none : StandsFor c.new-kernel.result.beside.processes [] = ap (λ (k : Kernel). k.beside.processes) c.new-kernel.ensures in
+    let came = c.run_forms-ran.ensures.comes (program_for script) empty_buffer.undo [] none in
+    stopped script o n c.finish.result (c.kills_are_left.ensures (program_for script) 16 script) (c.finish.ensures.over (program_for script) o (start script) (rw c.new-kernel.ensures at came))
 
 pub returns-clause-roomy : goal.returns-clause-roomy
-returns-clause-roomy g c = λ few.
-    absurd (false≢true (no_fault_in_dump (script_of c.args.script.now) (map form_of (items_of c.args.script.now.forms)) refl c.loop-i.i c.loop-i.core _ _ _ _ (rw length-map (omega arith)) c.loop-i.invariant c.in-Err.ensures few).0)
+returns-clause-roomy g c =
+    let script = script_of c.args.script.now in
+    let o = outside (g.K.Sink.state c.args.sink.now) (g.H.Host.state c.args.host.now) in
+    let n = outside (g.K.Sink.state c.finish.new.sink) (g.H.Host.state c.finish.new.host) in
+    let none : StandsFor c.new-kernel.result.beside.processes [] = ap (λ (k : Kernel). k.beside.processes) c.new-kernel.ensures in
+    let came = c.run_forms-ran.ensures.comes (program_for script) empty_buffer.undo [] none in
+    room_was_enough script o n c.finish.result (c.finish.ensures.over (program_for script) o (start script) (rw c.new-kernel.ensures at came))

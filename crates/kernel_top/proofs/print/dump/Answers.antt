@@ -1,15 +1,19 @@
-use Rattle.std.proofs.Common.{◌+◌, ap}
-use Rattle.std.specs.Prelude.{codes, decimal, if◌then◌else◌}
+use Rattle.std.proofs.Common.{◌++◌, ap, subst, ◌∙◌}
 use Rattle.ek_types.proofs.Printing.{continues_then, continues_same, writes_of}
+use Rattle.kernel_top.specs.Plain.{IsSound}
+use Rattle.kernel_top.specs.Printed.{buffer_words, marker_lines, process_lines}
 use Rattle.kernel_top.proofs.Dumped.{dumped}
 use Rattle.kernel_top.proofs.print.dump.Goals as goal
 
-pub returns : goal.returns
-returns g c =
-    let point = continues_same (ap (λ n. decimal (n + 1)) c.point.ensures.exact) c.put_count-b.ensures in
-    let size = continues_same (ap (λ n. decimal (n + 1)) c.len.ensures.exact) c.put_count-d.ensures in
-    let flag = continues_same (ap (λ m. if m then codes "t" else codes "nil") c.is_modified.ensures) c.put_flag-f.ensures in
-    λ symbols u.
-    writes_of (continues_same (dumped symbols c.args.core.now u)
-    (continues_then c.put-a.ensures (continues_then point (continues_then c.put-c.ensures (continues_then size (continues_then c.put-e.ensures
-    (continues_then flag (continues_then c.put-g.ensures (continues_then c.put_quoted-h.ensures c.put.ensures)))))))))
+pub returns-clause-lines : goal.returns-clause-lines
+returns-clause-lines g c =
+    let sound : IsSound c.args.kernel.now = subst IsSound c.kernel.view_is c.kernel.invariant in
+    λ symbols u all stands.
+    writes_of (continues_same (ap (λ k. buffer_words k.content ++ (marker_lines c.args.kernel.now.beside.markers ++ process_lines k.beside.processes)) c.kernel.view_is ∙ dumped symbols c.args.kernel.now u all sound.within stands)
+    (continues_then c.put_buffer-buffer.ensures (continues_then c.put_markers-markers.ensures c.put_processes.ensures)))
+
+pub returns-clause-later : goal.returns-clause-later
+returns-clause-later g c = (writes_of (continues_then c.put_buffer-buffer.ensures (continues_then c.put_markers-markers.ensures c.put_processes.ensures))).later
+
+pub returns-clause-rose : goal.returns-clause-rose
+returns-clause-rose g c = (writes_of (continues_then c.put_buffer-buffer.ensures (continues_then c.put_markers-markers.ensures c.put_processes.ensures))).rose

@@ -18,4 +18,4 @@ returns-clause-exact c =
     let kept = ap (take (c.len.result - (to - from))) held ∙ ap (λ n. take (n - (to - from)) c.put_behind.new.text) left ∙ out in
     let text : map ch_of c.truncate.new.self.items ≡ take from (map ch_of xs) ++ drop to (map ch_of xs) =
     ap (map ch_of) (c.truncate.ensures.items ∙ kept) ∙ map-append ch_of (take from xs) (drop to xs) ∙ ap (λ l. l ++ map ch_of (drop to xs)) (sym (take-map ch_of from xs)) ∙ ap (λ l. take from (map ch_of xs) ++ l) (sym (drop-map ch_of to xs)) in
-    rw (← c.self.view_is) (same_content text c.after_deletion-self-inside.ensures)
+    rw (← c.self.view_is) (same_content text c.place_after_delete-self-inside.ensures)

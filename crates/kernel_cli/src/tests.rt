@@ -1,0 +1,139 @@
+use super::*;
+use ek_types::{MemorySink, MemorySource};
+use std::test::Fail;
+
+/// What a run with real children writes.
+fn written(rt: &HostRuntime, script: &str) -> Result<(Status, Vec<u8>), Fail> {
+    let alloc = rt.alloc();
+    let mut words = Vec::new(alloc);
+    words.push(String::from_str(alloc, "run")?)?;
+    let bytes = script.as_bytes().to_vec(alloc)?;
+    let mut source = MemorySource::new(bytes, 1000, Vec::new(alloc));
+    let mut sink = MemorySink::new(alloc, 4_000_000, 1000, Vec::new(alloc))?;
+    let mut host = RealHost::new(alloc, rt);
+    let status = run(alloc, words.as_slice(), &mut source, &mut sink, &mut host);
+    Ok((status, sink.bytes().to_vec(alloc)?))
+}
+
+#[test]
+fn a_child_is_heard_out(rt: HostRuntime) -> Result<(), Fail> {
+    let script =
+        "(start-process \"c\" \"*scratch*\" \"printf\" \"ab\")(accept-process-output)(accept-process-output)";
+    let (status, bytes) = written(&rt, script)?;
+    assert_eq!(rt; status, Status::Done);
+    assert_eq!(rt;
+        bytes.as_slice(),
+        b"= #<process c>
+> filter default #<process c> \"ab\"
+< default
+= t
+> sentinel default #<process c> \"finished\\n\"
+< default
+= nil
+buffer *scratch* point 23 min 1 max 23 modified t current
+text \"ab\\nProcess c finished\\n\"
+marker 0 #<marker at 23 in *scratch*>
+process 0 #<process c> exit 0
+"
+            .as_slice()
+    );
+    Ok(())
+}
+
+/// Shells with no output: their scripts, what the sentinel is told, the end of the text, and how they ended.
+const SILENT: [(&str, &str, &str, &str); 3] = [
+    ("exit 3", "exited abnormally with code 3", "42", "exit 3"),
+    (
+        "exec >&-; sleep 0.2; exit 3",
+        "exited abnormally with code 3",
+        "42",
+        "exit 3",
+    ),
+    ("kill -9 $$", "killed", "19", "signal nil"),
+];
+
+#[test]
+fn an_end_is_told(rt: HostRuntime) -> Result<(), Fail> {
+    for (shell, told, end, ended) in SILENT {
+        let script = format!(in rt.alloc();
+            "(start-process \"c\" \"*scratch*\" \"sh\" \"-c\" \"{shell}\")(accept-process-output)"
+        )?;
+        let want = format!(in rt.alloc();
+            "= #<process c>
+> sentinel default #<process c> \"{told}\\n\"
+< default
+= nil
+buffer *scratch* point {end} min 1 max {end} modified t current
+text \"\\nProcess c {told}\\n\"
+marker 0 #<marker at {end} in *scratch*>
+process 0 #<process c> {ended}
+"
+        )?;
+        let (status, bytes) = written(&rt, script.as_str())?;
+        assert_eq!(rt; status, Status::Done, "{shell}");
+        assert_eq!(rt; bytes.as_slice(), want.as_bytes(), "{shell}");
+    }
+    Ok(())
+}
+
+#[test]
+fn a_child_that_is_not_waited_for_is_killed(rt: HostRuntime) -> Result<(), Fail> {
+    let (status, bytes) = written(&rt, "(start-process \"c\" nil \"yes\")(insert \"a\")")?;
+    assert_eq!(rt; status, Status::Done);
+    assert_eq!(rt;
+        bytes.as_slice(),
+        b"= #<process c>
+= nil
+kill #<process c>
+buffer *scratch* point 2 min 1 max 2 modified t current
+text \"a\"
+marker 0 #<marker in no buffer>
+process 0 #<process c> run 0
+"
+            .as_slice()
+    );
+    Ok(())
+}
+
+#[test]
+fn a_program_that_is_not_there_leaves_no_process(rt: HostRuntime) -> Result<(), Fail> {
+    let script =
+        "(start-process \"c\" \"*scratch*\" \"no-such-program\")(accept-process-output)(accept-process-output nil 1)";
+    let (status, bytes) = written(&rt, script)?;
+    assert_eq!(rt; status, Status::Done);
+    assert_eq!(rt;
+        bytes.as_slice(),
+        b"! 12 spawn-failed
+= nil
+= nil
+buffer *scratch* point 1 min 1 max 1 modified nil current
+text \"\"
+"
+            .as_slice()
+    );
+    Ok(())
+}
+
+/// How the child's output is cut is not known, so the text of the buffer alone is compared.
+#[test]
+fn a_long_output_is_read_to_its_end(rt: HostRuntime) -> Result<(), Fail> {
+    let mut script = String::from_str(
+        rt.alloc(),
+        "(start-process \"c\" \"*scratch*\" \"printf\" \"%1048576s\")",
+    )?;
+    for _ in 0..1000 {
+        script.push_str("(accept-process-output)")?;
+    }
+    let mut want = String::from_str(
+        rt.alloc(),
+        "buffer *scratch* point 1048597 min 1 max 1048597 modified t current\ntext \"",
+    )?;
+    want.push_str(" ".repeat(rt.alloc(), 1_048_576)?.as_str())?;
+    want.push_str(
+        "\\nProcess c finished\\n\"\nmarker 0 #<marker at 1048597 in *scratch*>\nprocess 0 #<process c> exit 0\n",
+    )?;
+    let (status, bytes) = written(&rt, script.as_str())?;
+    assert_eq!(rt; status, Status::Done);
+    assert!(rt; bytes.ends_with(want.as_bytes()));
+    Ok(())
+}

@@ -1,0 +1,222 @@
+-- The end of a run: which children are left, and how the machine kills them.
+use Rattle.std.proofs.Common.{◌≡◌, ℕ, zero, suc, ◌+◌, ◌<◌, ◌≤◌, Bool, true, false, List, [], ◌∷◌, ◌++◌, map, filter, length, drop, All, slice_get, slice_set, refl, ap, sym, ◌∙◌, subst, Ok, Err, Result, arith, append-nil, append_assoc}
+use Rattle.std.specs.Prelude.{Some, None, if◌then◌else◌, nat_lt, ◌==◌}
+use Rattle.std.specs.declared.option.Option.{Option}
+use Rattle.std.proofs.lemmas.Bool.{lt-ltb, false≢true}
+use Rattle.std.proofs.lemmas.List.{drop_more}
+use Rattle.std.proofs.lemmas.Option.{slice_get_within, get_or_from_slice_get}
+use Rattle.text_model.specs.Properties.{insert_name}
+use Rattle.plain_machine.specs.Exchanges.{rising}
+use Rattle.plain_machine.specs.State.{Process}
+use Rattle.plain_machine.specs.Arguments.{runs}
+use Rattle.plain_machine.specs.Exchanges.{Exchange, Answer, Kill}
+use Rattle.plain_machine.specs.State.{State, Status, Runs, Exited, Signalled, Lost, Program}
+use Rattle.plain_machine.specs.Lines.{KilledLast, line}
+use Rattle.plain_machine.specs.Items.{Finish, Said, Config, Next, Asks}
+use Rattle.plain_machine.specs.Calls.{on}
+use Rattle.plain_machine.specs.Forms.{says}
+use Rattle.plain_machine.specs.Waits.{kill_answer, finish_one, finish_running}
+use Rattle.plain_machine.specs.Step.{step}
+use Rattle.plain_machine.specs.Run.{Reaches, stays, goes}
+use Rattle.plain_machine.specs.WholeRuns.{AreKills}
+use Rattle.text_model.specs.Undo.{Undo}
+use Rattle.std.proofs.lemmas.List.{drop-map}
+use Rattle.process_table.specs.Table.{StandsFor, kept}
+use Rattle.machine_laws.specs.Children.{to_kill}
+use Rattle.host_link.specs.Hosts.{HostState, Exchanged}
+use Rattle.host_link.specs.Hosts.{kill_answer as told_kill}
+use Rattle.host_link.specs.declared.host.KillAnswer.{KillAnswer}
+use Rattle.host_link.specs.declared.host.KillAnswer.TheVariants as killed
+use Rattle.ek_types.specs.Io.{SinkState}
+use Rattle.kernel_top.specs.Plain.{Kernel}
+use Rattle.kernel_top.specs.Outside.{deepest, Outside, outside, Breaks}
+use Rattle.kernel_top.specs.Standing.{stands_at, working, unmade, with_unmade, Hosted, children, running}
+use Rattle.kernel_top.specs.Ending.{Halts}
+use Rattle.kernel_top.specs.declared.answer.Stop.{Stop}
+use Rattle.kernel_top.proofs.Journeys.{tells_then}
+use Rattle.kernel_top.proofs.Output.{Stood, stood, running_alike}
+
+pub drop_at : {X : Type 0} (xs : List X) (i : ℕ) (x : X) → slice_get xs i ≡ Some x → drop i xs ≡ x ∷ drop (i + 1) xs
+drop_at xs i x h = drop_more xs i x (slice_get_within xs i x h) ∙ ap (λ y. y ∷ drop (i + 1) xs) (get_or_from_slice_get xs i x x h)
+
+-- CHILDREN BY RISING NUMBER
+abbrev Below : ℕ → List ℕ → Type 0
+Below n [] = Unit {0}
+Below n (c ∷ cs) = (n < c) × Below n cs
+
+abbrev AreRising : List ℕ → Type 0
+AreRising [] = Unit {0}
+AreRising (c ∷ cs) = Below c cs × AreRising cs
+
+below_running : (n : ℕ) (list : List Process) → All (λ (y : Process). n < y.child) list → Below n (children (running list))
+below_running n [] all = tt
+below_running n (x ∷ list) all =
+    by (runs x.status) (all 0 x (omega arith)) (below_running n list (λ i d h. all (suc i) d (omega (arith, h))))
+  where
+    by : (b : Bool) → n < x.child → Below n (children (running list)) → Below n (children (if b then x ∷ running list else running list))
+    by true first rest = (first, rest)
+    by false first rest = rest
+
+rising_running : (list : List Process) (kills : List Bool) → Hosted list kills → AreRising (children (running list))
+rising_running [] kills h = tt
+rising_running (x ∷ list) kills (small, lives, later, rest) = by (runs x.status) (below_running x.child list later) (rising_running list kills rest)
+  where
+    by : (b : Bool) → Below x.child (children (running list)) → AreRising (children (running list)) → AreRising (children (if b then x ∷ running list else running list))
+    by true below rest = (below, rest)
+    by false below rest = rest
+
+front : (c : ℕ) (cs : List ℕ) → Below c cs → insert_name c cs ≡ c ∷ cs
+front c [] h = refl
+front c (d ∷ cs) (less, rest) = rw (lt-ltb c d less) refl
+
+sorted : (cs : List ℕ) → AreRising cs → rising cs ≡ cs
+sorted [] h = refl
+sorted (c ∷ cs) (below, rest) = ap (insert_name c) (sorted cs rest) ∙ front c cs below
+
+pub sorted_children : (list : List Process) (kills : List Bool) → Hosted list kills → rising (children (running list)) ≡ children (running list)
+sorted_children list kills h = sorted (children (running list)) (rising_running list kills h)
+
+-- KILLS
+get_other : (xs : List Bool) (i j : ℕ) (x : Bool) → i < j → slice_get (slice_set xs i x) j ≡ slice_get xs j
+get_other [] i j x h = refl
+get_other (z ∷ xs) zero zero x h = absurd (omega (arith, h))
+get_other (z ∷ xs) zero (suc j) x h = refl
+get_other (z ∷ xs) (suc i) zero x h = absurd (omega (arith, h))
+get_other (z ∷ xs) (suc i) (suc j) x h = get_other xs i j x (omega (arith, h))
+
+set_size : (xs : List Bool) (i : ℕ) (x : Bool) → length (slice_set xs i x) ≡ length xs
+set_size [] i x = refl
+set_size (z ∷ xs) zero x = refl
+set_size (z ∷ xs) (suc i) x = ap suc (set_size xs i x)
+
+pub hosted_below : (child : ℕ) (list : List Process) (kills : List Bool) → All (λ (y : Process). child < y.child) list → Hosted list kills → Hosted list (slice_set kills child true)
+hosted_below child [] kills all h = tt
+hosted_below child (x ∷ list) kills all (small, lives, later, rest) = (
+  omega (arith, small, set_size kills child true),
+  (λ r. get_other kills child x.child true (all 0 x (omega arith)) ∙ lives r),
+  later,
+  hosted_below child list kills (λ i d h. all (suc i) d (omega (arith, h))) rest,
+)
+
+pub hosted_killed : (x : Process) (list : List Process) (kills : List Bool) → Hosted (x ∷ list) kills → Hosted list (slice_set kills x.child true)
+hosted_killed x list kills (small, lives, later, rest) = hosted_below x.child list kills later rest
+
+pub first_lives : (x : Process) (list : List Process) (kills : List Bool) → Hosted (x ∷ list) kills → runs x.status ≡ true → slice_get kills x.child ≡ Some false
+first_lives x list kills (small, lives, later, rest) r = lives r
+
+-- HALTED RUNS
+more_kills : (done : List ℕ) (kills : List Exchange) (c : ℕ) (answer : Answer) → AreKills done kills → AreKills (done ++ c ∷ []) (kills ++ record { ask = Kill c; answer = answer } ∷ [])
+more_kills [] [] c answer h = (refl, tt)
+more_kills [] (x ∷ kills) c answer h = absurd h
+more_kills (d ∷ done) [] c answer h = absurd h
+more_kills (d ∷ done) (x ∷ kills) c answer (first, rest) = (first, more_kills done kills c answer rest)
+
+pub halts_kill : (program : Program) (before : Outside) (sink : SinkState) (old new : HostState) (from : Config) (list : List Bool) (c : ℕ) (left : List ℕ) (answer : Answer) → Exchanged old new list (Kill c) answer → Halts program before (outside sink old) from (c ∷ left) → Halts program before (outside sink new) from left
+halts_kill program before sink old new from list c left answer x h = record {
+  made = h.made;
+  kills = h.kills ++ record { ask = Kill c; answer = answer } ∷ [];
+  said = h.said;
+  last = h.last;
+  run = h.run;
+  between = h.between;
+  bytes = h.bytes;
+  front = h.front;
+  written = h.written;
+  told = rw (append_assoc h.made h.kills (record { ask = Kill c; answer = answer } ∷ [])) at (tells_then before.host.told old.told new.told (h.made ++ h.kills) (record { ask = Kill c; answer = answer } ∷ []) h.told x.told);
+  later = h.later;
+  whole = h.whole;
+  roomy = h.roomy;
+  done = h.done ++ c ∷ [];
+  killed = more_kills h.done h.kills c answer h.killed;
+  living = h.living ∙ sym (append_assoc h.done (c ∷ []) left);
+}
+
+pub halts_as : (program : Program) (before now : Outside) (from : Config) (left more : List ℕ) → left ≡ more → Halts program before now from left → Halts program before now from more
+halts_as program before now from left more e h = subst (Halts program before now from) e h
+
+-- broken off, with no kill made yet
+pub halts_of : (program : Program) (before now : Outside) (from : Config) (left : List ℕ) (b : Breaks program before now from) → to_kill b.last ≡ left → Halts program before now from left
+halts_of program before now from left b e = record {
+  made = b.made;
+  kills = [];
+  said = b.said;
+  last = b.last;
+  run = b.run;
+  between = b.between;
+  bytes = b.bytes;
+  front = b.front;
+  written = b.written;
+  told = rw append-nil b.told;
+  later = b.later;
+  whole = b.whole;
+  roomy = b.roomy;
+  done = [];
+  killed = tt;
+  living = e;
+}
+
+-- THE PROCESS OF A NUMBER
+module _ (list : List Process) (p : ℕ) (x : Process) (made : slice_get list p ≡ Some x) (more : List Process) where
+  split : drop p list ++ more ≡ x ∷ (drop (p + 1) list ++ more)
+  split = ap (λ l. l ++ more) (drop_at list p x made)
+
+  pub left_skip : runs x.status ≡ false → children (running (drop p list ++ more)) ≡ children (running (drop (p + 1) list ++ more))
+  left_skip e = ap (λ l. children (running l)) split ∙ ap (λ b. children (if b then x ∷ running (drop (p + 1) list ++ more) else running (drop (p + 1) list ++ more))) e
+
+  pub left_kill : runs x.status ≡ true → children (running (drop p list ++ more)) ≡ x.child ∷ children (running (drop (p + 1) list ++ more))
+  left_kill e = ap (λ l. children (running l)) split ∙ ap (λ b. children (if b then x ∷ running (drop (p + 1) list ++ more) else running (drop (p + 1) list ++ more))) e
+
+  pub hosted_split : (kills : List Bool) → Hosted (drop p list ++ more) kills → Hosted (x ∷ (drop (p + 1) list ++ more)) kills
+  hosted_split kills h = subst (λ l. Hosted l kills) split h
+
+pub split_unmade : {T : Type 0} (so_far : Result T Stop) (list : List Process) → (us : List Process) × (with_unmade so_far list ≡ list ++ us)
+split_unmade (Ok x) list = ([], sym (append-nil list))
+split_unmade (Err why) list = (unmade why, refl)
+
+-- THE MACHINE'S STEPS
+module _ (program : Program) (k : Kernel) (v : Undo) (all : List Process) (stands : StandsFor k.beside.processes all) (p : ℕ) (x : Process) (made : slice_get k.beside.processes p ≡ Some x) where
+  abbrev s : State
+  s = stands_at k v all
+
+  abbrev pub finishing : ℕ → Config
+  finishing n = working s (Finish n ∷ [])
+
+  y : Stood x all p
+  y = stood k.beside.processes all p x stands made
+
+  found : step program deepest (finishing p) ≡ finish_running program x.status s p y.one
+  found = ap (λ o. finish_one program s p o) y.found ∙ ap (λ (z : Process). finish_running program z.status s p y.one) y.same
+
+  by_status : (status : Status) → runs status ≡ false → finish_running program status s p y.one ≡ on s (Finish (p + 1) ∷ [])
+  by_status Runs e = absurd (let no : true ≡ false = e in cc)
+  by_status (Exited n) e = refl
+  by_status Signalled e = refl
+  by_status Lost e = refl
+
+  pub skips : runs x.status ≡ false → Reaches program deepest (finishing p) [] [] (finishing (p + 1))
+  skips e = goes (found ∙ by_status x.status e) stays
+
+  abbrev pub killing : Next
+  killing = says program s (KilledLast p) s (Finish (p + 1) ∷ [])
+
+  abbrev pub kill_said : Said
+  kill_said = record { event = KilledLast p; line = line program.symbols s (KilledLast p) }
+
+  by_running_status : (status : Status) → runs status ≡ true → finish_running program status s p y.one ≡ Asks (Kill y.one.child) (kill_answer killing)
+  by_running_status Runs e = refl
+  by_running_status (Exited n) e = absurd (false≢true e)
+  by_running_status Signalled e = absurd (false≢true e)
+  by_running_status Lost e = absurd (false≢true e)
+
+  pub kills_it : runs x.status ≡ true → step program deepest (finishing p) ≡ Asks (Kill x.child) (kill_answer killing)
+  kills_it e = found ∙ by_running_status x.status e ∙ ap (λ (z : Process). Asks (Kill z.child) (kill_answer killing)) y.same
+
+  -- those that are left behind it
+  pub left_behind : (kills : List Bool) → Hosted (drop (p + 1) k.beside.processes) kills → to_kill (finishing (p + 1)) ≡ children (running (drop (p + 1) k.beside.processes))
+  left_behind kills h =
+      let alike : children (running (drop (p + 1) all)) ≡ children (running (drop (p + 1) k.beside.processes)) = running_alike (drop (p + 1) k.beside.processes) (drop (p + 1) all) (ap (λ l. drop (p + 1) l) stands ∙ drop-map kept (p + 1) all) in
+      ap rising alike ∙ sorted_children (drop (p + 1) k.beside.processes) kills h
+
+pub answered_kill : (next : Next) (r : KillAnswer) → kill_answer next (told_kill r) ≡ Some next
+answered_kill next killed.Killed = refl
+answered_kill next killed.Failed = refl

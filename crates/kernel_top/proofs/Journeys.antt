@@ -1,0 +1,198 @@
+-- How what a run does to the outside is put together of its steps.
+use Rattle.std.proofs.Common.{◌≡◌, ◌+◌, List, [], ◌∷◌, ◌++◌, length, Ok, Err, Some, None, sym, ap, ◌∙◌, append-nil, append_assoc, refl, arith, length-append, option_map}
+use Rattle.std.specs.declared.option.Option.{Option}
+use Rattle.std.proofs.KnownBytes.{Appends-nil, Appends-trans}
+use Rattle.std.proofs.lemmas.Bool.{false≢true}
+use Rattle.std.proofs.lemmas.Grind.{flat_map-append}
+use Rattle.plain_machine.specs.Exchanges.{Ask, Answer, Exchange}
+use Rattle.plain_machine.specs.State.{Program}
+use Rattle.plain_machine.specs.Items.{Said, Config, Next, Goes as Steps, Asks}
+use Rattle.plain_machine.specs.Step.{step}
+use Rattle.plain_machine.specs.Run.{Reaches, stays, goes, asks, lines}
+use Rattle.plain_machine.specs.WholeRuns.{IsBetweenEntries}
+use Rattle.plain_machine.proofs.Composed.{reaches_then}
+use Rattle.ek_types.specs.Io.{SinkState, Writes}
+use Rattle.host_link.specs.Hosts.{HostState, Exchanged}
+use Rattle.kernel_top.specs.Outside.{deepest, Outside, outside, Tells, SaysAtMost, HasRoomLeft, Goes, Breaks}
+
+-- LINES
+pub lines_then : (first second : List Said) → lines (first ++ second) ≡ lines first ++ lines second
+lines_then first second = flat_map-append (λ (x : Said). x.line) first second
+
+pub lines_of_one : (x : Said) → lines (x ∷ []) ≡ x.line
+lines_of_one x = append-nil x.line
+
+-- EXCHANGES
+pub tells_nothing : (told : Option (List Exchange)) → Tells told told []
+tells_nothing None = refl
+tells_nothing (Some list) = ap Some (sym (append-nil list))
+
+pub tells_then : (a b c : Option (List Exchange)) (first second : List Exchange) → Tells a b first → Tells b c second → Tells a c (first ++ second)
+tells_then None b c first second h k = rw h at k
+tells_then (Some list) b c first second h k = rw (h, option_map) at k ∙ ap Some (append_assoc list first second)
+
+module _ (program : Program) where
+  -- what is said from a later configuration fits beside what was said before
+  pub left_to_say : (from to : Config) (made : List Exchange) (said : List Said) (before now : SinkState) → Reaches program deepest from made said to → SaysAtMost program from before.room →
+      HasRoomLeft before now (lines said) → SaysAtMost program to now.room
+  left_to_say from to made said before now run few left exchanges more last on =
+      let whole = few (made ++ exchanges) (said ++ more) last (reaches_then program deepest from to last made exchanges said more run on) in
+      let size : length (lines (said ++ more)) ≡ length (lines said) + length (lines more) = ap length (lines_then said more) ∙ length-append (lines said) (lines more) in
+      omega (arith, whole, size, left.room)
+
+  -- STEPS THAT SAY NOTHING
+  pub goes_silently : (o : Outside) (c d : Config) → Reaches program deepest c [] [] d → Goes program o o c d
+  goes_silently o c d run = record {
+    made = [];
+    said = [];
+    run = run;
+    written = Appends-nil o.sink.held;
+    told = tells_nothing o.host.told;
+    later = omega arith;
+    roomy = λ few. record { faults = refl; room = omega arith };
+  }
+
+  pub goes_then : (a b c : Outside) (x y z : Config) → Goes program a b x y → Goes program b c y z → Goes program a c x z
+  goes_then a b c x y z g h = record {
+    made = g.made ++ h.made;
+    said = g.said ++ h.said;
+    run = reaches_then program deepest x y z g.made h.made g.said h.said g.run h.run;
+    written = rw (lines_then g.said h.said) (Appends-trans a.sink.held b.sink.held c.sink.held (lines g.said) (lines h.said) g.written h.written);
+    told = tells_then a.host.told b.host.told c.host.told g.made h.made g.told h.told;
+    later = omega (arith, g.later, h.later);
+    roomy = λ few.
+        let first = g.roomy few in
+        let second = h.roomy (left_to_say x y g.made g.said a.sink b.sink g.run few first) in
+        let size : length (lines (g.said ++ h.said)) ≡ length (lines g.said) + length (lines h.said) = ap length (lines_then g.said h.said) ∙ length-append (lines g.said) (lines h.said) in
+        record { faults = second.faults ∙ first.faults; room = omega (arith, first.room, second.room, size) };
+  }
+
+  -- BREAKING OFF
+  abbrev pub breaks_here : (o : Outside) (c : Config) → IsBetweenEntries c → Breaks program o o c
+  breaks_here o c between = record {
+    made = [];
+    said = [];
+    last = c;
+    run = stays;
+    between = between;
+    bytes = [];
+    front = ([], refl);
+    written = Appends-nil o.sink.held;
+    told = tells_nothing o.host.told;
+    later = omega arith;
+    whole = λ fine. refl;
+    roomy = λ few. refl;
+  }
+
+  abbrev pub goes_breaks : (a b c : Outside) (x y : Config) → Goes program a b x y → Breaks program b c y → Breaks program a c x
+  goes_breaks a b c x y g h = record {
+    made = g.made ++ h.made;
+    said = g.said ++ h.said;
+    last = h.last;
+    run = reaches_then program deepest x y h.last g.made h.made g.said h.said g.run h.run;
+    between = h.between;
+    bytes = lines g.said ++ h.bytes;
+    front = (h.front.0, append_assoc (lines g.said) h.bytes h.front.0 ∙ ap (λ l. lines g.said ++ l) h.front.1 ∙ sym (lines_then g.said h.said));
+    written = Appends-trans a.sink.held b.sink.held c.sink.held (lines g.said) h.bytes g.written h.written;
+    told = tells_then a.host.told b.host.told c.host.told g.made h.made g.told h.told;
+    later = omega (arith, g.later, h.later);
+    whole = λ fine. ap (λ l. lines g.said ++ l) (h.whole (λ rose. fine (omega (arith, g.later, rose)))) ∙ sym (lines_then g.said h.said);
+    roomy = λ few. let first = g.roomy few in h.roomy (left_to_say x y g.made g.said a.sink b.sink g.run few first) ∙ first.faults;
+  }
+
+  -- A LINE
+  one : (c : Config) (n : Next) → step program deepest c ≡ Steps n → Reaches program deepest c [] (n.said ++ []) n.config
+  one c n e = goes e stays
+
+  pub said_one : (c : Config) (n : Next) (x : Said) → step program deepest c ≡ Steps n → n.said ≡ x ∷ [] → Reaches program deepest c [] (x ∷ []) n.config
+  said_one c n x e said = rw (said) at (rw append-nil at (one c n e))
+
+  -- a line that the machine says is written
+  pub says : {T E : Type 0} (old new : SinkState) (host : HostState) (c : Config) (n : Next) (x : Said) (value : T) → step program deepest c ≡ Steps n → n.said ≡ x ∷ [] →
+      Writes {T = T} {E = E} old new (Ok value) x.line → Goes program (outside old host) (outside new host) c n.config
+  says old new host c n x value e said w = record {
+    made = [];
+    said = x ∷ [];
+    run = said_one c n x e said;
+    written = rw (lines_of_one x) w.ok;
+    told = tells_nothing host.told;
+    later = w.later;
+    roomy = λ few.
+        let takes = w.roomy (rw (lines_of_one x) at (few [] (x ∷ []) n.config (said_one c n x e said))) in
+        record { faults = takes.faults; room = rw (lines_of_one x) takes.room };
+  }
+
+  -- or a front of it
+  abbrev pub says_front : {T E : Type 0} (old new : SinkState) (host : HostState) (c : Config) (n : Next) (x : Said) (fault : E) → step program deepest c ≡ Steps n → n.said ≡ x ∷ [] → IsBetweenEntries n.config →
+      Writes {T = T} {E = E} old new (Err fault) x.line → Breaks program (outside old host) (outside new host) c
+  says_front old new host c n x fault e said between w = record {
+    made = [];
+    said = x ∷ [];
+    last = n.config;
+    run = said_one c n x e said;
+    between = between;
+    bytes = w.err.0;
+    front = (w.err.1.0, sym w.err.1.1 ∙ sym (lines_of_one x));
+    written = w.err.2;
+    told = tells_nothing host.told;
+    later = w.later;
+    whole = λ fine. absurd (fine w.rose);
+    roomy = λ few. absurd (false≢true (w.roomy (rw (lines_of_one x) at (few [] (x ∷ []) n.config (said_one c n x e said)))).ok);
+  }
+
+  -- AN EXCHANGE
+  one_asked : (c : Config) (ask : Ask) (answer : Answer) (next : Answer → Option Next) (n : Next) → step program deepest c ≡ Asks ask next → next answer ≡ Some n →
+      Reaches program deepest c (record { ask = ask; answer = answer } ∷ []) n.said n.config
+  one_asked c ask answer next n e k =
+      let run : Reaches program deepest c (record { ask = ask; answer = answer } ∷ []) (n.said ++ []) n.config = asks e k stays in
+      rw append-nil at run
+
+  pub asked : (sink : SinkState) (old new : HostState) (c : Config) (ask : Ask) (answer : Answer) (next : Answer → Option Next) (n : Next) (children : _) →
+      step program deepest c ≡ Asks ask next → next answer ≡ Some n → n.said ≡ [] → Exchanged old new children ask answer → Goes program (outside sink old) (outside sink new) c n.config
+  asked sink old new c ask answer next n children e k said x = record {
+    made = record { ask = ask; answer = answer } ∷ [];
+    said = [];
+    run = rw said at (one_asked c ask answer next n e k);
+    written = Appends-nil sink.held;
+    told = x.told;
+    later = omega arith;
+    roomy = λ few. record { faults = refl; room = omega arith };
+  }
+
+  -- an exchange whose answer is told in a line
+  pub said_asked : (c : Config) (ask : Ask) (answer : Answer) (next : Answer → Option Next) (n : Next) (x : Said) → step program deepest c ≡ Asks ask next → next answer ≡ Some n → n.said ≡ x ∷ [] →
+      Reaches program deepest c (record { ask = ask; answer = answer } ∷ []) (x ∷ []) n.config
+  said_asked c ask answer next n x e k said = rw said at (one_asked c ask answer next n e k)
+
+  pub asked_says : {T E : Type 0} (old new : SinkState) (host_old host_new : HostState) (children : _) (c : Config) (ask : Ask) (answer : Answer) (next : Answer → Option Next) (n : Next) (x : Said) (value : T) →
+      step program deepest c ≡ Asks ask next → next answer ≡ Some n → n.said ≡ x ∷ [] → Exchanged host_old host_new children ask answer → Writes {T = T} {E = E} old new (Ok value) x.line →
+      Goes program (outside old host_old) (outside new host_new) c n.config
+  asked_says old new host_old host_new children c ask answer next n x value e k said exchange w = record {
+    made = record { ask = ask; answer = answer } ∷ [];
+    said = x ∷ [];
+    run = said_asked c ask answer next n x e k said;
+    written = rw (lines_of_one x) w.ok;
+    told = exchange.told;
+    later = w.later;
+    roomy = λ few.
+        let takes = w.roomy (rw (lines_of_one x) at (few (record { ask = ask; answer = answer } ∷ []) (x ∷ []) n.config (said_asked c ask answer next n x e k said))) in
+        record { faults = takes.faults; room = rw (lines_of_one x) takes.room };
+  }
+
+  abbrev pub asked_front : {T E : Type 0} (old new : SinkState) (host_old host_new : HostState) (children : _) (c : Config) (ask : Ask) (answer : Answer) (next : Answer → Option Next) (n : Next) (x : Said) (fault : E) →
+      step program deepest c ≡ Asks ask next → next answer ≡ Some n → n.said ≡ x ∷ [] → IsBetweenEntries n.config → Exchanged host_old host_new children ask answer → Writes {T = T} {E = E} old new (Err fault) x.line →
+      Breaks program (outside old host_old) (outside new host_new) c
+  asked_front old new host_old host_new children c ask answer next n x fault e k said between exchange w = record {
+    made = record { ask = ask; answer = answer } ∷ [];
+    said = x ∷ [];
+    last = n.config;
+    run = said_asked c ask answer next n x e k said;
+    between = between;
+    bytes = w.err.0;
+    front = (w.err.1.0, sym w.err.1.1 ∙ sym (lines_of_one x));
+    written = w.err.2;
+    told = exchange.told;
+    later = w.later;
+    whole = λ fine. absurd (fine w.rose);
+    roomy = λ few. absurd (false≢true (w.roomy (rw (lines_of_one x) at (few (record { ask = ask; answer = answer } ∷ []) (x ∷ []) n.config (said_asked c ask answer next n x e k said)))).ok);
+  }

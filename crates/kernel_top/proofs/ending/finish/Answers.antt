@@ -1,0 +1,13 @@
+use Rattle.std.proofs.Common.{◌≡◌, ℕ, [], ◌∷◌, drop, length, refl, ap, sym, ◌∙◌, subst, arith}
+use Rattle.std.proofs.lemmas.List.{drop_all}
+use Rattle.kernel_top.specs.Outside.{outside}
+use Rattle.kernel_top.specs.Standing.{Hosted, with_unmade}
+use Rattle.kernel_top.proofs.Killing.{at_first}
+use Rattle.kernel_top.proofs.ending.finish.Goals as goal
+
+pub loop-p-init : goal.loop-p-init
+loop-p-init g c = record {
+  over = λ program before from h. at_first program before from c.args.kernel.now c.args.so_far (outside (g.K.Sink.state c.args.sink.now) (g.H.Host.state c.args.host.now)) (g.H.Host.state c.args.host.now).kills c.requires h;
+  hosted = c.requires;
+  cause = λ faults h. h;
+}

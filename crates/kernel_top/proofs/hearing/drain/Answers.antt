@@ -1,0 +1,34 @@
+use Rattle.std.proofs.Common.{◌≡◌, ◌<◌, ◌++◌, [], ◌∷◌, sym, ap, length, arith, ◌∙◌, subst, refl, get_or, slice_get, false, true}
+use Rattle.std.specs.Prelude.{Some, None}
+use Rattle.text_model.specs.Decoding.{characters, all_characters, tail}
+use Rattle.plain_machine.specs.State.{State, Process, change_process}
+use Rattle.plain_machine.specs.Waits.{more_characters}
+use Rattle.plain_machine.specs.Waits.{asked_more as asked_one}
+use Rattle.plain_machine.specs.Items.{Wait}
+use Rattle.process_table.specs.Table.{StandsFor, changed, held_by, with_held, with_drained, with_status}
+use Rattle.kernel_top.specs.Plain.{Kernel, with_table, asked_more}
+use Rattle.kernel_top.specs.Outside.{outside}
+use Rattle.kernel_top.specs.Hearing.{filter_entry}
+use Rattle.kernel_top.specs.Standing.{Hosted, stands_at, working, Comes}
+use Rattle.kernel_top.proofs.Keeping.{hosted_changed, asked_and_changed}
+use Rattle.kernel_top.proofs.Output.{kept_is}
+use Rattle.kernel_top.proofs.hearing.drain.Goals as goal
+
+pub returns-clause-comes : goal.returns-clause-comes
+returns-clause-comes g c = λ host program w target rest u all y stands found.
+    let k = c.args.kernel.now in
+    let p = c.args.process in
+    let s = asked_one (stands_at k u all) in
+    let drained = ap (λ (z : Process). z.drained) (kept_is k.beside.processes all p c.requires.asked.process y stands c.requires.asked.made found) ∙ c.requires.asked.output in
+    let stands1 : StandsFor c.note_asked.new.self.beside.processes all = subst (λ (n : Kernel). StandsFor n.beside.processes all) (sym c.note_asked.ensures) stands in
+    let mid = c.note_asked.new.self in
+    let state = asked_and_changed k mid c.drain.new.self (changed p with_drained mid.beside.processes) u all p (λ z. record z { drained = true }) c.note_asked.ensures c.drain.ensures.table in
+    let said = c.drain.ensures.heard s y stands1 found drained ∙ ap (λ l. l ++ more_characters (characters y.bytes) (all_characters y.bytes)) c.requires.empty in
+    let after = c.enter_filter.ensures.comes host program w target rest u (change_process p (λ z. record z { drained = true }) s).processes (c.drain.ensures.machine s stands1) in
+    rw (state, ← said) after
+
+pub returns-clause-hosted : goal.returns-clause-hosted
+returns-clause-hosted g c = λ kills h.
+    subst (λ l. Hosted l kills) (sym c.enter_filter.ensures.processes)
+    (subst (λ (n : Kernel). Hosted n.beside.processes kills) (sym c.drain.ensures.table)
+    (hosted_changed c.note_asked.new.self.beside.processes c.args.process _ kills (λ x. refl) (λ x r. r) (subst (λ (n : Kernel). Hosted n.beside.processes kills) (sym c.note_asked.ensures) h)))

@@ -1,0 +1,49 @@
+-- The end of a run: children that run are killed, with a line for each and the dump, or in silence where the run was
+-- broken off.
+use Rattle.std.specs.Prelude.{◌≡◌, ℕ, ◌≤◌, List, [], ◌∷◌, ◌++◌, drop, Result, MatchResult}
+use Rattle.std.specs.Io.KnownBytes.{Appends}
+use Rattle.plain_machine.specs.Exchanges.{Exchange}
+use Rattle.plain_machine.specs.State.{Program}
+use Rattle.plain_machine.specs.Items.{Finish, Said, Config, Ended}
+use Rattle.plain_machine.specs.Step.{step}
+use Rattle.plain_machine.specs.Run.{Reaches, lines}
+use Rattle.plain_machine.specs.WholeRuns.{IsBetweenEntries, IsPrefixOf, AreKills}
+use Rattle.machine_laws.specs.Children.{to_kill}
+use Rattle.ek_types.specs.Io.{Rose}
+use Rattle.kernel_top.specs.Plain.{Kernel}
+use Rattle.kernel_top.specs.Outside.{deepest, Outside, Tells, SaysAtMost, Goes}
+use Rattle.kernel_top.specs.Standing.{stands_at, working, GoesTo, unmade, running, children}
+use Rattle.kernel_top.specs.declared.answer.Stop.{Stop}
+
+-- The run was broken off, and of the children that live by the machine all but some are killed.
+pub record Halts (program : Program) (before now : Outside) (from : Config) (left : List ℕ) : Type 0 where
+  pub made : List Exchange
+  pub kills : List Exchange
+  pub said : List Said
+  pub last : Config
+  pub run : Reaches program deepest from made said last
+  pub between : IsBetweenEntries last
+  pub bytes : List ℕ
+  pub front : IsPrefixOf bytes (lines said)
+  pub written : Appends before.sink.held now.sink.held bytes
+  pub told : Tells before.host.told now.host.told (made ++ kills)
+  pub later : before.sink.faults ≤ now.sink.faults
+  pub whole : (Rose before.sink.faults now.sink.faults → ⊥) → bytes ≡ lines said
+  pub roomy : SaysAtMost program from before.sink.room → now.sink.faults ≡ before.sink.faults
+  pub done : List ℕ
+  pub killed : AreKills done kills
+  pub living : to_kill last ≡ done ++ left
+
+-- processes below p are dealt with
+abbrev pub IsAtEnd : {T : Type 0} → Result T Stop → Program → (before now : Outside) → (from : Config) → Kernel → (p : ℕ) → Type 0
+IsAtEnd so_far program before now from k p =
+    MatchResult so_far
+    (λ x. GoesTo program before now from k (λ v all. working (stands_at k v all) (Finish p ∷ [])))
+    (λ why. Halts program before now from (children (running (drop p k.beside.processes ++ unmade why))))
+
+-- the whole run has ended, or was broken off and no child is left
+abbrev pub IsOver : {T : Type 0} → Result T Stop → Program → (before now : Outside) → (from : Config) → Type 0
+IsOver result program before now from =
+    MatchResult result
+    (λ x. (last : Config) × (step program deepest last ≡ Ended) × Goes program before now from last)
+    (λ why. Halts program before now from [])
