@@ -1,0 +1,3 @@
+(start-process "c" "*scratch*" "echo" "hello")
+(accept-process-output)
+(accept-process-output)
