@@ -189,19 +189,6 @@ fn bytes_of(alloc: Global, text: &[u8]) -> Result<Answer, Fail> {
 }
 
 /// A host with one child, which gives these texts, one at a read, and then exits with code 0.
-fn one_child(alloc: Global, reads: &[&[u8]], fails: &[u32]) -> Result<MemoryHost, Fail> {
-    let mut answers: Answers = ListOf::new(alloc);
-    for text in reads {
-        answers.push(bytes_of(alloc, text)?)?;
-    }
-    let mut plays = Vec::new(alloc);
-    plays.push(Play {
-        reads: answers,
-        ends: ListOf::new(alloc),
-    })?;
-    Ok(MemoryHost::new(plays, fails.to_vec(alloc)?))
-}
-
 const CHILD: &str =
     "(start-process \"c\" \"*scratch*\" \"cat\")(accept-process-output)(accept-process-output)";
 
@@ -218,19 +205,28 @@ marker 0 #<marker at 23 in *scratch*>
 process 0 #<process c> exit 0
 ";
 
-fn over(alloc: Global, script: &str, host: &mut MemoryHost) -> Result<(Status, Vec<u8>), Fail> {
+fn over(alloc: Global, script: &str, reads: &[&[u8]]) -> Result<(Status, Vec<u8>), Fail> {
+    let mut answers: Answers = ListOf::new(alloc);
+    for text in reads {
+        answers.push(bytes_of(alloc, text)?)?;
+    }
+    let mut plays = Vec::new(alloc);
+    plays.push(Play {
+        reads: answers,
+        ends: ListOf::new(alloc),
+    })?;
     let mut words = Vec::new(alloc);
     words.push(String::from_str(alloc, "run")?)?;
     let mut source = MemorySource::new(script.as_bytes().to_vec(alloc)?, 1000, Vec::new(alloc));
     let mut sink = MemorySink::new(alloc, 100_000, 1000, Vec::new(alloc))?;
-    let status = run(alloc, words.as_slice(), &mut source, &mut sink, host);
+    let mut host = MemoryHost::new(plays, Vec::new(alloc));
+    let status = run(alloc, words.as_slice(), &mut source, &mut sink, &mut host);
     Ok((status, sink.bytes().to_vec(alloc)?))
 }
 
 #[test]
 fn a_child_is_heard_out(rt: HostRuntime) -> Result<(), Fail> {
-    let mut host = one_child(rt.alloc(), &[b"ab"], &[])?;
-    let (status, bytes) = over(rt.alloc(), CHILD, &mut host)?;
+    let (status, bytes) = over(rt.alloc(), CHILD, &[b"ab"])?;
     assert_eq!(rt; status, Status::Done);
     assert_eq!(rt; bytes.as_slice(), CHILD_LINES);
     Ok(())
