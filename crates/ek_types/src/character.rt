@@ -1,5 +1,5 @@
 //! Characters: Unicode scalar values, and raw bytes that are part of none.
-ghost use Rattle.std.specs.Prelude.{◌≡◌, ◌≤◌, option_map, nat_le, take, if◌then◌else◌, Some, None};
+ghost use Rattle.std.specs.Prelude.{◌≡◌, ◌≤◌, option_map, nat_le, take, drop, if◌then◌else◌, Some, None};
 ghost use Rattle.text_model.specs.Characters.{IsCharacter, code, from_code, encoded, Raw};
 ghost use Rattle.ek_types.specs.Seen.{ch_of};
 
@@ -46,10 +46,12 @@ impl Ch {
         char::from_u32(code).map(Ch::Scalar)
     }
 
-    /// Writes the character's UTF-8, or the one raw byte, to the front of `out`, and says how many bytes these are.
+    /// Writes the character's UTF-8, or the one raw byte, to the front of `out`, and says how many bytes these are. The
+    /// bytes of `out` behind them stay.
     pub fn encode(self, out: &mut [u8; 4]) -> usize
         ensures bytes { take result out.new ≡ encoded (ch_of self) }
         ensures within { result ≤ 4 }
+        ensures behind { drop result out.new ≡ drop result out.old }
     {
         match self {
             Ch::Scalar(c) => {
