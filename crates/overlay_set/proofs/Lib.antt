@@ -1,2 +1,3 @@
-pub mod Lists
-pub mod Searches
+pub mod Parts
+pub mod SearchLemmas
+pub mod ChangeLemmas

@@ -1,6 +1,6 @@
 -- The overlays that stand somewhere, as the tree keeps them: in any order, each once.
 use Rattle.std.specs.Prelude.{All, ◌≡◌, ℕ, ◌+◌, ◌≤◌, ◌<◌, Bool, true, ◌==◌, ◌&&◌, not, List, [], ◌∷◌, ◌++◌, map, filter, Option, Some, None}
-use Rattle.std.specs.List.{sum_by, flat_map}
+use Rattle.std.specs.List.{sum_by}
 use Rattle.text_model.specs.Marks.{Overlay, Span}
 use Rattle.text_model.specs.OverlayQuestions.{span_passes, ends_of_span}
 use Rattle.overlay_set.specs.Numbered.{span_at}
