@@ -2,9 +2,9 @@
 use Rattle.std.proofs.Common.{◌≡◌, ℕ, ◌<◌, Bool, true, false, nat_lt, nat_le, ◌==◌, ◌&&◌, if◌then◌else◌, List, [], ◌∷◌, ◌++◌, map, length, get_or, slice_set, filter, All, Option, Some, None, unwrap_or, option_map, append_assoc, refl, ap, sym, ◌∙◌, arith}
 use Rattle.std.specs.List.{flat_map, fold}
 use Rattle.std.proofs.lemmas.Bool.{eqb-true, eqb-false}
-use Rattle.std.proofs.lemmas.List.{get_or-set_same, get_or-set_other, length-map, length-set, map-set}
+use Rattle.std.proofs.lemmas.List.{get_or_default, get_or-set_same, get_or-set_other, length-map, length-set, map-set}
 use Rattle.std.proofs.lemmas.List.Sums.{fold-append}
-use Rattle.std.proofs.lemmas.List.Elements.{filter-append, All-filter, All-head, All-tail, All-weaker}
+use Rattle.std.proofs.lemmas.List.Elements.{filter-append, All-filter, All-nil, All-cons, All-head, All-tail, All-weaker}
 use Rattle.std.proofs.lemmas.Grind.{flat_map-append}
 use Rattle.std.proofs.lemmas.Option.{slice_get-map, slice_get-get_or, unwrap_or-slice_get}
 use Rattle.text_model.specs.Marks.{Overlay}
@@ -80,3 +80,32 @@ all_moved_later b change os es (x ∷ xs) made = rw (moved_later b change os es 
 
 pub move_all-append : (b : ℕ) (change : Change) (os : List Overlay) (xs ys : List Entry) → move_all b change os (xs ++ ys) ≡ move_all b change (move_all b change os xs) ys
 move_all-append b change os xs ys = ap (fold (move_one b change) os) (filter-append (touches b change) xs ys) ∙ fold-append (move_one b change) os (filter (touches b change) xs) (filter (touches b change) ys)
+
+-- three parts moved, one after the other
+pub move_all_three : (b : ℕ) (change : Change) (os os1 os2 os3 : List Overlay) (xs : List Entry) (e : Entry) (ys : List Entry) → os1 ≡ move_all b change os xs → os2 ≡ move_all b change os1 (e ∷ []) → os3 ≡ move_all b change os2 ys →
+    os3 ≡ move_all b change os (xs ++ e ∷ ys)
+move_all_three b change os os1 os2 os3 xs e ys h k l =
+    l ∙ ap (λ os. move_all b change os ys) (k ∙ ap (λ os. move_all b change os (e ∷ [])) h) ∙ sym (move_all-append b change (move_all b change os xs) (e ∷ []) ys) ∙ sym (move_all-append b change os xs (e ∷ ys))
+
+pub moved_three : (b : ℕ) (change : Change) (os os1 os2 : List Overlay) (xs : List Entry) (e : Entry) (ys xs' es' ys' : List Entry) → os1 ≡ move_all b change os xs → os2 ≡ move_all b change os1 (e ∷ []) →
+    xs' ≡ flat_map (moved_entry b change os) xs → es' ≡ moved_entry b change os1 e → ys' ≡ flat_map (moved_entry b change os2) ys → All (IsMade (length os)) xs → e.number < length os →
+    xs' ++ (es' ++ ys') ≡ flat_map (moved_entry b change os) (xs ++ e ∷ ys)
+moved_three b change os os1 os2 xs e ys xs' es' ys' h k p q r front own =
+    let made : All (IsMade (length (move_all b change os xs))) (e ∷ []) = All-cons (IsMade (length (move_all b change os xs))) e [] (rw (length-move_all b change os xs) own) (All-nil (IsMade (length (move_all b change os xs)))) in
+    let second : moved_entry b change os1 e ≡ moved_entry b change os e = ap (λ os. moved_entry b change os e) h ∙ moved_later b change os xs e front in
+    let third : flat_map (moved_entry b change os2) ys ≡ flat_map (moved_entry b change os) ys =
+        ap (λ os. flat_map (moved_entry b change os) ys) (k ∙ ap (λ os. move_all b change os (e ∷ [])) h)
+        ∙ all_moved_later b change (move_all b change os xs) (e ∷ []) ys made ∙ all_moved_later b change os xs ys front in
+    rw (p, q, r, second, third) (sym (flat_map-append (moved_entry b change os) xs (e ∷ ys)))
+
+-- one slot moved
+pub moved_slot : (b : ℕ) (change : Change) (slots : List Slot) (e : Entry) (d : Slot) (to : Option (ℕ × ℕ × ℕ)) → e.number < length slots →
+    record (overlay_of (get_or slots e.number d)) { span = span_of to } ≡ moved_by b change (with_span (overlay_of (get_or slots e.number d)) e.stretch) → touches b change e ≡ true →
+    map overlay_of (slice_set slots e.number (record (get_or slots e.number d) { span = to })) ≡ move_all b change (map overlay_of slots) (e ∷ [])
+moved_slot b change slots e d to within moves touched =
+    let slot = get_or slots e.number d in
+    let was : overlay_at (map overlay_of slots) e.number ≡ overlay_of slot = overlay_at_slot slots e.number slot within (get_or_default slots e.number d slot within) in
+    let goes : overlay_of (record slot { span = to }) ≡ moved_at b change (map overlay_of slots) e = moves ∙ ap (λ o. moved_by b change (with_span o e.stretch)) (sym was) in
+    map-set overlay_of slots e.number (record slot { span = to })
+    ∙ ap (slice_set (map overlay_of slots) e.number) goes
+    ∙ (let t : touches b change e ≡ true = touched in rw t refl)

@@ -56,3 +56,9 @@ filter_all p (x ∷ xs) h = let e : p x ≡ true = All-head (λ e. p e ≡ true)
 pub flat_map_same : (f : Entry → List Entry) (xs : List Entry) → All (λ e. f e ≡ e ∷ []) xs → flat_map f xs ≡ xs
 flat_map_same f [] h = refl
 flat_map_same f (x ∷ xs) h = let e : f x ≡ x ∷ [] = All-head (λ e. f e ≡ e ∷ []) x xs h in rw e (ap (λ ys. x ∷ ys) (flat_map_same f xs (All-tail (λ e. f e ≡ e ∷ []) x xs h)))
+
+-- what holds of all entries of a tree holds of those at its top node
+pub node_parts : (P : Entry → Type 0) (root : Link) (top : Box Node Global) (n : Node) (now : List Entry) → root ≡ Full top → entries_of root ≡ now → n ≡ top.value → All P now → All P (n.left ++ n.entry ∷ n.right)
+node_parts P root top n now e v d h =
+    let k : All P (entries_of (Full top)) = subst (All P) (sym v ∙ ap entries_of e) h in
+    subst (λ (m : Node). All P (m.left ++ m.entry ∷ m.right)) (sym d) k
