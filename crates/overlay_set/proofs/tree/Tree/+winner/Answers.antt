@@ -1,4 +1,5 @@
-use Rattle.std.proofs.Common.{◌≡◌, ◌++◌, ◌∷◌, [], All, map, length, filter, rules}
+use Rattle.std.proofs.Common.{◌≡◌, ◌++◌, ◌∷◌, [], All, map, length, filter, arith}
+use Rattle.std.proofs.lemmas.Grind.{common_steps}
 use Rattle.overlay_set.specs.Slots.{overlay_of}
 use Rattle.overlay_set.specs.Entries.{IsMade, passes}
 use Rattle.overlay_set.specs.declared.slot.Question.TheVariants.{At}
@@ -16,7 +17,7 @@ pub winner-best-requires : goal.winner-best-requires
 winner-best-requires t c =
     let n = c.deref-node.result.now in
     let made = node_parts (IsMade (length c.args.slots.now)) c.self.inside.root c.in-Full.node n c.args.self.now c.in-Full.is c.self.view_is c.deref-node.ensures c.requires.made in
-    (search rules, (all_left (IsMade (length c.args.slots.now)) n.left n.entry n.right made, c.requires.best))
+    (grind (arith, common_steps), (all_left (IsMade (length c.args.slots.now)) n.left n.entry n.right made, c.requires.best))
 
 pub stronger_where-best-requires-clause-made : goal.stronger_where-best-requires-clause-made
 stronger_where-best-requires-clause-made t c =
@@ -28,7 +29,7 @@ pub winner-requires : goal.winner-requires
 winner-requires t c =
     let n = c.deref-node.result.now in
     let made = node_parts (IsMade (length c.args.slots.now)) c.self.inside.root c.in-Full.node n c.args.self.now c.in-Full.is c.self.view_is c.deref-node.ensures c.requires.made in
-    (search rules, (all_right (IsMade (length c.args.slots.now)) n.left n.entry n.right made, c.stronger_where-best.ensures.made))
+    (grind (arith, common_steps), (all_right (IsMade (length c.args.slots.now)) n.left n.entry n.right made, c.stronger_where-best.ensures.made))
 
 pub returns-else-not-may_pass-clause-exact : goal.returns-else-not-may_pass-clause-exact
 returns-else-not-may_pass-clause-exact t c =
