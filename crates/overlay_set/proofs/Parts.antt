@@ -1,8 +1,9 @@
 -- Parts of a list of entries, and parts of which nothing counts.
-use Rattle.std.proofs.Common.{◌≡◌, Bool, true, false, List, [], ◌∷◌, ◌++◌, All, filter, Box, Global, refl, ap, sym, ◌∙◌, subst}
+use Rattle.std.proofs.lemmas.Bool.{and_parts, eqb-true}
+use Rattle.std.proofs.Common.{◌≡◌, ℕ, ◌<◌, Bool, true, false, not, ◌==◌, ◌&&◌, List, [], ◌∷◌, ◌++◌, All, filter, Box, Global, refl, ap, sym, ◌∙◌, subst}
 use Rattle.std.specs.List.{flat_map}
 use Rattle.std.proofs.lemmas.List.Elements.{All-nil, All-cons, All-head, All-tail, All-append, All-weaker}
-use Rattle.overlay_set.specs.Entries.{Holds, HasBounds, entries_of}
+use Rattle.overlay_set.specs.Entries.{Holds, HasBounds, entries_of, is_same, without}
 use Rattle.overlay_set.specs.declared.bounds.Entry.{Entry}
 use Rattle.overlay_set.specs.declared.bounds.Bounds.{Bounds}
 use Rattle.overlay_set.specs.declared.tree.Link.{Link}
@@ -62,3 +63,31 @@ pub node_parts : (P : Entry → Type 0) (root : Link) (top : Box Node Global) (n
 node_parts P root top n now e v d h =
     let k : All P (entries_of (Full top)) = subst (All P) (sym v ∙ ap entries_of e) h in
     subst (λ (m : Node). All P (m.left ++ m.entry ∷ m.right)) (sym d) k
+
+-- AN ENTRY TAKEN OUT
+abbrev the_entry : (number buffer start end : ℕ) → Entry
+the_entry n b s e = record { number = n; stretch = (b, s, e) }
+
+same_parts : (n m b c s t e f : ℕ) → n ≡ m → b ≡ c → s ≡ t → e ≡ f → the_entry n b s e ≡ the_entry m c t f
+same_parts n m b c s t e f h k l p = rw (h, k, l, p) refl
+
+pub is_same-true : (a b : Entry) → is_same a b ≡ true → a ≡ b
+is_same-true a b h =
+    let whole = and_parts (a.number == b.number) ((a.stretch.0 == b.stretch.0) && ((a.stretch.1 == b.stretch.1) && (a.stretch.2 == b.stretch.2))) h in
+    let stretch = and_parts (a.stretch.0 == b.stretch.0) ((a.stretch.1 == b.stretch.1) && (a.stretch.2 == b.stretch.2)) whole.1 in
+    let places = and_parts (a.stretch.1 == b.stretch.1) (a.stretch.2 == b.stretch.2) stretch.1 in
+    same_parts a.number b.number a.stretch.0 b.stretch.0 a.stretch.1 b.stretch.1 a.stretch.2 b.stretch.2
+        (eqb-true a.number b.number whole.0) (eqb-true a.stretch.0 b.stretch.0 stretch.0) (eqb-true a.stretch.1 b.stretch.1 places.0) (eqb-true a.stretch.2 b.stretch.2 places.1)
+
+differs : (b : Bounds) (r : Bool) (gone e : Entry) → (Holds b gone → r ≡ true) → r ≡ false → Holds b e → not (is_same e gone) ≡ true
+differs b r gone e h k held = by_test (is_same e gone) refl
+  where
+    by_test : (t : Bool) → is_same e gone ≡ t → not (is_same e gone) ≡ true
+    by_test true same =
+        let there : Holds b gone = subst (Holds b) (is_same-true e gone same) held in
+        let f : true ≡ false = sym (h there) ∙ k in cc
+    by_test false other = rw other refl
+
+-- an entry that the bounds exclude is none of these
+pub without_none : (b : Bounds) (r : Bool) (gone : Entry) (xs : List Entry) → (Holds b gone → r ≡ true) → r ≡ false → All (Holds b) xs → without gone xs ≡ xs
+without_none b r gone xs h k all = filter_all (λ e. not (is_same e gone)) xs (All-weaker (Holds b) (λ e. not (is_same e gone) ≡ true) (λ e held. differs b r gone e h k held) xs all)

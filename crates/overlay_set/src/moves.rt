@@ -1,16 +1,38 @@
 //! Changes of a tree of entries. A part that a change can't touch is left as it is.
-ghost use Rattle.std.specs.Prelude.{◌≡◌, ℕ, ◌<◌, All, ◌∷◌, [], ◌++◌, length, map};
+ghost use Rattle.std.specs.Prelude.{◌≡◌, ℕ, false, ◌<◌, All, ◌∷◌, [], ◌++◌, length, map};
 ghost use Rattle.std.specs.List.{flat_map};
 ghost use Rattle.overlay_set.specs.Numbered.{span_of};
 ghost use Rattle.overlay_set.specs.Slots.{overlay_of};
 ghost use Rattle.overlay_set.specs.Entries.{HoldSame, IsMade, entry_of, without};
-ghost use Rattle.overlay_set.specs.Moves.{CanMoveEntry, moved_entry, move_all};
+ghost use Rattle.overlay_set.specs.Moves.{CanMoveEntry, touches, moved_entry, move_all};
 
 use crate::balance::{insert, join, merge};
 use crate::bounds::Entry;
 use crate::slot::{Change, Slot, Stretch};
 use crate::tree::{Link, Node, Tree, take_sides};
 use std::mem;
+
+impl Tree {
+    /// Whether an entry may be the given one.
+    fn may_hold(&self, entry: Entry) -> bool
+        ensures { result ≡ false → without entry self.now ≡ self.now }
+    {
+        match &self.root {
+            Link::Empty => false,
+            Link::Full(node) => node.bounds.may_hold(entry),
+        }
+    }
+
+    /// Whether a change of the buffer may move an entry.
+    fn may_be_touched(&self, buffer: u32, change: Change) -> bool
+        ensures { result ≡ false → All (λ e. touches buffer change e ≡ false) self.now }
+    {
+        match &self.root {
+            Link::Empty => false,
+            Link::Full(node) => node.bounds.may_be_touched(buffer, change),
+        }
+    }
+}
 
 /// Puts an entry into a tree.
 pub(crate) fn put(tree: &mut Tree, node: Box<Node>)
@@ -32,14 +54,12 @@ pub(crate) fn take_out(tree: &mut Tree, gone: Entry)
 fn all_but(tree: Tree, gone: Entry) -> Tree
     ensures { result ≡ without gone tree }
 {
+    if !tree.may_hold(gone) {
+        return tree;
+    }
     match tree.root {
         Link::Empty => Tree::new(),
         Link::Full(mut node) => {
-            if !node.bounds.may_hold(gone) {
-                return Tree {
-                    root: Link::Full(node),
-                };
-            }
             let (left, right) = take_sides(&mut node);
             let left = all_but(left, gone);
             let right = all_but(right, gone);
@@ -70,14 +90,12 @@ fn moved(tree: Tree, slots: &mut [Slot], buffer: u32, change: Change) -> Tree
     ensures tree { result ≡ flat_map (moved_entry buffer change (map overlay_of slots.old)) tree }
     ensures slots { map overlay_of slots.new ≡ move_all buffer change (map overlay_of slots.old) tree }
 {
+    if !tree.may_be_touched(buffer, change) {
+        return tree;
+    }
     match tree.root {
         Link::Empty => Tree::new(),
         Link::Full(mut node) => {
-            if !node.bounds.may_be_touched(buffer, change) {
-                return Tree {
-                    root: Link::Full(node),
-                };
-            }
             let (left, right) = take_sides(&mut node);
             let left = moved(left, slots, buffer, change);
             let stretch = move_slot(slots, node.entry, buffer, change);
