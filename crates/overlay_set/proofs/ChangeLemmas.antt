@@ -1,17 +1,19 @@
 -- Changes of a list of entries and of their overlays, part by part.
-use Rattle.std.proofs.Common.{◌≡◌, ℕ, ◌<◌, Bool, true, false, nat_lt, nat_le, ◌==◌, ◌&&◌, if◌then◌else◌, List, [], ◌∷◌, ◌++◌, map, length, get_or, slice_set, filter, All, Option, Some, None, unwrap_or, option_map, append_assoc, refl, ap, sym, ◌∙◌, arith}
+use Rattle.std.proofs.Common.{◌≡◌, ℕ, ◌<◌, Bool, true, false, nat_lt, nat_le, ◌==◌, ◌&&◌, ◌||◌, if◌then◌else◌, List, [], ◌∷◌, ◌++◌, map, length, get_or, slice_set, filter, All, Option, Some, None, unwrap_or, option_map, append_assoc, refl, ap, sym, ◌∙◌, arith}
 use Rattle.std.specs.List.{flat_map, fold}
-use Rattle.std.proofs.lemmas.Bool.{eqb-true, eqb-false}
+use Rattle.std.proofs.lemmas.Bool.{or_parts, eqb-true, eqb-false, lt-ltb, le-leb, leb-false, ltb-false}
+use Rattle.text_model.specs.Places.{after_insert, after_delete}
+use Rattle.overlay_set.proofs.Parts.{flat_map_same}
 use Rattle.std.proofs.lemmas.List.{get_or_default, get_or-set_same, get_or-set_other, length-map, length-set, map-set}
 use Rattle.std.proofs.lemmas.List.Sums.{fold-append}
 use Rattle.std.proofs.lemmas.List.Elements.{filter-append, All-filter, All-nil, All-cons, All-head, All-tail, All-weaker}
 use Rattle.std.proofs.lemmas.Grind.{flat_map-append}
 use Rattle.std.proofs.lemmas.Option.{slice_get-map, slice_get-get_or, unwrap_or-slice_get}
-use Rattle.text_model.specs.Marks.{Overlay}
-use Rattle.overlay_set.specs.Numbered.{no_overlay, overlay_at, span_of}
+use Rattle.text_model.specs.Marks.{Overlay, start_advances}
+use Rattle.overlay_set.specs.Numbered.{no_overlay, overlay_at, span_at, span_of}
 use Rattle.overlay_set.specs.Slots.{overlay_of, with_span, moved_by}
 use Rattle.overlay_set.specs.Entries.{entry_of, IsMade}
-use Rattle.overlay_set.specs.Moves.{touches, moved_at, moved_entry, move_one, move_all}
+use Rattle.overlay_set.specs.Moves.{can_touch, touches, moved_at, moved_entry, move_one, move_all}
 use Rattle.overlay_set.specs.declared.slot.Slot.{Slot}
 use Rattle.overlay_set.specs.declared.slot.Change.{Change}
 use Rattle.overlay_set.specs.declared.slot.Change.TheVariants.{Insertion, Deletion, Killed}
@@ -109,3 +111,42 @@ moved_slot b change slots e d to within moves touched =
     map-set overlay_of slots e.number (record slot { span = to })
     ∙ ap (slice_set (map overlay_of slots) e.number) goes
     ∙ (let t : touches b change e ≡ true = touched in rw t refl)
+
+pub length-moved : (b : ℕ) (change : Change) (slots news : List Slot) (es : List Entry) (k : ℕ) → map overlay_of news ≡ move_all b change (map overlay_of slots) es → k < length slots → k < length news
+length-moved b change slots news es k h made = omega (arith, length-map news overlay_of, length-map slots overlay_of, ap length h, length-move_all b change (map overlay_of slots) es)
+
+-- NOTHING TOUCHED
+pub move_all_none : (b : ℕ) (change : Change) (os : List Overlay) (es : List Entry) → filter (touches b change) es ≡ [] → os ≡ move_all b change os es
+move_all_none b change os es h = ap (fold (move_one b change) os) (sym h)
+
+stays_insert : (at n : ℕ) (advances : Bool) (place : ℕ) → nat_le at place ≡ false → after_insert at n advances place ≡ place
+stays_insert at n advances place h = let behind : nat_lt place at ≡ true = lt-ltb place at (leb-false at place h) in rw behind refl
+
+stays_delete : (from to place : ℕ) → nat_lt from place ≡ false → after_delete from to place ≡ place
+stays_delete from to place h = let before : nat_le place from ≡ true = le-leb place from (ltb-false from place h) in rw before refl
+
+stays : (b : ℕ) (change : Change) (o : Overlay) (k : ℕ) (s : ℕ × ℕ × ℕ) → ((s.0 == b) && can_touch change s.1 s.2) ≡ false → entry_of k (moved_by b change (with_span o s)).span ≡ record { number = k; stretch = s } ∷ []
+stays b change o k s h = by_buffer (s.0 == b) refl
+  where
+    here : (c : Change) → (s.0 == b) ≡ true → can_touch c s.1 s.2 ≡ false → entry_of k (moved_by b c (with_span o s)).span ≡ record { number = k; stretch = s } ∷ []
+    here (Insertion at n all) own free =
+        let two = or_parts (nat_le at s.1) (nat_le at s.2) free in
+        rw (own, stays_insert at n (start_advances all o (span_at s)) s.1 two.0, stays_insert at n (o.rear_advance || all) s.2 two.1) refl
+    here (Deletion from to) own free =
+        let two = or_parts (nat_lt from s.1) (nat_lt from s.2 || (s.1 == s.2)) free in
+        let three = or_parts (nat_lt from s.2) (s.1 == s.2) two.1 in
+        rw (own, stays_delete from to s.1 two.0, stays_delete from to s.2 three.0, own, three.1) refl
+    here Killed own free = let f : true ≡ false = free in cc
+    away : (c : Change) → (s.0 == b) ≡ false → entry_of k (moved_by b c (with_span o s)).span ≡ record { number = k; stretch = s } ∷ []
+    away (Insertion at n all) other = rw other refl
+    away (Deletion from to) other = rw (other, other) refl
+    away Killed other = rw other refl
+    by_buffer : (t : Bool) → (s.0 == b) ≡ t → entry_of k (moved_by b change (with_span o s)).span ≡ record { number = k; stretch = s } ∷ []
+    by_buffer true own = here change own (let e : ((s.0 == b) && can_touch change s.1 s.2) ≡ can_touch change s.1 s.2 = rw own refl in sym e ∙ h)
+    by_buffer false other = away change other
+
+pub untouched_one : (b : ℕ) (change : Change) (os : List Overlay) (e : Entry) → touches b change e ≡ false → moved_entry b change os e ≡ e ∷ []
+untouched_one b change os e h = stays b change (overlay_at os e.number) e.number e.stretch h
+
+pub untouched : (b : ℕ) (change : Change) (os : List Overlay) (es : List Entry) → All (λ e. touches b change e ≡ false) es → es ≡ flat_map (moved_entry b change os) es
+untouched b change os es h = sym (flat_map_same (moved_entry b change os) es (All-weaker (λ e. touches b change e ≡ false) (λ e. moved_entry b change os e ≡ e ∷ []) (λ e k. untouched_one b change os e k) es h))
