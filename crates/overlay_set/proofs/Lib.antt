@@ -1,3 +1,4 @@
 pub mod Parts
 pub mod SearchLemmas
 pub mod ChangeLemmas
+pub mod SameLemmas
