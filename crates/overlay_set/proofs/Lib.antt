@@ -2,3 +2,4 @@ pub mod Parts
 pub mod SearchLemmas
 pub mod ChangeLemmas
 pub mod SameLemmas
+pub mod EntryLemmas

@@ -1,7 +1,7 @@
 -- Lists that hold the same items, in whatever order.
 use Rattle.std.proofs.Common.{◌≡◌, ℕ, zero, suc, ◌+◌, ◌<◌, ◌≤◌, Bool, true, false, ◌==◌, List, [], ◌∷◌, ◌++◌, map, length, filter, All, refl, ap, sym, ◌∙◌, arith, if◌then◌else◌, IsPermutation}
 use Rattle.std.specs.List.{flat_map, fold, sum_by}
-use Rattle.std.proofs.lemmas.Bool.{eqb-true, eqb-refl}
+use Rattle.std.proofs.lemmas.Bool.{eqb-true, eq-eqb}
 use Rattle.std.proofs.lemmas.List.Sums.{sum_by-cons}
 use Rattle.std.proofs.lemmas.List.Sorted.{sum_by-IsPermutation}
 
@@ -26,7 +26,7 @@ pub same_from_permutation : {X : Type 0} (xs ys : List X) → IsPermutation xs y
 same_from_permutation xs ys h f = sym (total_is f ys) ∙ sum_by-IsPermutation f xs ys h ∙ total_is f xs
 
 pub total-append : {X : Type 0} (f : X → ℕ) (xs ys : List X) → total f (xs ++ ys) ≡ total f xs + total f ys
-total-append f [] ys = refl
+total-append f [] ys = omega arith
 total-append f (x ∷ xs) ys = let rest = total-append f xs ys in omega arith
 
 total-map : {X Y : Type 0} (f : Y → ℕ) (g : X → Y) (xs : List X) → total f (map g xs) ≡ total (λ x. f (g x)) xs
@@ -42,11 +42,11 @@ counted_if p f x = if p x then f x else 0
 
 pub total-filter : {X : Type 0} (f : X → ℕ) (p : X → Bool) (xs : List X) → total f (filter p xs) ≡ total (counted_if p f) xs
 total-filter f p [] = refl
-total-filter f p (x ∷ xs) = by_test (p x) refl
+total-filter f p (x ∷ xs) = by_test (total-filter f p xs) (p x) refl
   where
-    by_test : (t : Bool) → p x ≡ t → total f (filter p (x ∷ xs)) ≡ total (counted_if p f) (x ∷ xs)
-    by_test true h = let rest = total-filter f p xs in rw h (ap (λ n. f x + n) rest)
-    by_test false h = rw h (total-filter f p xs)
+    by_test : total f (filter p xs) ≡ total (counted_if p f) xs → (t : Bool) → p x ≡ t → total f (filter p (x ∷ xs)) ≡ total (counted_if p f) (x ∷ xs)
+    by_test rest true h = rw h (ap (λ n. f x + n) rest)
+    by_test rest false h = let none : total f (filter p xs) ≡ 0 + total (counted_if p f) xs = omega (arith, rest) in rw h none
 
 pub same-map : {X Y : Type 0} (g : X → Y) (xs ys : List X) → Same xs ys → Same (map g xs) (map g ys)
 same-map g xs ys h f = total-map f g xs ∙ h (λ x. f (g x)) ∙ sym (total-map f g ys)
@@ -67,28 +67,28 @@ less_one x (y ∷ ys) = if y == x then ys else y ∷ less_one x ys
 
 total-less_one : (f : ℕ → ℕ) (x : ℕ) (ys : List ℕ) → 0 < total (is_one x) ys → f x + total f (less_one x ys) ≡ total f ys
 total-less_one f x [] h = absurd (omega arith)
-total-less_one f x (y ∷ ys) h = by_test (y == x) refl
+total-less_one f x (y ∷ ys) h = by_test (total-less_one f x ys) (y == x) refl
   where
-    by_test : (t : Bool) → (y == x) ≡ t → f x + total f (less_one x (y ∷ ys)) ≡ total f (y ∷ ys)
-    by_test true k = let e : y ≡ x = eqb-true y x k in rw (k, e) refl
-    by_test false k =
-        let there : 0 < total (is_one x) ys = (let p : total (is_one x) (y ∷ ys) ≡ total (is_one x) ys = rw k refl in omega arith) in
-        let rest = total-less_one f x ys there in
+    by_test : (0 < total (is_one x) ys → f x + total f (less_one x ys) ≡ total f ys) → (t : Bool) → (y == x) ≡ t → f x + total f (less_one x (y ∷ ys)) ≡ total f (y ∷ ys)
+    by_test ih true k = let e : y ≡ x = eqb-true y x k in rw k (ap (λ z. f z + total f ys) (sym e))
+    by_test ih false k =
+        let p : total (is_one x) (y ∷ ys) ≡ 0 + total (is_one x) ys = rw k refl in
+        let rest = ih (omega arith) in
         rw k (omega arith)
 
 fold-less_one : {B : Type 0} (f : B → ℕ → B) → ((b : B) (x y : ℕ) → f (f b x) y ≡ f (f b y) x) → (x : ℕ) (ys : List ℕ) (b : B) → 0 < total (is_one x) ys → fold f b ys ≡ fold f (f b x) (less_one x ys)
 fold-less_one f swap x [] b h = absurd (omega arith)
-fold-less_one {B} f swap x (y ∷ ys) b h = by_test (y == x) refl
+fold-less_one f swap x (y ∷ ys) b h = by_test (fold-less_one f swap x ys (f b y)) (y == x) refl
   where
-    by_test : (t : Bool) → (y == x) ≡ t → fold f b (y ∷ ys) ≡ fold f (f b x) (less_one x (y ∷ ys))
-    by_test true k = let e : y ≡ x = eqb-true y x k in rw (k, e) refl
-    by_test false k =
-        let there : 0 < total (is_one x) ys = (let p : total (is_one x) (y ∷ ys) ≡ total (is_one x) ys = rw k refl in omega arith) in
-        rw k (fold-less_one f swap x ys (f b y) there ∙ ap (λ c. fold f c (less_one x ys)) (swap b y x))
+    by_test : (0 < total (is_one x) ys → fold f (f b y) ys ≡ fold f (f (f b y) x) (less_one x ys)) → (t : Bool) → (y == x) ≡ t → fold f b (y ∷ ys) ≡ fold f (f b x) (less_one x (y ∷ ys))
+    by_test ih true k = let e : y ≡ x = eqb-true y x k in rw k (ap (λ z. fold f (f b z) ys) e)
+    by_test ih false k =
+        let p : total (is_one x) (y ∷ ys) ≡ 0 + total (is_one x) ys = rw k refl in
+        rw k (ih (omega arith) ∙ ap (λ c. fold f c (less_one x ys)) (swap b y x))
 
 first_there : (x : ℕ) (xs ys : List ℕ) → Same (x ∷ xs) ys → 0 < total (is_one x) ys
 first_there x xs ys h =
-    let one : is_one x x ≡ 1 = rw (eqb-refl x) refl in
+    let one : is_one x x ≡ 1 = rw (eq-eqb x x refl) refl in
     let all = h (is_one x) in
     omega arith
 
@@ -112,11 +112,11 @@ Rises (x ∷ xs) = Below x xs × Rises xs
 
 below_there : (n x : ℕ) (ys : List ℕ) → Below n ys → 0 < total (is_one x) ys → n ≤ x
 below_there n x [] h k = absurd (omega arith)
-below_there n x (y ∷ ys) h k = by_test (y == x) refl
+below_there n x (y ∷ ys) h k = by_test (below_there n x ys h.1) (y == x) refl
   where
-    by_test : (t : Bool) → (y == x) ≡ t → n ≤ x
-    by_test true e = let same : y ≡ x = eqb-true y x e in let low = h.0 in omega arith
-    by_test false e = let p : total (is_one x) (y ∷ ys) ≡ total (is_one x) ys = rw e refl in below_there n x ys h.1 (omega arith)
+    by_test : (0 < total (is_one x) ys → n ≤ x) → (t : Bool) → (y == x) ≡ t → n ≤ x
+    by_test ih true e = let same : y ≡ x = eqb-true y x e in let low = h.0 in omega arith
+    by_test ih false e = let p : total (is_one x) (y ∷ ys) ≡ 0 + total (is_one x) ys = rw e refl in ih (omega arith)
 
 head_below : (x : ℕ) (xs : List ℕ) (y : ℕ) → Below x xs → 0 < total (is_one y) (x ∷ xs) → x ≤ y
 head_below x xs y h k = below_there x y (x ∷ xs) (omega arith, h) k

@@ -1,0 +1,2 @@
+use Rattle.overlay_set.proofs.EntryLemmas.{all_same}
+use Rattle.overlay_set.proofs.overlays.Overlays.note.Goals as goal
