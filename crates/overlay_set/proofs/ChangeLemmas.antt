@@ -43,7 +43,7 @@ kept_by_move b Killed o s t = refl
 pub length-move_one : (b : ℕ) (change : Change) (os : List Overlay) (e : Entry) → length (move_one b change os e) ≡ length os
 length-move_one b change os e = length-set os e.number (moved_at b change os e)
 
-kept_by_one : (b : ℕ) (change : Change) (os : List Overlay) (e : Entry) (k : ℕ) (s : ℕ × ℕ × ℕ) → e.number < length os → with_span (overlay_at (move_one b change os e) k) s ≡ with_span (overlay_at os k) s
+pub kept_by_one : (b : ℕ) (change : Change) (os : List Overlay) (e : Entry) (k : ℕ) (s : ℕ × ℕ × ℕ) → e.number < length os → with_span (overlay_at (move_one b change os e) k) s ≡ with_span (overlay_at os k) s
 kept_by_one b change os e k s made = by_place (k == e.number) refl
   where
     by_place : (t : Bool) → (k == e.number) ≡ t → with_span (overlay_at (move_one b change os e) k) s ≡ with_span (overlay_at os k) s
@@ -125,10 +125,10 @@ stays_insert at n advances place h = let behind : nat_lt place at ≡ true = lt-
 stays_delete : (from to place : ℕ) → nat_lt from place ≡ false → after_delete from to place ≡ place
 stays_delete from to place h = let before : nat_le place from ≡ true = le-leb place from (ltb-false from place h) in rw before refl
 
-stays : (b : ℕ) (change : Change) (o : Overlay) (k : ℕ) (s : ℕ × ℕ × ℕ) → ((s.0 == b) && can_touch change s.1 s.2) ≡ false → entry_of k (moved_by b change (with_span o s)).span ≡ record { number = k; stretch = s } ∷ []
-stays b change o k s h = by_buffer (s.0 == b) refl
+pub stays : (b : ℕ) (change : Change) (o : Overlay) (s : ℕ × ℕ × ℕ) → ((s.0 == b) && can_touch change s.1 s.2) ≡ false → moved_by b change (with_span o s) ≡ with_span o s
+stays b change o s h = by_buffer (s.0 == b) refl
   where
-    here : (c : Change) → (s.0 == b) ≡ true → can_touch c s.1 s.2 ≡ false → entry_of k (moved_by b c (with_span o s)).span ≡ record { number = k; stretch = s } ∷ []
+    here : (c : Change) → (s.0 == b) ≡ true → can_touch c s.1 s.2 ≡ false → moved_by b c (with_span o s) ≡ with_span o s
     here (Insertion at n all) own free =
         let two = or_parts (nat_le at s.1) (nat_le at s.2) free in
         rw (own, stays_insert at n (start_advances all o (span_at s)) s.1 two.0, stays_insert at n (o.rear_advance || all) s.2 two.1) refl
@@ -137,16 +137,16 @@ stays b change o k s h = by_buffer (s.0 == b) refl
         let three = or_parts (nat_lt from s.2) (s.1 == s.2) two.1 in
         rw (own, stays_delete from to s.1 two.0, stays_delete from to s.2 three.0, own, three.1) refl
     here Killed own free = let f : true ≡ false = free in cc
-    away : (c : Change) → (s.0 == b) ≡ false → entry_of k (moved_by b c (with_span o s)).span ≡ record { number = k; stretch = s } ∷ []
+    away : (c : Change) → (s.0 == b) ≡ false → moved_by b c (with_span o s) ≡ with_span o s
     away (Insertion at n all) other = rw other refl
     away (Deletion from to) other = rw (other, other) refl
     away Killed other = rw other refl
-    by_buffer : (t : Bool) → (s.0 == b) ≡ t → entry_of k (moved_by b change (with_span o s)).span ≡ record { number = k; stretch = s } ∷ []
+    by_buffer : (t : Bool) → (s.0 == b) ≡ t → moved_by b change (with_span o s) ≡ with_span o s
     by_buffer true own = here change own (let e : ((s.0 == b) && can_touch change s.1 s.2) ≡ can_touch change s.1 s.2 = rw own refl in sym e ∙ h)
     by_buffer false other = away change other
 
 pub untouched_one : (b : ℕ) (change : Change) (os : List Overlay) (e : Entry) → touches b change e ≡ false → moved_entry b change os e ≡ e ∷ []
-untouched_one b change os e h = stays b change (overlay_at os e.number) e.number e.stretch h
+untouched_one b change os e h = ap (λ (o : Overlay). entry_of e.number o.span) (stays b change (overlay_at os e.number) e.stretch h)
 
 pub untouched : (b : ℕ) (change : Change) (os : List Overlay) (es : List Entry) → All (λ e. touches b change e ≡ false) es → es ≡ flat_map (moved_entry b change os) es
 untouched b change os es h = sym (flat_map_same (moved_entry b change os) es (All-weaker (λ e. touches b change e ≡ false) (λ e. moved_entry b change os e ≡ e ∷ []) (λ e k. untouched_one b change os e k) es h))

@@ -93,7 +93,7 @@ nowhere_moved b (Insertion at n all) o h = rw h refl
 nowhere_moved b (Deletion from to) o h = rw h refl
 nowhere_moved b Killed o h = rw h refl
 
-stretch_back : (o : Overlay) (s : Span) → o.span ≡ Some s → with_span o (s.buffer, s.start, s.end) ≡ o
+pub stretch_back : (o : Overlay) (s : Span) → o.span ≡ Some s → with_span o (s.buffer, s.start, s.end) ≡ o
 stretch_back o s h = ap (λ p. record o { span = p }) (sym h)
 
 pub entries_moved : (b : ℕ) (change : Change) (all : List Overlay) (k : ℕ) (os : List Overlay) → Agrees all k os → flat_map (moved_entry b change all) (entries_from k os) ≡ entries_from k (map (moved_by b change) os)

@@ -1,6 +1,7 @@
 -- Lists that hold the same items, in whatever order.
-use Rattle.std.proofs.Common.{◌≡◌, ℕ, zero, suc, ◌+◌, ◌<◌, ◌≤◌, Bool, true, false, ◌==◌, List, [], ◌∷◌, ◌++◌, map, length, filter, All, refl, ap, sym, ◌∙◌, arith, if◌then◌else◌, IsPermutation}
+use Rattle.std.proofs.Common.{◌≡◌, ℕ, zero, suc, ◌+◌, ◌<◌, ◌≤◌, Bool, true, false, ◌==◌, List, [], ◌∷◌, ◌++◌, map, length, filter, get_or, All, refl, ap, sym, ◌∙◌, arith, if◌then◌else◌, IsPermutation}
 use Rattle.std.specs.List.{flat_map, fold, sum_by}
+use Rattle.std.specs.List.Sorted.{IsNonDecreasing}
 use Rattle.std.proofs.lemmas.Bool.{eqb-true, eq-eqb}
 use Rattle.std.proofs.lemmas.List.Sums.{sum_by-cons}
 use Rattle.std.proofs.lemmas.List.Sorted.{sum_by-IsPermutation}
@@ -131,3 +132,14 @@ rising_same (x ∷ xs) (y ∷ ys) h k s =
     let same : x ≡ y = omega arith in
     let rest : Same xs ys = λ f. (let all = s f in let e : f x ≡ f y = ap f same in omega arith) in
     rw (same, rising_same xs ys h.1 k.1 rest) refl
+
+below_from : (n : ℕ) (xs : List ℕ) → ((j : ℕ) → j < length xs → n ≤ get_or xs j 0) → Below n xs
+below_from n [] h = tt
+below_from n (x ∷ xs) h = (h 0 (omega arith), below_from n xs (λ j k. h (suc j) (omega arith)))
+
+rises_by : (xs : List ℕ) → ((i j : ℕ) → i ≤ j → j < length xs → get_or xs i 0 ≤ get_or xs j 0) → Rises xs
+rises_by [] h = tt
+rises_by (x ∷ xs) h = (below_from x xs (λ j k. h 0 (suc j) (omega arith) (omega arith)), rises_by xs (λ i j p k. h (suc i) (suc j) (omega arith) (omega arith)))
+
+pub rises_from : (xs : List ℕ) → IsNonDecreasing xs → Rises xs
+rises_from xs h = rises_by xs (λ i j p k. h i j 0 p k)
