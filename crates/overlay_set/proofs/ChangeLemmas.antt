@@ -4,6 +4,7 @@ use Rattle.std.specs.List.{flat_map, fold}
 use Rattle.std.proofs.lemmas.Bool.{or_parts, eqb-true, eqb-false, lt-ltb, le-leb, leb-false, ltb-false}
 use Rattle.text_model.specs.Places.{after_insert, after_delete}
 use Rattle.overlay_set.proofs.Parts.{flat_map_same}
+use Rattle.overlay_set.proofs.Lists.{overlay_at-get_or, overlay_at_slot}
 use Rattle.std.proofs.lemmas.List.{get_or_default, get_or-set_same, get_or-set_other, length-map, length-set, map-set}
 use Rattle.std.proofs.lemmas.List.Sums.{fold-append}
 use Rattle.std.proofs.lemmas.List.Elements.{filter-append, All-filter, All-nil, All-cons, All-head, All-tail, All-weaker}
@@ -19,20 +20,11 @@ use Rattle.overlay_set.specs.declared.slot.Change.{Change}
 use Rattle.overlay_set.specs.declared.slot.Change.TheVariants.{Insertion, Deletion, Killed}
 use Rattle.overlay_set.specs.declared.bounds.Entry.{Entry}
 
-pub overlay_at-get_or : (os : List Overlay) (k : ℕ) → overlay_at os k ≡ get_or os k no_overlay
-overlay_at-get_or os k = unwrap_or-slice_get os k no_overlay
-
 pub overlay_at_set : (os : List Overlay) (k : ℕ) (o : Overlay) → k < length os → overlay_at (slice_set os k o) k ≡ o
 overlay_at_set os k o h = overlay_at-get_or (slice_set os k o) k ∙ get_or-set_same os k o no_overlay h
 
 pub overlay_at_other : (os : List Overlay) (k j : ℕ) (o : Overlay) → (j ≡ k → ⊥) → overlay_at (slice_set os k o) j ≡ overlay_at os j
 overlay_at_other os k j o h = overlay_at-get_or (slice_set os k o) j ∙ get_or-set_other os k j o no_overlay h ∙ sym (overlay_at-get_or os j)
-
--- the slot that was read is the overlay of that number
-pub overlay_at_slot : (slots : List Slot) (k : ℕ) (slot : Slot) → k < length slots → slot ≡ get_or slots k slot → overlay_at (map overlay_of slots) k ≡ overlay_of slot
-overlay_at_slot slots k slot within read =
-    ap (λ o. unwrap_or o no_overlay) (slice_get-map overlay_of slots k ∙ ap (option_map overlay_of) (slice_get-get_or slots k slot within))
-    ∙ ap overlay_of (sym read)
 
 -- WHAT STAYS BUT FOR THE STRETCH
 kept_by_move : (b : ℕ) (change : Change) (o : Overlay) (s t : ℕ × ℕ × ℕ) → with_span (moved_by b change (with_span o t)) s ≡ with_span o s
@@ -96,8 +88,8 @@ moved_three b change os os1 os2 xs e ys xs' es' ys' h k p q r front own =
     let made : All (IsMade (length (move_all b change os xs))) (e ∷ []) = All-cons (IsMade (length (move_all b change os xs))) e [] (rw (length-move_all b change os xs) own) (All-nil (IsMade (length (move_all b change os xs)))) in
     let second : moved_entry b change os1 e ≡ moved_entry b change os e = ap (λ os. moved_entry b change os e) h ∙ moved_later b change os xs e front in
     let third : flat_map (moved_entry b change os2) ys ≡ flat_map (moved_entry b change os) ys =
-        ap (λ os. flat_map (moved_entry b change os) ys) (k ∙ ap (λ os. move_all b change os (e ∷ [])) h)
-        ∙ all_moved_later b change (move_all b change os xs) (e ∷ []) ys made ∙ all_moved_later b change os xs ys front in
+    ap (λ os. flat_map (moved_entry b change os) ys) (k ∙ ap (λ os. move_all b change os (e ∷ [])) h)
+    ∙ all_moved_later b change (move_all b change os xs) (e ∷ []) ys made ∙ all_moved_later b change os xs ys front in
     rw (p, q, r, second, third) (sym (flat_map-append (moved_entry b change os) xs (e ∷ ys)))
 
 -- one slot moved
@@ -106,7 +98,7 @@ pub moved_slot : (b : ℕ) (change : Change) (slots : List Slot) (e : Entry) (d 
     map overlay_of (slice_set slots e.number (record (get_or slots e.number d) { span = to })) ≡ move_all b change (map overlay_of slots) (e ∷ [])
 moved_slot b change slots e d to within moves touched =
     let slot = get_or slots e.number d in
-    let was : overlay_at (map overlay_of slots) e.number ≡ overlay_of slot = overlay_at_slot slots e.number slot within (get_or_default slots e.number d slot within) in
+    let was : overlay_at (map overlay_of slots) e.number ≡ overlay_of slot = overlay_at_slot slots (map overlay_of slots) e.number slot refl (rw (length-map slots overlay_of) within) (get_or_default slots e.number d slot within) in
     let goes : overlay_of (record slot { span = to }) ≡ moved_at b change (map overlay_of slots) e = moves ∙ ap (λ o. moved_by b change (with_span o e.stretch)) (sym was) in
     map-set overlay_of slots e.number (record slot { span = to })
     ∙ ap (slice_set (map overlay_of slots) e.number) goes
@@ -137,10 +129,12 @@ stays b change o s h = by_buffer (s.0 == b) refl
         let three = or_parts (nat_lt from s.2) (s.1 == s.2) two.1 in
         rw (own, stays_delete from to s.1 two.0, stays_delete from to s.2 three.0, own, three.1) refl
     here Killed own free = let f : true ≡ false = free in cc
+
     away : (c : Change) → (s.0 == b) ≡ false → moved_by b c (with_span o s) ≡ with_span o s
     away (Insertion at n all) other = rw other refl
     away (Deletion from to) other = rw (other, other) refl
     away Killed other = rw other refl
+
     by_buffer : (t : Bool) → (s.0 == b) ≡ t → moved_by b change (with_span o s) ≡ with_span o s
     by_buffer true own = here change own (let e : ((s.0 == b) && can_touch change s.1 s.2) ≡ can_touch change s.1 s.2 = rw own refl in sym e ∙ h)
     by_buffer false other = away change other

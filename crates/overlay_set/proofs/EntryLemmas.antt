@@ -106,7 +106,7 @@ entries_moved b change all k (o ∷ os) h = one (entries_moved b change all (k +
         ∙ ap (λ p. entry_of k p ++ entries_from (k + 1) (map (moved_by b change) os)) (sym (nowhere_moved b change o e))
     one rest (Some s) e =
         let there : moved_by b change (with_span (overlay_at all k) (s.buffer, s.start, s.end)) ≡ moved_by b change o =
-            ap (λ p. moved_by b change (with_span p (s.buffer, s.start, s.end))) h.0 ∙ ap (moved_by b change) (stretch_back o s e) in
+        ap (λ p. moved_by b change (with_span p (s.buffer, s.start, s.end))) h.0 ∙ ap (moved_by b change) (stretch_back o s e) in
         ap (λ p. flat_map (moved_entry b change all) (entry_of k p ++ entries_from (k + 1) os)) e
         ∙ ap (λ (p : Overlay). entry_of k p.span ++ flat_map (moved_entry b change all) (entries_from (k + 1) os)) there
         ∙ ap (λ es. entry_of k (moved_by b change o).span ++ es) rest

@@ -1,3 +1,4 @@
+pub mod Lists
 pub mod Parts
 pub mod SearchLemmas
 pub mod ChangeLemmas
@@ -5,3 +6,4 @@ pub mod SameLemmas
 pub mod EntryLemmas
 pub mod OrderLemmas
 pub mod WholeLemmas
+pub mod SlotLemmas

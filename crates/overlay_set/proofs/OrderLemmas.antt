@@ -138,21 +138,25 @@ higher_third R total apart a x y = by_orders (R a x) (R a y) refl refl
         by_order Less e = let above : R a y ≡ Less = total.trans a x y h e in let f : true ≡ false = ap is_lt (sym above) ∙ k in cc
         by_order Equal e = rw e refl
         by_order Greater e = rw e refl
+
     above : (x y : ℕ) → R a x ≡ Less → is_lt (R a y) ≡ false → higher R (higher R a x) y ≡ higher R (higher R a y) x
     above x y h k =
         let first : higher R a x ≡ x = rw h refl in
         let second : higher R a y ≡ a = rw k refl in
         ap (λ m. higher R m y) first ∙ one_above x y h k ∙ sym first ∙ ap (λ m. higher R m x) (sym second)
+
     none : is_lt (R a x) ≡ false → is_lt (R a y) ≡ false → higher R (higher R a x) y ≡ higher R (higher R a y) x
     none h k =
         let first : higher R a x ≡ a = rw h refl in
         let second : higher R a y ≡ a = rw k refl in
         ap (λ m. higher R m y) first ∙ second ∙ sym first ∙ ap (λ m. higher R m x) (sym second)
+
     both : R a x ≡ Less → R a y ≡ Less → higher R (higher R a x) y ≡ higher R (higher R a y) x
     both h k =
         let first : higher R a x ≡ x = rw h refl in
         let second : higher R a y ≡ y = rw k refl in
         ap (λ m. higher R m y) first ∙ higher_swap R total apart x y ∙ ap (λ m. higher R m x) (sym second)
+
     by_orders : (p q : Ordering) → R a x ≡ p → R a y ≡ q → higher R (higher R a x) y ≡ higher R (higher R a y) x
     by_orders Less Less h k = both h k
     by_orders Less Equal h k = above x y h (ap is_lt k)

@@ -77,7 +77,7 @@ is_same-true a b h =
     let stretch = and_parts (a.stretch.0 == b.stretch.0) ((a.stretch.1 == b.stretch.1) && (a.stretch.2 == b.stretch.2)) whole.1 in
     let places = and_parts (a.stretch.1 == b.stretch.1) (a.stretch.2 == b.stretch.2) stretch.1 in
     same_parts a.number b.number a.stretch.0 b.stretch.0 a.stretch.1 b.stretch.1 a.stretch.2 b.stretch.2
-        (eqb-true a.number b.number whole.0) (eqb-true a.stretch.0 b.stretch.0 stretch.0) (eqb-true a.stretch.1 b.stretch.1 places.0) (eqb-true a.stretch.2 b.stretch.2 places.1)
+    (eqb-true a.number b.number whole.0) (eqb-true a.stretch.0 b.stretch.0 stretch.0) (eqb-true a.stretch.1 b.stretch.1 places.0) (eqb-true a.stretch.2 b.stretch.2 places.1)
 
 differs : (b : Bounds) (r : Bool) (gone e : Entry) → (Holds b gone → r ≡ true) → r ≡ false → Holds b e → not (is_same e gone) ≡ true
 differs b r gone e h k held = by_test (is_same e gone) refl

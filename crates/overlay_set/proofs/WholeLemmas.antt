@@ -62,14 +62,15 @@ all_in_turn : (b : ℕ) (change : Change) (all pre os : List Overlay) → Agrees
 all_in_turn b change all pre [] h = refl
 all_in_turn b change all pre (o ∷ os) h = by_span o.span refl
     (λ p. let e : length (pre ++ p ∷ []) ≡ length pre + 1 = length-append pre (p ∷ []) in
-        ap (λ ps. fold (moved_number b change all) ps (numbers_moved b change (length pre + 1) os)) (sym (append_assoc pre (p ∷ []) os))
-        ∙ ap (λ k. fold (moved_number b change all) ((pre ++ p ∷ []) ++ os) (numbers_moved b change k os)) (sym e)
-        ∙ all_in_turn b change all (pre ++ p ∷ []) os (subst (λ k. Agrees all k os) (sym e) h.1.1)
-        ∙ append_assoc pre (p ∷ []) (map (moved_by b change) os))
+    ap (λ ps. fold (moved_number b change all) ps (numbers_moved b change (length pre + 1) os)) (sym (append_assoc pre (p ∷ []) os))
+    ∙ ap (λ k. fold (moved_number b change all) ((pre ++ p ∷ []) ++ os) (numbers_moved b change k os)) (sym e)
+    ∙ all_in_turn b change all (pre ++ p ∷ []) os (subst (λ k. Agrees all k os) (sym e) h.1.1)
+    ∙ append_assoc pre (p ∷ []) (map (moved_by b change) os))
   where
     still : ((p : Overlay) → fold (moved_number b change all) (pre ++ p ∷ os) (numbers_moved b change (length pre + 1) os) ≡ pre ++ p ∷ map (moved_by b change) os) → moved_by b change o ≡ o →
         fold (moved_number b change all) (pre ++ o ∷ os) (numbers_moved b change (length pre + 1) os) ≡ pre ++ moved_by b change o ∷ map (moved_by b change) os
     still ih e = ih o ∙ ap (λ p. pre ++ p ∷ map (moved_by b change) os) (sym e)
+
     by_span : (t : Option Span) → o.span ≡ t → ((p : Overlay) → fold (moved_number b change all) (pre ++ p ∷ os) (numbers_moved b change (length pre + 1) os) ≡ pre ++ p ∷ map (moved_by b change) os) →
         fold (moved_number b change all) (pre ++ o ∷ os) (numbers_in (filter (touches b change) (entry_of (length pre) o.span ++ entries_from (length pre + 1) os))) ≡ pre ++ moved_by b change o ∷ map (moved_by b change) os
     by_span None e ih = ap (λ t. fold (moved_number b change all) (pre ++ o ∷ os) (numbers_in (filter (touches b change) (entry_of (length pre) t ++ entries_from (length pre + 1) os)))) e ∙ still ih (nowhere_stays b change o e)
@@ -93,7 +94,7 @@ whole_moved b change os tree h =
     let match : All (Matches os) tree = all_same (Matches os) tree es same (entries_match os 0 os (agrees_all os)) in
     by_number b change os (filter (touches b change) tree) os (All-filter (touches b change) (Matches os) tree match) refl (λ k s. refl)
     ∙ fold-same (moved_number b change os) (numbers_swap b change os) (numbers_in (filter (touches b change) tree)) (numbers_in (filter (touches b change) es))
-        (same-map (λ (e : Entry). e.number) (filter (touches b change) tree) (filter (touches b change) es) (same-filter (touches b change) tree es same)) os
+    (same-map (λ (e : Entry). e.number) (filter (touches b change) tree) (filter (touches b change) es) (same-filter (touches b change) tree es same)) os
     ∙ all_in_turn b change os [] os (agrees_all os)
 
 -- THE WINNER
@@ -148,6 +149,7 @@ winner_listed b i name all k (o ∷ os) best h fit = by_span o.span refl (λ p f
           where
             seen : span_passes b (covers (i + 1)) o.span ≡ true
             seen = ap (span_passes b (covers (i + 1))) e ∙ t
+
             by_property : (u : Bool) → is_some (get o.props name) ≡ u → strongest b i name all (option_map (λ o. o.0) best) (entry_of k (Some s) ++ entries_from (k + 1) os) ≡ option_map (λ o. o.0) (listed_from b i name best k (o ∷ os))
             by_property false u =
                 let has : has_property name all (record { number = k; stretch = (s.buffer, s.start, s.end) }) ≡ false = ap (λ (p : Overlay). is_some (get p.props name)) h.0 ∙ u in
@@ -164,7 +166,7 @@ whole_winner b i name os tree h =
     let front = filter (passes b (At i)) tree in
     let fronts = filter (passes b (At i)) es in
     fold-same (λ m k. Some (stronger os m k)) (stronger_swap os) (contenders b i name os tree) (contenders b i name os es)
-        (same-map (λ (e : Entry). e.number) (filter (has_property name os) front) (filter (has_property name os) fronts) (same-filter (has_property name os) front fronts (same-filter (passes b (At i)) tree es same))) None
+    (same-map (λ (e : Entry). e.number) (filter (has_property name os) front) (filter (has_property name os) fronts) (same-filter (has_property name os) front fronts (same-filter (passes b (At i)) tree es same))) None
     ∙ winner_listed b i name os 0 os None (agrees_all os) tt
 
 -- STARTS AND ENDS
@@ -180,7 +182,7 @@ same_ends : (q : ℕ → Bool) (b : ℕ) (os : List Overlay) (tree : List Entry)
 same_ends q b os tree h =
     let es = entries_from 0 os in
     subst (λ ns. Same (filter q (flat_map (ends_at b) tree)) (filter q ns)) (sym (ends_listed b 0 os))
-        (same-filter q (flat_map (ends_at b) tree) (flat_map (ends_at b) es) (same-flat_map (ends_at b) tree es (same_from_sums tree es h)))
+    (same-filter q (flat_map (ends_at b) tree) (flat_map (ends_at b) es) (same-flat_map (ends_at b) tree es (same_from_sums tree es h)))
 
 pub whole_least : (q : ℕ → Bool) (b n : ℕ) (os : List Overlay) (tree : List Entry) → HoldSame tree (entries_from 0 os) → least n (filter q (overlay_ends b os)) ≡ least n (filter q (flat_map (ends_at b) tree))
 whole_least q b n os tree h =
@@ -210,7 +212,7 @@ pub whole_entries : (b : ℕ) (change : Change) (os : List Overlay) (tree : List
 whole_entries b change os tree h =
     let es = entries_from 0 os in
     subst (HoldSame (flat_map (moved_entry b change os) tree)) (entries_moved b change os 0 os (agrees_all os))
-        (sums_from_same (flat_map (moved_entry b change os) tree) (flat_map (moved_entry b change os) es) (same-flat_map (moved_entry b change os) tree es (same_from_sums tree es h)))
+    (sums_from_same (flat_map (moved_entry b change os) tree) (flat_map (moved_entry b change os) es) (same-flat_map (moved_entry b change os) tree es (same_from_sums tree es h)))
 
 -- WHAT IS FOUND, SORTED
 pub whole_found : (b : ℕ) (q : Question) (os : List Overlay) (tree : List Entry) (found sorted : List ℕ) → HoldSame tree (entries_from 0 os) → found ≡ numbers_in (filter (passes b q) tree) → IsPermutation found sorted → IsNonDecreasing sorted →
@@ -218,6 +220,6 @@ pub whole_found : (b : ℕ) (q : Question) (os : List Overlay) (tree : List Entr
 whole_found b q os tree found sorted h all mixed rising =
     let es = entries_from 0 os in
     let same : Same (numbers_in (filter (passes b q) tree)) (numbers_in (filter (passes b q) es)) =
-        same-map (λ (e : Entry). e.number) (filter (passes b q) tree) (filter (passes b q) es) (same-filter (passes b q) tree es (same_from_sums tree es h)) in
+    same-map (λ (e : Entry). e.number) (filter (passes b q) tree) (filter (passes b q) es) (same-filter (passes b q) tree es (same_from_sums tree es h)) in
     let moved : Same sorted found = same_from_permutation found sorted mixed in
     rising_same sorted (numbers_in (filter (passes b q) es)) (rises_from sorted rising) (kept_rises (passes b q) 0 os) (λ f. moved f ∙ ap (total f) all ∙ same f) ∙ sym (found_listed b q 0 os)

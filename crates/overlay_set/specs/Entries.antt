@@ -32,6 +32,10 @@ is_same a b = (a.number == b.number) && ((a.stretch.0 == b.stretch.0) && ((a.str
 abbrev pub without : Entry → List Entry → List Entry
 without gone entries = filter (λ e. not (is_same e gone)) entries
 
+abbrev pub without_all : (gone : List Entry) → List Entry → List Entry
+without_all [] entries = entries
+without_all (e ∷ gone) entries = without_all gone (without e entries)
+
 abbrev pub numbers_in : List Entry → List ℕ
 numbers_in entries = map (λ e. e.number) entries
 

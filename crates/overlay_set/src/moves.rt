@@ -3,7 +3,7 @@ ghost use Rattle.std.specs.Prelude.{◌≡◌, ℕ, false, ◌<◌, All, ◌∷�
 ghost use Rattle.std.specs.List.{flat_map};
 ghost use Rattle.overlay_set.specs.Numbered.{span_of};
 ghost use Rattle.overlay_set.specs.Slots.{overlay_of};
-ghost use Rattle.overlay_set.specs.Entries.{HoldSame, IsMade, entry_of, without};
+ghost use Rattle.overlay_set.specs.Entries.{HoldSame, IsMade, entry_of, without, without_all};
 ghost use Rattle.overlay_set.specs.Moves.{CanMoveEntry, touches, moved_entry, move_all};
 
 use crate::balance::{insert, join, merge};
@@ -42,12 +42,14 @@ pub(crate) fn put(tree: &mut Tree, node: Box<Node>)
     *tree = insert(old, node);
 }
 
-/// Takes an entry out of a tree.
-pub(crate) fn take_out(tree: &mut Tree, gone: Entry)
-    ensures { tree.new ≡ without gone tree.old }
+/// Takes the entry of an overlay out of a tree, where it stands somewhere.
+pub(crate) fn take_out(tree: &mut Tree, number: u32, span: Option<Stretch>)
+    ensures { tree.new ≡ without_all (entry_of number (span_of span)) tree.old }
 {
-    let old = mem::replace(tree, Tree::new());
-    *tree = all_but(old, gone);
+    if let Some(stretch) = span {
+        let old = mem::replace(tree, Tree::new());
+        *tree = all_but(old, Entry { number, stretch });
+    }
 }
 
 /// The entries but one.

@@ -117,10 +117,9 @@ impl Overlays {
         requires { k < length self.old }
         ensures { self.new ≡ slice_set self.old k (record (overlay_at self.old k) { span = None }) }
     {
-        if let Some(stretch) = self.slots[k as usize].span {
-            take_out(&mut self.tree, Entry { number: k, stretch });
-        }
-        self.slots[k as usize].span = None;
+        let slot = &mut self.slots[k as usize];
+        take_out(&mut self.tree, k, slot.span);
+        slot.span = None;
     }
 
     /// Where overlay `k` stands: a buffer with two places in it, or nowhere.

@@ -23,11 +23,12 @@ moved-left-requires t c =
     let xs = c.take_sides-left.result.0 in
     let e = c.in-Full.node.value.entry in
     let ys = c.take_sides-left.result.1 in
-    let whole : c.args.tree ≡ xs ++ e ∷ ys = sym c.tree.view_is ∙ rw c.in-Full.is (search rules) in
-    (
-        grind (arith, common_steps, whole),
-        (all_left (IsMade (length c.args.slots.now)) xs e ys (subst (All (IsMade (length c.args.slots.now))) whole c.requires.made),
-        all_left (CanMoveEntry c.args.buffer c.args.change) xs e ys (subst (All (CanMoveEntry c.args.buffer c.args.change)) whole c.requires.can)),
+    let whole : c.args.tree ≡ xs ++ e ∷ ys = sym c.tree.view_is ∙ rw c.in-Full.is (search rules) in (
+      grind (arith, common_steps, whole),
+      (
+        all_left (IsMade (length c.args.slots.now)) xs e ys (subst (All (IsMade (length c.args.slots.now))) whole c.requires.made),
+        all_left (CanMoveEntry c.args.buffer c.args.change) xs e ys (subst (All (CanMoveEntry c.args.buffer c.args.change)) whole c.requires.can),
+      ),
     )
 
 pub move_slot-stretch-requires-clause-made : goal.move_slot-stretch-requires-clause-made
@@ -56,12 +57,13 @@ moved-right-requires t c =
     let whole : c.args.tree ≡ xs ++ e ∷ ys = sym c.tree.view_is ∙ rw c.in-Full.is (search rules) in
     let made = all_right (IsMade (length c.args.slots.now)) xs e ys (subst (All (IsMade (length c.args.slots.now))) whole c.requires.made) in
     let kept : (x : Entry) → IsMade (length c.args.slots.now) x → IsMade (length c.move_slot-stretch.new.slots) x =
-        λ x h. length-moved b c.args.change c.moved-left.new.slots c.move_slot-stretch.new.slots (e ∷ []) x.number c.move_slot-stretch.ensures.slots
-            (length-moved b c.args.change c.args.slots.now c.moved-left.new.slots xs x.number c.moved-left.ensures.slots h) in
-    (
-        grind (arith, common_steps, whole),
-        (All-weaker (IsMade (length c.args.slots.now)) (IsMade (length c.move_slot-stretch.new.slots)) kept ys made,
-        all_right (CanMoveEntry b c.args.change) xs e ys (subst (All (CanMoveEntry b c.args.change)) whole c.requires.can)),
+    λ x h. length-moved b c.args.change c.moved-left.new.slots c.move_slot-stretch.new.slots (e ∷ []) x.number c.move_slot-stretch.ensures.slots
+    (length-moved b c.args.change c.args.slots.now c.moved-left.new.slots xs x.number c.moved-left.ensures.slots h) in (
+      grind (arith, common_steps, whole),
+      (
+        All-weaker (IsMade (length c.args.slots.now)) (IsMade (length c.move_slot-stretch.new.slots)) kept ys made,
+        all_right (CanMoveEntry b c.args.change) xs e ys (subst (All (CanMoveEntry b c.args.change)) whole c.requires.can),
+      ),
     )
 
 pub returns-in-Full-clause-tree : goal.returns-in-Full-clause-tree
@@ -75,8 +77,8 @@ returns-in-Full-clause-tree t c =
     let put : c.put_between.result ≡ c.moved-left.result ++ (entry_of e.number (span_of c.move_slot-stretch.result) ++ c.moved-right.result) = search rules in
     rw (whole, put)
     (moved_three c.args.buffer c.args.change os (map overlay_of c.moved-left.new.slots) (map overlay_of c.move_slot-stretch.new.slots) xs e ys _ _ _
-        c.moved-left.ensures.slots c.move_slot-stretch.ensures.slots c.moved-left.ensures.tree c.move_slot-stretch.ensures.stretch c.moved-right.ensures.tree
-        (all_left (IsMade (length os)) xs e ys made) (all_own (IsMade (length os)) xs e ys made))
+    c.moved-left.ensures.slots c.move_slot-stretch.ensures.slots c.moved-left.ensures.tree c.move_slot-stretch.ensures.stretch c.moved-right.ensures.tree
+    (all_left (IsMade (length os)) xs e ys made) (all_own (IsMade (length os)) xs e ys made))
 
 pub returns-in-Full-clause-slots : goal.returns-in-Full-clause-slots
 returns-in-Full-clause-slots t c =
@@ -86,4 +88,4 @@ returns-in-Full-clause-slots t c =
     let whole : c.args.tree ≡ xs ++ e ∷ ys = sym c.tree.view_is ∙ rw c.in-Full.is (search rules) in
     rw whole
     (move_all_three c.args.buffer c.args.change (map overlay_of c.args.slots.now) (map overlay_of c.moved-left.new.slots) (map overlay_of c.move_slot-stretch.new.slots) (map overlay_of c.moved-right.new.slots) xs e ys
-        c.moved-left.ensures.slots c.move_slot-stretch.ensures.slots c.moved-right.ensures.slots)
+    c.moved-left.ensures.slots c.move_slot-stretch.ensures.slots c.moved-right.ensures.slots)

@@ -11,7 +11,7 @@ pub returns-then-not-may_pass-clause-exact : goal.returns-then-not-may_pass-clau
 returns-then-not-may_pass-clause-exact t c =
     let all = full_bounds c.self.inside.root c.in-Full.node c.args.self.now c.in-Full.is c.self.invariant c.self.view_is in
     strongest_none c.args.buffer c.args.i c.args.name.0 (map overlay_of c.args.slots.now) c.args.best c.args.self.now
-        (none_found (passes c.args.buffer (At c.args.i)) c.in-Full.node.value.bounds c.may_pass.result c.args.self.now (λ e h. c.may_pass.ensures e (rw c.deref-node.ensures h)) c.if-not-may_pass.true all)
+    (none_found (passes c.args.buffer (At c.args.i)) c.in-Full.node.value.bounds c.may_pass.result c.args.self.now (λ e h. c.may_pass.ensures e (rw c.deref-node.ensures h)) c.if-not-may_pass.true all)
 
 pub winner-best-requires : goal.winner-best-requires
 winner-best-requires t c =
