@@ -10,10 +10,9 @@ pub invariant_of-self : goal.invariant_of-self
 invariant_of-self c =
     let items = c.self.inside.slots.items in
     let slot = c.index_mut-slot.result.now in
-    let within : c.args.k < length items = omega (arith, length-map items overlay_of, ap length c.self.view_is) in
-    (
-        rw (length-set items c.args.k (record slot { span = None })) c.self.invariant.0,
-        slot_removed items c.self.inside.tree c.take_out.new.tree c.args.k slot within c.index_mut-slot.ensures.value c.take_out.ensures c.self.invariant.1,
+    let within : c.args.k < length items = omega (arith, length-map items overlay_of, ap length c.self.view_is) in (
+      rw (length-set items c.args.k (record slot { span = None })) c.self.invariant.0,
+      slot_removed items c.self.inside.tree c.take_out.new.tree c.args.k slot within c.index_mut-slot.ensures.value c.take_out.ensures c.self.invariant.1,
     )
 
 pub returns : goal.returns

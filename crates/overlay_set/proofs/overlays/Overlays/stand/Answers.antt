@@ -16,10 +16,9 @@ invariant_of-self c =
     let within : e.number < length items = omega (arith, length-map items overlay_of, ap length c.self.view_is) in
     let was : overlay_at c.args.self.now e.number ≡ overlay_of slot = overlay_at_slot items c.args.self.now e.number slot c.self.view_is made (rw c.deref.ensures at c.index_mut.ensures.value) in
     let away : (overlay_of slot).span ≡ None = ap (λ (o : Overlay). o.span) (sym was) ∙ c.requires.away in
-    rw c.deref.ensures
-    (
-        rw (length-set items e.number (record slot { span = Some e.stretch })) c.self.invariant.0,
-        slot_placed items c.self.inside.tree c.put.new.tree e.number slot e.stretch within (rw c.deref.ensures at c.index_mut.ensures.value) away c.put.ensures c.self.invariant.1,
+    rw c.deref.ensures (
+      rw (length-set items e.number (record slot { span = Some e.stretch })) c.self.invariant.0,
+      slot_placed items c.self.inside.tree c.put.new.tree e.number slot e.stretch within (rw c.deref.ensures at c.index_mut.ensures.value) away c.put.ensures c.self.invariant.1,
     )
 
 pub returns : goal.returns
