@@ -115,7 +115,7 @@ fn measured(rt: &HostRuntime, runs: usize, asked: usize, count: usize) -> io::Re
     requires count { count < 2 ^ 32 }
 {
     let (same, time) = timed(rt, runs, asked, count)?;
-    println!(rt; "prop_intervals {runs} runs: {count} insertions in front and questions {time} ms, {same} answers right")
+    println!(rt; "prop_intervals {runs:6} runs: {count} insertions in front and questions {time} ms, {same} answers right")
 }
 
 fn main(rt: HostRuntime) -> io::Result<()> {
@@ -158,19 +158,23 @@ PROOF
 RT_SECONDS=3600 quietly rt run -- "$count"
 
 if command -v emacs > /dev/null; then
-    for runs in 131072 65536; do
-        emacs -Q --batch --eval "
-(with-temp-buffer
-  (buffer-disable-undo)
-  (dotimes (i $runs) (insert (propertize \"x\" 'face (1+ i))))
-  (let ((asked (/ $runs 2)) (same 0) (start (float-time)))
-    (dotimes (k $count)
-      (goto-char (point-min))
-      (insert \"x\")
-      (when (equal (get-text-property (- (point-max) asked) 'face) (1+ asked)) (setq same (1+ same))))
-    (princ (format \"emacs $runs runs: %d insertions in front and questions %d ms, %d answers right\\n\"
-                   $count (* 1000 (- (float-time) start)) same))))"
-    done
+    cat > "$work/sets.el" <<'LISP'
+(defun insertions (runs count)
+  (with-temp-buffer
+    (buffer-disable-undo)
+    (dotimes (i runs) (insert (propertize "x" 'face (1+ i))))
+    (let ((asked (/ runs 2)) (same 0) (start (float-time)))
+      (dotimes (_ count)
+        (goto-char (point-min))
+        (insert "x")
+        (when (equal (get-text-property (- (point-max) asked) 'face) (1+ asked)) (setq same (1+ same))))
+      (princ (format "emacs          %6d runs: %d insertions in front and questions %d ms, %d answers right\n"
+                     runs count (* 1000 (- (float-time) start)) same)))))
+(byte-compile 'insertions)
+(insertions 131072 (string-to-number (getenv "COUNT")))
+(insertions 65536 (string-to-number (getenv "COUNT")))
+LISP
+    COUNT=$count emacs -Q --batch -l "$work/sets.el"
 else
     echo "emacs is not installed here"
 fi
