@@ -8,10 +8,8 @@
 #     bench/kernel.sh [PROGRAM]     (what `rt run` leaves in crates/kernel_cli/out if none is given)
 set -eu
 
-top=$(cd "$(dirname "$0")/.." && pwd)
+. "$(dirname "$0")/common.sh"
 program=${1:-$top/crates/kernel_cli/out/kernel_cli}
-work=$(mktemp -d "${TMPDIR:-/tmp}/kernel_bench.XXXXXX")
-trap 'rm -rf "$work"' EXIT
 
 if [ ! -x "$program" ]; then
     (cd "$top/crates/kernel_cli" && rt run -- run < /dev/null > /dev/null)
