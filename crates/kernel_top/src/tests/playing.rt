@@ -1,0 +1,148 @@
+//! A run over a source, a sink and a host in memory.
+
+use super::shown::shown;
+use crate::{Status, run};
+use ek_types::{ListOf, MemorySink, MemorySource};
+use host_link::{Answer, Answers, Ended, Host, MemoryHost, Play};
+use std::alloc::Global;
+use std::test::Fail;
+
+/// The most bytes of a call, and the call that fails.
+#[derive(Clone, Copy)]
+pub struct Calls {
+    pub piece: usize,
+    pub fails: Option<u32>,
+}
+
+/// What a run is given beside its script and the children: the words of the command line, how source and sink are
+/// called, the bytes that the sink holds, and the calls of the host that fail.
+#[derive(Clone, Copy)]
+pub struct Setting<'a> {
+    pub words: &'a [&'a str],
+    pub from: Calls,
+    pub to: Calls,
+    pub room: usize,
+    pub fails: &'a [u32],
+}
+
+const WHOLE: Calls = Calls {
+    piece: 1000,
+    fails: None,
+};
+
+/// Nothing goes wrong.
+pub const PLAIN: Setting<'static> = Setting {
+    words: &["run"],
+    from: WHOLE,
+    to: WHOLE,
+    room: 100_000,
+    fails: &[],
+};
+
+/// What a run came to: its status, what was written, and a line for each exchange.
+#[derive(Drop)]
+pub struct Ran {
+    pub status: Status,
+    pub written: Vec<u8>,
+    pub exchanges: Vec<u8>,
+}
+
+/// What a child answers to a read.
+#[derive(Clone, Copy)]
+pub enum Heard<'a> {
+    Bytes(&'a [u8]),
+    Nothing,
+    End,
+}
+
+fn failing(alloc: Global, call: Option<u32>) -> Result<Vec<u32>, Fail> {
+    let mut fails = Vec::new(alloc);
+    if let Some(call) = call {
+        fails.push(call)?;
+    }
+    Ok(fails)
+}
+
+fn given(alloc: Global, words: &[&str]) -> Result<Vec<String>, Fail> {
+    let mut given = Vec::new(alloc);
+    for word in words {
+        given.push(String::from_str(alloc, word)?)?;
+    }
+    Ok(given)
+}
+
+/// Runs a script.
+pub fn run_script(
+    alloc: Global,
+    script: &str,
+    plays: Vec<Play>,
+    setting: Setting,
+) -> Result<Ran, Fail> {
+    let Setting {
+        words,
+        from,
+        to,
+        room,
+        fails,
+    } = setting;
+    let words = given(alloc, words)?;
+    let bytes = script.as_bytes().to_vec(alloc)?;
+    let mut source = MemorySource::new(bytes, from.piece.max(1), failing(alloc, from.fails)?);
+    let mut sink = MemorySink::new(alloc, room, to.piece.max(1), failing(alloc, to.fails)?)?;
+    let mut host = MemoryHost::new(plays, fails.to_vec(alloc)?);
+    let status = run(alloc, words.as_slice(), &mut source, &mut sink, &mut host);
+    let Some(exchanges) = host.told() else {
+        return Err(Fail::from("the host tells nothing"));
+    };
+    Ok(Ran {
+        status,
+        written: sink.bytes().to_vec(alloc)?,
+        exchanges: shown(alloc, exchanges)?,
+    })
+}
+
+/// Runs a script over a host that starts no child.
+pub fn run_alone(alloc: Global, script: &str) -> Result<Ran, Fail> {
+    run_script(alloc, script, Vec::new(alloc), PLAIN)
+}
+
+fn answer(alloc: Global, heard: Heard) -> Result<Answer, Fail> {
+    match heard {
+        Heard::Bytes(given) => {
+            let mut bytes = ListOf::new(alloc);
+            for byte in given {
+                bytes.push(*byte)?;
+            }
+            Ok(Answer::Bytes(bytes))
+        }
+        Heard::Nothing => Ok(Answer::Nothing),
+        Heard::End => Ok(Answer::End),
+    }
+}
+
+fn end_answer(ended: Ended) -> Answer {
+    match ended {
+        Ended::Code(code) => Answer::Code(code),
+        Ended::Signal => Answer::Signal,
+        Ended::Running => Answer::Running,
+        Ended::Failed => Answer::Failed,
+    }
+}
+
+/// One child with these answers. Behind them a read comes to the end, and the child has ended with code 0.
+pub fn child(alloc: Global, reads: &[Heard], ends: &[Ended]) -> Result<Vec<Play>, Fail> {
+    let mut heard: Answers = ListOf::new(alloc);
+    for read in reads {
+        heard.push(answer(alloc, *read)?)?;
+    }
+    let mut ended: Answers = ListOf::new(alloc);
+    for end in ends {
+        ended.push(end_answer(*end))?;
+    }
+    let mut plays = Vec::new(alloc);
+    plays.push(Play {
+        reads: heard,
+        ends: ended,
+    })?;
+    Ok(plays)
+}
