@@ -1,5 +1,5 @@
 -- Changes of a list of entries and of their overlays, part by part.
-use Rattle.std.proofs.Common.{◌≡◌, ℕ, ◌<◌, Bool, true, false, nat_lt, nat_le, ◌==◌, ◌&&◌, ◌||◌, if◌then◌else◌, List, [], ◌∷◌, ◌++◌, map, length, get_or, slice_set, filter, All, Option, Some, None, unwrap_or, option_map, append_assoc, refl, ap, sym, ◌∙◌, arith}
+use Rattle.std.proofs.Common.{◌≡◌, ℕ, ◌<◌, Bool, true, false, nat_lt, nat_le, ◌==◌, ◌&&◌, ◌||◌, List, [], ◌∷◌, ◌++◌, map, length, get_or, slice_set, filter, All, Option, refl, ap, sym, ◌∙◌, arith}
 use Rattle.std.specs.List.{flat_map, fold}
 use Rattle.std.proofs.lemmas.Bool.{or_parts, eqb-true, eqb-false, lt-ltb, le-leb, leb-false, ltb-false}
 use Rattle.text_model.specs.Places.{after_insert, after_delete}
@@ -9,7 +9,6 @@ use Rattle.std.proofs.lemmas.List.{get_or_default, get_or-set_same, get_or-set_o
 use Rattle.std.proofs.lemmas.List.Sums.{fold-append}
 use Rattle.std.proofs.lemmas.List.Elements.{filter-append, All-filter, All-nil, All-cons, All-head, All-tail, All-weaker}
 use Rattle.std.proofs.lemmas.Grind.{flat_map-append}
-use Rattle.std.proofs.lemmas.Option.{slice_get-map, slice_get-get_or, unwrap_or-slice_get}
 use Rattle.text_model.specs.Marks.{Overlay, start_advances}
 use Rattle.overlay_set.specs.Numbered.{no_overlay, overlay_at, span_at, span_of}
 use Rattle.overlay_set.specs.Slots.{overlay_of, with_span, moved_by}

@@ -1,19 +1,19 @@
 -- The entries of overlays by number.
-use Rattle.std.proofs.Common.{◌≡◌, ℕ, zero, suc, ◌+◌, ◌<◌, ◌≤◌, Bool, true, false, not, ◌==◌, ◌&&◌, List, [], ◌∷◌, ◌++◌, map, length, filter, slice_set, All, Option, Some, None, IfSome, append-nil, append_assoc, refl, ap, sym, ◌∙◌, subst, arith, if◌then◌else◌, add-one}
+use Rattle.std.proofs.Common.{◌≡◌, ℕ, zero, suc, ◌+◌, ◌<◌, ◌≤◌, Bool, true, false, ◌==◌, List, [], ◌∷◌, ◌++◌, map, length, filter, slice_set, All, Option, Some, None, IfSome, append_assoc, refl, ap, sym, ◌∙◌, subst, arith, if◌then◌else◌, add-one}
 use Rattle.std.specs.List.{flat_map, enumerate_from}
 use Rattle.std.proofs.lemmas.Bool.{eq-eqb, ne_eqb}
-use Rattle.std.proofs.lemmas.List.Elements.{All-nil, All-cons, All-head, All-tail, All-append, filter-append}
+use Rattle.std.proofs.lemmas.List.Elements.{All-nil, All-cons, All-head, All-tail}
 use Rattle.text_model.specs.Marks.{Overlay, Span}
 use Rattle.text_model.specs.OverlayQuestions.{span_passes, ends_of_span, overlay_ends}
-use Rattle.overlay_set.specs.Numbered.{overlay_at, span_at, numbers_of, no_overlay}
+use Rattle.overlay_set.specs.Numbered.{overlay_at, span_at, numbers_of}
 use Rattle.overlay_set.specs.Slots.{test_of, with_span, moved_by, CanMoveIn}
-use Rattle.overlay_set.specs.Entries.{entry_of, entries_from, HoldSame, numbers_in, passes, ends_at, is_same, without, IsMade}
+use Rattle.overlay_set.specs.Entries.{entry_of, entries_from, numbers_in, passes, ends_at, is_same, without}
 use Rattle.overlay_set.specs.Moves.{CanMoveEntry, moved_entry}
 use Rattle.overlay_set.specs.declared.slot.Question.{Question}
 use Rattle.overlay_set.specs.declared.slot.Change.{Change}
 use Rattle.overlay_set.specs.declared.slot.Change.TheVariants.{Insertion, Deletion, Killed}
 use Rattle.overlay_set.specs.declared.bounds.Entry.{Entry}
-use Rattle.overlay_set.proofs.Parts.{is_same-true, filter_all}
+use Rattle.overlay_set.proofs.Parts.{is_same-true}
 use Rattle.overlay_set.proofs.SameLemmas.{total, Same, total-append, Below, Rises}
 
 -- what is read by number from k on

@@ -1,10 +1,10 @@
 -- One overlay's stretch given, taken or kept: the tree and the slots go on agreeing.
-use Rattle.std.proofs.Common.{◌≡◌, ℕ, ◌+◌, ◌<◌, List, [], ◌∷◌, ◌++◌, map, length, get_or, slice_set, Option, Some, None, option_map, refl, ap, sym, ◌∙◌, arith}
+use Rattle.std.proofs.Common.{◌≡◌, ℕ, ◌+◌, ◌<◌, List, [], ◌∷◌, ◌++◌, map, length, get_or, slice_set, Option, Some, None, refl, ap, sym, ◌∙◌, arith}
 use Rattle.std.proofs.lemmas.List.{length-map, map-set, map-append}
 use Rattle.text_model.specs.Marks.{Overlay}
 use Rattle.overlay_set.specs.Numbered.{overlay_at, span_at, span_of}
 use Rattle.overlay_set.specs.Slots.{overlay_of}
-use Rattle.overlay_set.specs.Entries.{entry_of, entries_from, HoldSame, is_same, without, without_all}
+use Rattle.overlay_set.specs.Entries.{entry_of, entries_from, HoldSame, without, without_all}
 use Rattle.overlay_set.specs.declared.slot.Slot.{Slot}
 use Rattle.overlay_set.specs.declared.bounds.Entry.{Entry}
 use Rattle.overlay_set.proofs.Lists.{overlay_at_slot}

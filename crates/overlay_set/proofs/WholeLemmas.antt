@@ -1,8 +1,8 @@
 -- What is done over the tree is what the definitions say of all overlays.
-use Rattle.std.proofs.Common.{◌≡◌, ℕ, ◌+◌, ◌<◌, ◌≤◌, Bool, true, false, nat_lt, ◌==◌, ◌&&◌, List, [], ◌∷◌, ◌++◌, map, length, filter, slice_set, All, Option, Some, None, option_map, is_some, min, max, IsPermutation, append_assoc, refl, ap, sym, ◌∙◌, subst, arith, if◌then◌else◌}
+use Rattle.std.proofs.Common.{◌≡◌, ℕ, ◌+◌, ◌<◌, Bool, true, false, nat_lt, ◌==◌, List, [], ◌∷◌, ◌++◌, map, length, filter, slice_set, All, Option, Some, None, option_map, is_some, min, max, IsPermutation, append_assoc, refl, ap, sym, ◌∙◌, subst, arith, if◌then◌else◌}
 use Rattle.std.specs.List.{flat_map, fold, enumerate_from}
 use Rattle.std.proofs.lemmas.Bool.{eqb-true, eqb-false, lt-ltb}
-use Rattle.std.proofs.lemmas.List.{set_comm, length-append, length-set}
+use Rattle.std.proofs.lemmas.List.{set_comm, length-append}
 use Rattle.std.proofs.lemmas.List.Elements.{All-filter, All-head, All-tail, All-weaker}
 use Rattle.text_model.specs.Properties.{get}
 use Rattle.text_model.specs.Marks.{Overlay, Span}
@@ -11,7 +11,7 @@ use Rattle.std.specs.List.Sorted.{IsNonDecreasing}
 use Rattle.overlay_set.specs.Numbered.{overlay_at, numbers_of}
 use Rattle.overlay_set.specs.Slots.{with_span, moved_by, test_of, CanMoveIn}
 use Rattle.overlay_set.specs.Entries.{entry_of, entries_from, HoldSame, numbers_in, passes, ends_at, IsMade}
-use Rattle.overlay_set.specs.Moves.{CanMoveEntry, touches, moved_at, moved_entry, move_one, move_all}
+use Rattle.overlay_set.specs.Moves.{CanMoveEntry, touches, moved_entry, move_one, move_all}
 use Rattle.overlay_set.specs.Winner.{is_stronger, stronger, has_property, contenders, strongest}
 use Rattle.overlay_set.specs.declared.slot.Question.TheVariants.{At}
 use Rattle.overlay_set.specs.declared.slot.Question.{Question}

@@ -22,9 +22,6 @@ abbrev pub given_of : Option PropVal → Option PropVal
 given_of None = None
 given_of (Some v) = given v
 
-abbrev pub numbered : List Overlay → ℕ → ℕ × Overlay
-numbered overlays k = (k, overlay_at overlays k)
-
 abbrev pub numbers_of : List (ℕ × Overlay) → List ℕ
 numbers_of overlays = map (λ o. o.0) overlays
 

@@ -183,8 +183,7 @@ impl Bounds {
     pub(crate) fn may_pass(self, buffer: u32, question: Question) -> bool
         ensures { (e : Entry) → Holds self e → passes buffer question e ≡ true → result ≡ true }
     {
-        let (from, to) = question.places();
-        self.buffers.holds(buffer as usize) && self.starts.least <= to && from <= self.ends.most
+        self.buffers.holds(buffer as usize) && question.may_pass(self.starts.least, self.ends.most)
     }
 
     /// Whether a change of the buffer may move an entry.

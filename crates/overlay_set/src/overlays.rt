@@ -5,7 +5,7 @@ ghost use Rattle.text_model.specs.Marks.{Overlay, move_overlay, evaporated, over
 ghost use Rattle.text_model.specs.OverlayQuestions.{overlays_where, covers, lies_within, winner, greater, next_end, previous_end};
 ghost use Rattle.ek_types.specs.Property.{prop_of};
 ghost use Rattle.ek_types.specs.Listing.{items_of};
-ghost use Rattle.overlay_set.specs.Numbered.{overlay_at, span_of, span_at, given_of, numbers_of, numbered, next_or, previous_or, HasRoomFor};
+ghost use Rattle.overlay_set.specs.Numbered.{overlay_at, span_of, span_at, given_of, numbers_of, next_or, previous_or, HasRoomFor};
 ghost use Rattle.overlay_set.specs.Slots.{test_of, with_span, moved_by, overlay_of, CanMoveIn};
 ghost use Rattle.overlay_set.specs.Entries.{HoldSame, numbers_in, passes};
 

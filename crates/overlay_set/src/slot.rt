@@ -74,13 +74,13 @@ fn stands_in_part(from: usize, to: usize, last: usize, start: usize) -> bool
 }
 
 impl Question {
-    /// No stretch passes that ends before the first of two places or begins behind the second.
-    pub(crate) fn places(self) -> (usize, usize)
-        ensures { (s : Span) → test_of self s ≡ true → (s.start ≤ result.1) × (result.0 ≤ s.end) }
+    /// Whether it may be yes for a stretch that begins at `least` or behind it, and ends at `most` or before it.
+    pub(crate) fn may_pass(self, least: usize, most: usize) -> bool
+        ensures { (s : Span) → test_of self s ≡ true → least ≤ s.start → s.end ≤ most → result ≡ true }
     {
         match self {
-            Question::At { i } => (i, i),
-            Question::Within { from, to, .. } => (from.min(to), from.max(to)),
+            Question::At { i } => least <= i && i < most,
+            Question::Within { from, to, .. } => least <= from.max(to) && from.min(to) <= most,
         }
     }
 

@@ -1,12 +1,11 @@
-use Rattle.std.proofs.Common.{◌≡◌, ℕ, false, ◌<◌, All, ◌∷◌, [], ◌++◌, length, map, filter, sym, ap, subst, ◌∙◌, arith, rules}
+use Rattle.std.proofs.Common.{◌≡◌, ◌<◌, All, ◌∷◌, [], ◌++◌, length, map, sym, subst, ◌∙◌, arith, rules}
 use Rattle.std.proofs.lemmas.Grind.{common_steps}
 use Rattle.std.proofs.lemmas.List.{length-map}
 use Rattle.std.proofs.lemmas.List.Elements.{All-weaker}
 use Rattle.overlay_set.specs.Numbered.{span_of}
-use Rattle.std.specs.List.{flat_map}
 use Rattle.overlay_set.specs.Slots.{overlay_of}
 use Rattle.overlay_set.specs.Entries.{IsMade, entry_of}
-use Rattle.overlay_set.specs.Moves.{CanMoveEntry, touches, moved_entry, move_all}
+use Rattle.overlay_set.specs.Moves.{CanMoveEntry, touches}
 use Rattle.overlay_set.specs.declared.bounds.Entry.{Entry}
 use Rattle.overlay_set.proofs.Parts.{all_left, all_own, all_right, filter_none}
 use Rattle.overlay_set.proofs.ChangeLemmas.{untouched, move_all_none, move_all_three, moved_three, length-moved}

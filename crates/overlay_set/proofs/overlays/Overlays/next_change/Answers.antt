@@ -1,4 +1,4 @@
-use Rattle.std.proofs.Common.{map, ◌≡◌, ◌+◌, nat_lt, sym, ◌∙◌}
+use Rattle.std.proofs.Common.{map, ◌+◌, nat_lt, sym, ◌∙◌}
 use Rattle.overlay_set.specs.Slots.{overlay_of}
 use Rattle.overlay_set.proofs.WholeLemmas.{whole_least}
 use Rattle.overlay_set.proofs.overlays.Overlays.next_change.Goals as goal

@@ -1,4 +1,4 @@
-use Rattle.std.proofs.Common.{◌≡◌, All, length, map, ap, sym, subst, ◌∙◌}
+use Rattle.std.proofs.Common.{All, map, subst, ◌∙◌}
 use Rattle.std.proofs.lemmas.List.{length-map}
 use Rattle.overlay_set.specs.Slots.{overlay_of}
 use Rattle.overlay_set.specs.Entries.{IsMade}

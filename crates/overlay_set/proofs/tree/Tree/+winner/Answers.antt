@@ -1,4 +1,4 @@
-use Rattle.std.proofs.Common.{◌≡◌, ◌++◌, ◌∷◌, [], All, map, length, filter, arith}
+use Rattle.std.proofs.Common.{map, length, arith}
 use Rattle.std.proofs.lemmas.Grind.{common_steps}
 use Rattle.overlay_set.specs.Slots.{overlay_of}
 use Rattle.overlay_set.specs.Entries.{IsMade, passes}
