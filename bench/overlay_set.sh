@@ -30,8 +30,6 @@ const FACE: Sym = Sym(14);
 
 const WINNERS: u32 = 2_000_000;
 
-const INSERTIONS: usize = 10_000;
-
 /// How overlay `k` of `count` stands.
 #[derive(Clone, Copy)]
 enum Shape {
@@ -94,28 +92,12 @@ fn winners(rt: &HostRuntime, shape: Shape, count: u32, calls: u32, step: u32) ->
     println!(rt; "overlay_set {} {count}: {calls} winners {time} ms, {right} of them right", shape.name())
 }
 
-fn insertions(rt: &HostRuntime, count: u32, at_front: bool) -> io::Result<()> {
-    let Ok(mut overlays) = overlays_of(rt, Shape::Apart, count as usize) else {
-        return println!(rt; "no memory");
-    };
-    let start = Instant::now(rt)?;
-    for i in 0..INSERTIONS {
-        let at = if at_front { 0 } else { (count as usize).saturating_add(i) };
-        overlays.note_insert(0, at, 1, false);
-    }
-    let time = start.elapsed(rt)?.as_millis();
-    let way = if at_front { "front" } else { "end" };
-    println!(rt; "overlay_set apart {count}: {INSERTIONS} insertions at the {way} {time} ms")
-}
-
 fn main(rt: HostRuntime) -> io::Result<()> {
     for word in env::args(&rt)? {
         if let Ok(count) = word.parse::<u32>() {
             winners(&rt, Shape::Apart, count, WINNERS, 1)?;
             winners(&rt, Shape::Nested, count, 64, count / 64)?;
             winners(&rt, Shape::Together, count, 64, count / 64)?;
-            insertions(&rt, count, false)?;
-            insertions(&rt, count, true)?;
         }
     }
     Ok(())
