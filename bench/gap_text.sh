@@ -6,20 +6,10 @@
 #     bench/gap_text.sh [COUNT ..]        (200000 and 400000 if none is given)
 set -eu
 
-top=$(cd "$(dirname "$0")/.." && pwd)
+. "$(dirname "$0")/common.sh"
 counts=${*:-200000 400000}
-work=$(mktemp -d "${TMPDIR:-/tmp}/gap_text_bench.XXXXXX")
-trap 'rm -rf "$work"' EXIT
 
-mkdir -p "$work/crates/bench_texts/src" "$work/crates/bench_texts/proofs/insertions"
-# With what an earlier check kept, the crates below need no proof again.
-for crate in text_model ek_types text_pool gap_text; do
-    cp -R "$top/crates/$crate" "$work/crates/"
-    grep "^$crate:" "$top/crates.txt" >> "$work/crates.txt"
-done
-echo 'bench_texts: ek_types text_pool gap_text' >> "$work/crates.txt"
-
-cat > "$work/crates/bench_texts/src/main.rt" <<'PROGRAM'
+scratch_program bench_texts ek_types text_pool gap_text <<'PROGRAM'
 //! Insertions into a text, one character at a time.
 #![tactic(auto)]
 ghost use Rattle.std.specs.Prelude.{◌≤◌};
@@ -97,7 +87,8 @@ fn main(rt: HostRuntime) -> io::Result<()> {
 }
 PROGRAM
 
-cat > "$work/crates/bench_texts/proofs/insertions/Invariants.antt" <<'PROOF'
+mkdir -p proofs/insertions
+cat > proofs/insertions/Invariants.antt <<'PROOF'
 
 use Rattle.gap_text.specs.Text.{LiesIn}
 use Rattle.bench_texts.proofs.insertions.Given as goal
@@ -106,10 +97,8 @@ abbrev pub invariant-inserting : goal.invariant-inserting
 invariant-inserting l = LiesIn l.pool l.text
 PROOF
 
-if ! (cd "$work/crates/bench_texts" && RT_SECONDS=3600 rt run -- $counts) 2> "$work/log"; then
-    cat "$work/log"
-    exit 1
-fi
+export RT_SECONDS=3600
+quietly rt run -- $counts
 
 if command -v emacs > /dev/null; then
     for way in along wandering random; do

@@ -3,15 +3,13 @@
 # with a child that writes 8 MiB. The child is heard once into the buffer, whose text ends at 4,194,304 characters, so
 # that what comes later is refused, and once with no buffer. Where emacs is installed, `emacs -Q --batch` does the same
 # work beside it: it evaluates the same forms and prints the same answers, or takes the same output into a buffer. The
-# ratio is the program's seconds by those of emacs.
+# ratio is that of the processor's seconds, which other work on the machine changes little.
 #
 #     bench/kernel.sh [PROGRAM]     (what `rt run` leaves in crates/kernel_cli/out if none is given)
 set -eu
 
-top=$(cd "$(dirname "$0")/.." && pwd)
+. "$(dirname "$0")/common.sh"
 program=${1:-$top/crates/kernel_cli/out/kernel_cli}
-work=$(mktemp -d "${TMPDIR:-/tmp}/kernel_bench.XXXXXX")
-trap 'rm -rf "$work"' EXIT
 
 if [ ! -x "$program" ]; then
     (cd "$top/crates/kernel_cli" && rt run -- run < /dev/null > /dev/null)
@@ -54,31 +52,30 @@ cat > "$work/output.el" <<'LISP'
   (when kept (with-current-buffer kept (prin1 (buffer-string)))))
 LISP
 
-cat > "$work/measure.py" <<'PROGRAM'
-import resource, subprocess, sys, time
+# measured SCRIPT COMMAND ..: how many seconds the command took, how many of them some processor's, and its peak of memory
+# in MiB. Python comes in this subshell's place at the end and asks what its children took, so that it doesn't count.
+measured() (
+    given=$1
+    shift
+    start=$(date +%s.%N)
+    "$@" < "$given" > /dev/null 2>&1 || {
+        echo "$1: status $?" >&2
+        exit 1
+    }
+    exec python3 -c 'import resource, sys
+start, end = map(float, sys.argv[1:])
+took = resource.getrusage(resource.RUSAGE_CHILDREN)
+print(f"{end - start:.2f} {took.ru_utime + took.ru_stime:.2f} {took.ru_maxrss // 1024}")' "$start" "$(date +%s.%N)"
+)
 
-given, command = sys.argv[1], sys.argv[2:]
-start = time.monotonic()
-with open(given, "rb") as script:
-    ended = subprocess.run(command, stdin=script, stdout=subprocess.DEVNULL, stderr=subprocess.DEVNULL)
-seconds = time.monotonic() - start
-if ended.returncode:
-    sys.exit(f"{command[0]}: status {ended.returncode}")
-print(f"{seconds:.2f}", resource.getrusage(resource.RUSAGE_CHILDREN).ru_maxrss // 1024)
-PROGRAM
-
-measured() {
-    python3 "$work/measure.py" "$@"
-}
-
-# compared NAME LISP: the program on the script of this name, and the Lisp beside it
+# compared NAME LISP [SCRIPT]: the program on the script of this name, and the Lisp beside it on that script or another
 compared() {
     ours=$(measured "$work/$1" "$program" run)
-    printf '%-11s kernel %8s s %5s MiB' "$1" ${ours}
+    printf '%-11s kernel %6s s, %6s s of a processor, %4s MiB' "$1" ${ours}
     if command -v emacs > /dev/null; then
         theirs=$(SCRIPT=${3:-$work/$1} OUTPUT=$output measured /dev/null emacs -Q --batch -l "$work/$2")
-        printf ', emacs %8s s %5s MiB' ${theirs}
-        echo "${ours% *} ${theirs% *}" | awk '{ printf ", ratio %.2f", $1 / ($2 ? $2 : 0.01) }'
+        printf '; emacs %6s s, %6s s, %4s MiB' ${theirs}
+        echo "$ours $theirs" | awk '{ printf "; ratio %.2f", $2 / ($5 ? $5 : 0.01) }'
     fi
     echo
 }

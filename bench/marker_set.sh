@@ -6,24 +6,10 @@
 #     bench/marker_set.sh [COUNT ..]        (8192 16384 32768 65536 if none is given)
 set -eu
 
-top=$(cd "$(dirname "$0")/.." && pwd)
+. "$(dirname "$0")/common.sh"
 counts=${*:-8192 16384 32768 65536}
-work=$(mktemp -d "${TMPDIR:-/tmp}/marker_set_bench.XXXXXX")
-trap 'rm -rf "$work"' EXIT
 
-mkdir -p "$work/crates/bench_markers/src"
-for crate in text_model ek_types marker_set; do
-    mkdir "$work/crates/$crate"
-    for part in src specs proofs; do
-        if [ -d "$top/crates/$crate/$part" ]; then
-            cp -R "$top/crates/$crate/$part" "$work/crates/$crate/"
-        fi
-    done
-    grep "^$crate:" "$top/crates.txt" >> "$work/crates.txt"
-done
-echo 'bench_markers: ek_types marker_set' >> "$work/crates.txt"
-
-cat > "$work/crates/bench_markers/src/main.rt" <<'PROGRAM'
+scratch_program bench_markers ek_types marker_set <<'PROGRAM'
 //! Changes of a buffer with few markers beside one with many.
 #![tactic(auto)]
 
@@ -88,4 +74,4 @@ fn main(rt: HostRuntime) -> io::Result<()> {
 }
 PROGRAM
 
-(cd "$work/crates/bench_markers" && rt try --seconds 3600 -- $counts)
+rt try --seconds 3600 -- $counts

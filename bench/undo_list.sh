@@ -8,24 +8,10 @@
 #     bench/undo_list.sh [COUNT ..]        (50000 100000 200000 if none is given)
 set -eu
 
-top=$(cd "$(dirname "$0")/.." && pwd)
+. "$(dirname "$0")/common.sh"
 counts=${*:-50000 100000 200000}
-work=$(mktemp -d "${TMPDIR:-/tmp}/undo_list_bench.XXXXXX")
-trap 'rm -rf "$work"' EXIT
 
-mkdir -p "$work/crates/bench_undo/src"
-for crate in text_model ek_types undo_list; do
-    mkdir "$work/crates/$crate"
-    for part in src specs proofs; do
-        if [ -d "$top/crates/$crate/$part" ]; then
-            cp -R "$top/crates/$crate/$part" "$work/crates/$crate/"
-        fi
-    done
-    grep "^$crate:" "$top/crates.txt" >> "$work/crates.txt"
-done
-echo 'bench_undo: ek_types undo_list' >> "$work/crates.txt"
-
-cat > "$work/crates/bench_undo/src/main.rt" <<'PROGRAM'
+scratch_program bench_undo ek_types undo_list <<'PROGRAM'
 //! Pushes, cuts, plans and passes.
 #![tactic(auto)]
 
@@ -109,4 +95,4 @@ fn main(rt: HostRuntime) -> io::Result<()> {
 }
 PROGRAM
 
-(cd "$work/crates/bench_undo" && rt try --seconds 3600 -- $counts)
+rt try --seconds 3600 -- $counts

@@ -6,25 +6,10 @@
 #     bench/utf8_stream.sh [ROUNDS]        (of 256 KiB each; 200 if none is given)
 set -eu
 
-top=$(cd "$(dirname "$0")/.." && pwd)
+. "$(dirname "$0")/common.sh"
 rounds=${1:-200}
-work=$(mktemp -d "${TMPDIR:-/tmp}/utf8_stream_bench.XXXXXX")
-trap 'rm -rf "$work"' EXIT
 
-mkdir -p "$work/crates/bench_decoding/src"
-cp "$top/HANDLES" "$work/"
-for crate in text_model ek_types utf8_stream; do
-    mkdir "$work/crates/$crate"
-    for part in src specs proofs; do
-        if [ -d "$top/crates/$crate/$part" ]; then
-            cp -R "$top/crates/$crate/$part" "$work/crates/$crate/"
-        fi
-    done
-    grep "^$crate:" "$top/crates.txt" >> "$work/crates.txt"
-done
-echo 'bench_decoding: ek_types utf8_stream bstr' >> "$work/crates.txt"
-
-cat > "$work/crates/bench_decoding/src/main.rt" <<'PROGRAM'
+scratch_program bench_decoding ek_types utf8_stream bstr <<'PROGRAM'
 //! The time of decoding in pieces, and of `bstr`'s decoding.
 #![tactic(auto)]
 
@@ -106,10 +91,7 @@ fn main(rt: HostRuntime) -> io::Result<()> {
 }
 PROGRAM
 
-(cd "$work/crates/bench_decoding" && rt run -- "$rounds" > "$work/times" 2> "$work/log") || {
-    tail -n 20 "$work/log" >&2
-    exit 1
-}
+quietly rt run -- "$rounds" > "$work/times"
 
 # NAME: ROUNDS times LENGTH bytes: MICROSECONDS microseconds in pieces, MICROSECONDS by bstr in one (..)
 sed -nE 's/^(.*): ([0-9]+) times ([0-9]+) bytes: ([0-9]+) microseconds in pieces, ([0-9]+) by bstr.*/\1:\2:\3:\4:\5/p' "$work/times" |

@@ -2,9 +2,12 @@
 //!
 //! A read waits for the pipe and the question how a child has ended waits for the child, so this host never answers
 //! `Nothing` or `Running`. It tells no exchanges. A child that is killed, or that has ended when it is asked, is reaped.
-ghost use Rattle.std.specs.Prelude.{◌≡◌, [], None, false, vec_len, IsSome, OnOk};
-ghost use Rattle.std.specs.Process.{child_status};
-ghost use Rattle.host_link.specs.Hosts.{HostState};
+ghost use Rattle.std.specs.Prelude.{◌≡◌, ◌≢◌, ◌<◌, ◌-◌, ◌^◌, ℕ, List, [], map, length, None, Some, false, true, vec_len, slice_get, slice_set, string_bytes, IsSome, IsTrue, IfOk, OnOk, OnErr};
+ghost use Rattle.std.specs.Io.KnownBytes.{Keeps};
+ghost use Rattle.std.specs.Process.{child_status, command_program, command_args, command_var, command_dir, clears_env};
+ghost use Rattle.plain_machine.specs.Exchanges.{Spawn, Read, AskEnd, Send, Close, Kill, Closed};
+ghost use Rattle.host_link.specs.Hosts.{Asked, Exchanged, Fits, IsNumbered, after_spawn, spawned_answer, got_answer, ended_answer, send_answer, kill_answer};
+ghost use Rattle.kernel_cli.specs.Answers.{untold, faults_after, of_child, Gives, OutputGives, InputTakes, told_end};
 
 use ek_types::{Mem, NoMemory};
 use host_link::{Ended, Exchanges, Got, Host, KillAnswer, SendAnswer, Spawned};
@@ -68,9 +71,15 @@ fn kill_and_reap<P: OpenProcess>(child: &mut Child<P>) -> io::Result<()>
     Ok(())
 }
 
-fn command_of(alloc: Global, program: &str, args: &[String]) -> Result<Command, AllocError> {
+/// The command of these words, with pipes for its input and output and with this process's environment and folder.
+fn command_of(alloc: Global, program: &str, args: &[String]) -> Result<Command, AllocError>
+    ensures program { IfOk result (λ c. command_program c ≡ program.now) }
+    ensures args { IfOk result (λ c. command_args c ≡ map string_bytes args.now) }
+    ensures environment { IfOk result (λ c. (clears_env c ≡ false) × ((name : List ℕ) → command_var c name ≡ None)) }
+    ensures folder { IfOk result (λ c. command_dir c ≡ None) }
+{
     let mut command = Command::new(alloc, program)?;
-    for word in args {
+    'words: for word in args {
         command.arg(word.as_str())?;
     }
     command.stdin(Stdio::piped());
@@ -78,11 +87,51 @@ fn command_of(alloc: Global, program: &str, args: &[String]) -> Result<Command, 
     Ok(command)
 }
 
+/// One read of a child's output.
+fn got_from<R: Read>(output: &mut R, room: &mut [u8]) -> io::Result<Got>
+    requires { 0 < length room.old }
+    ensures got { IfOk result (λ got. Gives (R.remaining output.old) (R.remaining output.new) room.new got) }
+    ensures err { OnErr result (Keeps (R.remaining output.old) (R.remaining output.new)) }
+{
+    match output.read(room)? {
+        0 => Ok(Got::End),
+        n => Ok(Got::Bytes(n)),
+    }
+}
+
+/// Puts all bytes into a child's input, and answers whether they went there. They didn't where it was closed, here or by
+/// the child.
+fn is_sent<W: Write>(input: &mut Option<W>, bytes: &[u8]) -> bool
+    ensures { IsTrue result → InputTakes W.contents input.old input.new bytes.now }
+{
+    match input {
+        Some(input) => input.write_all(bytes).is_ok(),
+        None => false,
+    }
+}
+
+/// Closes a child's input and waits for its end, which reaps it.
+fn waited_for<P: OpenProcess>(child: &mut Child<P>) -> io::Result<Ended>
+    ensures ended { IfOk result (λ ended. told_end child.new ≡ Some ended) }
+    ensures reaped { OnOk result (IsSome (child_status child.new)) }
+{
+    match child.wait()?.code() {
+        Some(code) => Ok(Ended::Code(code)),
+        None => Ok(Ended::Signal),
+    }
+}
+
 impl<'a, R: Processes> Host for RealHost<'a, R> {
-    ghost state = { λ h. record { told = None; faults = h.faults; kills = h.kills.items } };
+    ghost state = { λ h. untold h.faults h.kills.items };
 
     /// Want of memory inside the system's own call counts as a refusal.
-    fn spawn(&mut self, program: &str, args: &[String]) -> Mem<Spawned> {
+    fn spawn(&mut self, program: &str, args: &[String]) -> Mem<Spawned>
+        requires { length self.old.kills.items < 2 ^ 32 - 1 }
+        ensures asked { Asked (untold self.old.faults self.old.kills.items) (untold self.new.faults self.new.kills.items)
+            (after_spawn self.old.kills.items) (Spawn program.now (map string_bytes args.now)) spawned_answer result }
+        ensures number { IfOk result (IsNumbered (length self.old.kills.items)) }
+        ensures faults { IfOk result (λ answer. self.new.faults ≡ faults_after (spawned_answer answer) self.old.faults) }
+    {
         let Ok(mut command) = command_of(self.alloc, program, args) else {
             return Err(NoMemory);
         };
@@ -102,13 +151,21 @@ impl<'a, R: Processes> Host for RealHost<'a, R> {
         }
     }
 
-    fn read(&mut self, child: u32, into: &mut [u8]) -> Mem<Got> {
+    fn read(&mut self, child: u32, into: &mut [u8]) -> Mem<Got>
+        requires there { child < length self.old.kills.items }
+        requires room { 0 < length into.old }
+        ensures asked { Asked (untold self.old.faults self.old.kills.items) (untold self.new.faults self.new.kills.items)
+            (λ _. self.old.kills.items) (Read child) (got_answer into.new) result }
+        ensures fits { IfOk result (Fits (length into.new)) }
+        ensures faults { IfOk result (λ got. self.new.faults ≡ faults_after (got_answer into.new got) self.old.faults) }
+        ensures got { IfOk result (λ got. got ≢ Got.Failed → OutputGives R.Started.Stdout.remaining
+            (of_child (λ c. c.stdout) self.old.children.items child) (of_child (λ c. c.stdout) self.new.children.items child) into.new got) }
+    {
         let Some(stdout) = &mut self.children[child as usize].stdout else {
             return Ok(Got::End);
         };
-        match stdout.read(into) {
-            Ok(0) => Ok(Got::End),
-            Ok(n) => Ok(Got::Bytes(n)),
+        match got_from(stdout, into) {
+            Ok(got) => Ok(got),
             Err(_) => {
                 self.faults = self.faults.saturating_add(1);
                 Ok(Got::Failed)
@@ -116,13 +173,15 @@ impl<'a, R: Processes> Host for RealHost<'a, R> {
         }
     }
 
-    /// Closes the child's input and waits for its end, which reaps it.
-    fn end(&mut self, child: u32) -> Mem<Ended> {
-        match self.children[child as usize].wait() {
-            Ok(status) => match status.code() {
-                Some(code) => Ok(Ended::Code(code)),
-                None => Ok(Ended::Signal),
-            },
+    fn end(&mut self, child: u32) -> Mem<Ended>
+        requires { child < length self.old.kills.items }
+        ensures asked { Asked (untold self.old.faults self.old.kills.items) (untold self.new.faults self.new.kills.items)
+            (λ _. self.old.kills.items) (AskEnd child) ended_answer result }
+        ensures faults { IfOk result (λ ended. self.new.faults ≡ faults_after (ended_answer ended) self.old.faults) }
+        ensures ended { IfOk result (λ ended. ended ≢ Ended.Failed → of_child told_end self.new.children.items child ≡ Some ended) }
+    {
+        match waited_for(&mut self.children[child as usize]) {
+            Ok(ended) => Ok(ended),
             Err(_) => {
                 self.faults = self.faults.saturating_add(1);
                 Ok(Ended::Failed)
@@ -130,13 +189,15 @@ impl<'a, R: Processes> Host for RealHost<'a, R> {
         }
     }
 
-    /// An input that was closed, here or by the child, is an error and no signal.
-    fn send(&mut self, child: u32, bytes: &[u8]) -> Mem<SendAnswer> {
-        let sent = match &mut self.children[child as usize].stdin {
-            Some(stdin) => stdin.write_all(bytes).is_ok(),
-            None => false,
-        };
-        if sent {
+    fn send(&mut self, child: u32, bytes: &[u8]) -> Mem<SendAnswer>
+        requires { child < length self.old.kills.items }
+        ensures asked { Asked (untold self.old.faults self.old.kills.items) (untold self.new.faults self.new.kills.items)
+            (λ _. self.old.kills.items) (Send child bytes.now) send_answer result }
+        ensures faults { IfOk result (λ answer. self.new.faults ≡ faults_after (send_answer answer) self.old.faults) }
+        ensures sent { IfOk result (λ answer. answer ≡ SendAnswer.Sent → InputTakes R.Started.Stdin.contents
+            (of_child (λ c. c.stdin) self.old.children.items child) (of_child (λ c. c.stdin) self.new.children.items child) bytes.now) }
+    {
+        if is_sent(&mut self.children[child as usize].stdin, bytes) {
             Ok(SendAnswer::Sent)
         } else {
             self.faults = self.faults.saturating_add(1);
@@ -144,7 +205,12 @@ impl<'a, R: Processes> Host for RealHost<'a, R> {
         }
     }
 
-    fn close(&mut self, child: u32) -> Mem<()> {
+    fn close(&mut self, child: u32) -> Mem<()>
+        requires { child < length self.old.kills.items }
+        ensures asked { Asked (untold self.old.faults self.old.kills.items) (untold self.new.faults self.new.kills.items)
+            (λ _. self.old.kills.items) (Close child) (λ _. Closed) result }
+        ensures closed { OnOk result (of_child (λ c. c.stdin) self.new.children.items child ≡ None) }
+    {
         self.children[child as usize].stdin = None;
         Ok(())
     }
@@ -154,7 +220,13 @@ impl<'a, R: Processes> Host for RealHost<'a, R> {
     }
 
     /// Kills the child and reaps it.
-    fn kill(&mut self, child: u32) -> KillAnswer {
+    fn kill(&mut self, child: u32) -> KillAnswer
+        requires { slice_get self.old.kills.items child ≡ Some false }
+        ensures asked { Exchanged (untold self.old.faults self.old.kills.items) (untold self.new.faults self.new.kills.items)
+            (slice_set self.old.kills.items child true) (Kill child) (kill_answer result) }
+        ensures faults { self.new.faults ≡ faults_after (kill_answer result) self.old.faults }
+        ensures reaped { result ≡ KillAnswer.Killed → IsSome (of_child child_status self.new.children.items child) }
+    {
         self.kills[child as usize] = true;
         match kill_and_reap(&mut self.children[child as usize]) {
             Ok(()) => KillAnswer::Killed,

@@ -2,54 +2,17 @@
 #![tactic(auto)]
 
 mod children;
+mod failure;
 mod standard;
 
 use children::RealHost;
+use failure::{Failure, result_of};
 use host_link::Recorder;
-use kernel_top::{Status, run};
+use kernel_top::run;
 use standard::{ReaderSource, WriterSink};
 use std::env;
 use std::io::{self, LineWriter};
 use std::process::ExitCode;
-use thiserror::Error;
-
-/// Why a run ended early, as standard error tells it.
-#[derive(Debug, Drop, Error)]
-enum Failure {
-    #[error("usage")]
-    Usage,
-    #[error("script: line {0}")]
-    Script(u32),
-    #[error("read failed")]
-    Read,
-    #[error("write failed")]
-    Write,
-    #[error("out of memory")]
-    Memory,
-}
-
-impl Failure {
-    fn exit_status(&self) -> u8 {
-        match self {
-            Failure::Usage => 1,
-            Failure::Script(_) => 2,
-            Failure::Read => 3,
-            Failure::Write => 4,
-            Failure::Memory => 5,
-        }
-    }
-}
-
-fn result_of(status: Status) -> Result<(), Failure> {
-    match status {
-        Status::Done => Ok(()),
-        Status::Usage => Err(Failure::Usage),
-        Status::Script(line) => Err(Failure::Script(line)),
-        Status::ReadFault => Err(Failure::Read),
-        Status::WriteFault => Err(Failure::Write),
-        Status::NoMemory => Err(Failure::Memory),
-    }
-}
 
 /// The words behind the program's name. One that isn't UTF-8 is none that the program knows.
 fn words(rt: &HostRuntime) -> Result<Vec<String>, Failure> {

@@ -2,9 +2,10 @@
 //!
 //! They call the reader and the writer once for each call of their own, count each error of those calls, and answer
 //! `Failed` in just these calls. Nothing is retried, so an interrupted call counts too.
-ghost use Rattle.std.specs.Prelude.{◌≡◌, IsErr};
+ghost use Rattle.std.specs.Prelude.{◌≡◌, ◌<◌, length};
 ghost use Rattle.std.specs.Io.KnownBytes.{Keeps};
-ghost use Rattle.ek_types.specs.Io.{HasCause};
+ghost use Rattle.ek_types.specs.Io.{HasCause, Takes, Puts};
+ghost use Rattle.kernel_cli.specs.Counts.{after_read, after_write, after_finish};
 
 use ek_types::{Sink, SinkFault, Source, Took, Wrote};
 use std::io::{Read, Write};
@@ -31,7 +32,12 @@ impl<R: Read> Source for ReaderSource<R> {
 
     ghost state = { λ s. record { left = R.remaining s.reader; faults = s.faults; unfailing = false } };
 
-    fn read(&mut self, into: &mut [u8]) -> Took {
+    fn read(&mut self, into: &mut [u8]) -> Took
+        requires { 0 < length into.old }
+        ensures bytes { Takes (R.remaining self.old.reader) (R.remaining self.new.reader) into.new result }
+        ensures cause { HasCause self.old.faults self.new.faults (result ≡ Took.Failed) }
+        ensures faults { self.new.faults ≡ after_read result self.old.faults }
+    {
         match self.reader.read(into) {
             Ok(0) => Took::End,
             Ok(n) => Took::Bytes(n),
@@ -63,7 +69,7 @@ impl<W: Write> WriterSink<W> {
     /// is dropped is lost.
     pub fn finish(&mut self) -> Result<(), SinkFault>
         ensures bytes { Keeps (W.contents self.old.writer) (W.contents self.new.writer) }
-        ensures cause { HasCause self.old.faults self.new.faults (IsErr result) }
+        ensures faults { self.new.faults ≡ after_finish result self.old.faults }
     {
         match self.writer.flush() {
             Ok(()) => Ok(()),
@@ -79,7 +85,12 @@ impl<W: Write> Sink for WriterSink<W> {
     ghost state = { λ s. record { held = W.contents s.writer; faults = s.faults; room = 0 } };
 
     /// A write that takes nothing counts as an error.
-    fn write(&mut self, from: &[u8]) -> Wrote {
+    fn write(&mut self, from: &[u8]) -> Wrote
+        requires { 0 < length from.now }
+        ensures bytes { Puts (W.contents self.old.writer) (W.contents self.new.writer) from.now result }
+        ensures cause { HasCause self.old.faults self.new.faults (result ≡ Wrote.Failed) }
+        ensures faults { self.new.faults ≡ after_write result self.old.faults }
+    {
         match self.writer.write(from) {
             Ok(0) | Err(_) => {
                 self.faults = self.faults.saturating_add(1);

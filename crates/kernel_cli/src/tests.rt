@@ -1,5 +1,6 @@
 use super::*;
 use ek_types::{MemorySink, MemorySource};
+use kernel_top::Status;
 use std::test::Fail;
 
 /// What a run with real children writes.
@@ -135,5 +136,24 @@ fn a_long_output_is_read_to_its_end(rt: HostRuntime) -> Result<(), Fail> {
     let (status, bytes) = written(&rt, script.as_str())?;
     assert_eq!(rt; status, Status::Done);
     assert!(rt; bytes.ends_with(want.as_bytes()));
+    Ok(())
+}
+
+#[test]
+fn a_failure_is_told_in_a_line(rt: HostRuntime) -> Result<(), Fail> {
+    let told = [
+        (Status::Usage, "usage", 1),
+        (Status::Script(0), "script: line 0", 2),
+        (Status::ReadFault, "read failed", 3),
+        (Status::WriteFault, "write failed", 4),
+        (Status::NoMemory, "out of memory", 5),
+    ];
+    for (status, line, exit_status) in told {
+        let Err(failure) = result_of(status) else {
+            return Err(Fail::from("done"));
+        };
+        assert_eq!(rt; format!(in rt.alloc(); "{failure}")?.as_str(), line);
+        assert_eq!(rt; failure.exit_status(), exit_status, "{line}");
+    }
     Ok(())
 }

@@ -1,6 +1,6 @@
 -- Property sets that a test finds the same.
-use Rattle.std.proofs.Common.{◌≡◌, ◌≢◌, ℕ, zero, suc, ◌+◌, ◌≤◌, Bool, true, false, List, [], ◌∷◌, length, drop, refl, ap, arith}
-use Rattle.std.specs.Prelude.{◌==◌, ◌&&◌, not, slice_get, Option, Some, None}
+use Rattle.std.proofs.Common.{◌≡◌, ◌≢◌, ℕ, zero, suc, ◌+◌, ◌≤◌, Bool, true, false, List, [], ◌∷◌, length, drop, refl, ap, sym, ◌∙◌, arith}
+use Rattle.std.specs.Prelude.{◌↔◌, ◌==◌, ◌&&◌, not, slice_get, Option, Some, None}
 use Rattle.std.proofs.lemmas.Bool.{eqb-true, eq-eqb}
 use Rattle.std.proofs.lemmas.Bool.Decides.{Decides-int_eq}
 use Rattle.text_model.specs.Characters.{Ch, Scalar, Raw}
@@ -103,6 +103,12 @@ pair_same p = rw (eq-eqb p.0 p.0 refl) (same_value-same p.1)
 pub same_set-same : (a : PropSet) → same_set a a ≡ true
 same_set-same a = same_list-same {A = ℕ × PropVal} (λ p q. (p.0 == q.0) && same_value p.1 q.1) pair_same a
 
+pub same_where_equal : (a b : PropSet) → same_set a b ≡ true ↔ a ≡ b
+same_where_equal a b = (same_set-sound a b, λ e. rw e (same_set-same b))
+
+pub all_same_where_equal : (xs ys : List PropSet) → same_list same_set xs ys ≡ true ↔ xs ≡ ys
+all_same_where_equal xs ys = (same_list-sound {A = PropSet} same_set same_set-sound xs ys, λ e. rw e (same_list-same {A = PropSet} same_set same_set-same ys))
+
 pub same_option-sound : (a b : Option PropVal) → same_option same_value a b ≡ true → a ≡ b
 same_option-sound None None h = refl
 same_option-sound (Some a) (Some b) h = ap Some (same_value-sound a b h)
@@ -121,3 +127,7 @@ same_from a false h k = cc
 pub other_from_test : (a b : Bool) → a ≡ not b → a ≡ true → b ≡ false
 other_from_test a true h k = cc
 other_from_test a false h k = refl
+
+pub unchanged_where_equal : (changed : Bool) (old new : List PropSet) → changed ≡ not (same_list same_set old new) → changed ≡ false ↔ new ≡ old
+unchanged_where_equal changed old new h =
+    (λ e. sym ((all_same_where_equal old new).0 (same_from changed _ h e)), λ e. h ∙ ap not ((all_same_where_equal old new).1 (sym e)))

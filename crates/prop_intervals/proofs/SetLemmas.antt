@@ -1,8 +1,8 @@
 -- The sets that runs give the characters.
-use Rattle.std.proofs.Common.{◌≡◌, ℕ, zero, suc, ◌+◌, ◌-◌, ◌≤◌, ◌<◌, Bool, true, false, List, [], ◌∷◌, ◌++◌, length, take, drop, refl, ap, sym, ◌∙◌, append-nil, append_assoc, length-append, subst, arith}
+use Rattle.std.proofs.Common.{◌≡◌, ◌≢◌, ℕ, zero, suc, ◌+◌, ◌-◌, ◌≤◌, ◌<◌, Bool, true, false, List, [], ◌∷◌, ◌++◌, length, take, drop, refl, ap, sym, ◌∙◌, append-nil, append_assoc, length-append, subst, arith}
 use Rattle.std.specs.Prelude.{nat_lt, ◌==◌, if◌then◌else◌, replicate, MatchBool, slice_get, Option, Some, not, unwrap_or}
-use Rattle.std.proofs.lemmas.Bool.{eqb-true, lt-ltb, le-ltb, ltb-true, ltb-false}
-use Rattle.std.proofs.lemmas.List.{length-replicate, take-take, drop_all, replicate_more, drop-append-le, take-append-le, take-replicate, drop-replicate, replicate-append-replicate}
+use Rattle.std.proofs.lemmas.Bool.{eqb-true, lt-ltb, le-ltb, ltb-true, ltb-false, false≢true}
+use Rattle.std.proofs.lemmas.List.{length-replicate, take-take, drop-drop, drop_all, replicate_more, drop-append-le, take-append-le, take-replicate, drop-replicate, replicate-append-replicate}
 use Rattle.std.proofs.Math.Seq.{take-append-add, drop-append-add}
 use Rattle.text_model.specs.Properties.{PropSet, same_set}
 use Rattle.text_model.proofs.Sets.{by_test}
@@ -250,6 +250,32 @@ run_end_found runs place set start end apart h =
     ∙ other_skip set (end - place - 1) (place + 1) (sets_of h.back) (length (sets_of runs))
     ∙ ap (λ q. other_from set q (sets_of h.back) (length (sets_of runs))) p
     ∙ other_behind set h.back end (length (sets_of runs)) parts.2 parts.1 (λ e. omega arith))
+
+-- the sets of a run are one, and behind it stands another set or none
+pub in_run : (runs : List Run) (place other : ℕ) (set : PropSet) (start end : ℕ) → IsRunAt runs place set start end → place ≤ other → other < end → slice_get (sets_of runs) other ≡ slice_get (sets_of runs) place
+in_run runs place other set start end h l m =
+    let s = h.starts in
+    let there : IsRunAt runs other set start end = record { front = h.front; back = h.back; runs_are = h.runs_are; start_is = h.start_is; starts = omega arith; ends = m } in
+    get_found runs other set start end there ∙ sym (get_found runs place set start end h)
+
+begins_other : (set : PropSet) (back : List Run) (more : List PropSet) → AreApart back → BeginsOther set back → sets_of back ≢ set ∷ more
+begins_other set [] more h k e = cc
+begins_other set (r ∷ back) more h k e =
+    let first : r.0 ∷ (replicate (r.1 - 1) r.0 ++ sets_of back) ≡ set ∷ more = sym (ap (λ l. l ++ sets_of back) (some_left r.1 r.0 h.0)) ∙ e in
+    let same : r.0 ≡ set = cc in
+    false≢true (sym k ∙ ap (same_set set) same ∙ same_set-same set)
+
+pub behind_run : (runs : List Run) (place : ℕ) (set : PropSet) (start end : ℕ) → AreApart runs → IsRunAt runs place set start end → slice_get (sets_of runs) end ≢ slice_get (sets_of runs) place
+behind_run runs place set start end apart h e =
+    let t = h.ends in
+    let sets = sets_of runs in
+    let parts : AreApart ((set, end - start) ∷ h.back) = apart-back h.front _ (subst AreApart h.runs_are apart) in
+    let none : end - place - (end - place) ≡ 0 = omega arith in
+    let sum : place + (end - place) ≡ end = omega arith in
+    let rest : drop end sets ≡ sets_of h.back =
+    ap (λ n. drop n sets) (sym sum) ∙ sym (drop-drop (end - place) place sets) ∙ ap (drop (end - place)) (drop_found runs place set start end h)
+    ∙ drop_within (end - place) (end - place) set (sets_of h.back) (omega arith) ∙ ap (λ n. replicate n set ++ sets_of h.back) none in
+    begins_other set h.back (drop (end + 1) sets) parts.2 parts.1 (sym rest ∙ next_dropped sets end set (e ∙ get_found runs place set start end h))
 
 -- ALL OF ONE SET
 next_taken : {A : Type 0} (xs : List A) (i : ℕ) (x : A) → slice_get xs i ≡ Some x → take (i + 1) xs ≡ take i xs ++ x ∷ []

@@ -5,6 +5,7 @@ mod balance;
 mod change;
 mod cut;
 mod edit;
+mod laws;
 mod pieces;
 mod props;
 mod questions;
@@ -15,4 +16,5 @@ mod tests;
 mod tree;
 
 pub use edit::PropEdit;
+pub use laws::same_sets_have_the_same_pairs;
 pub use props::Props;

@@ -1,6 +1,7 @@
 //! The property sets of a text.
-ghost use Rattle.std.specs.Prelude.{◌≡◌, ◌≢◌, ◌↔◌, ◌+◌, ◌-◌, ◌<◌, ◌≤◌, [], ◌++◌, IfOk, OnOk, OnErr, MatchBool, IsTrue, length, map, take, drop, slice_get, Some, option_map, not};
+ghost use Rattle.std.specs.Prelude.{ℕ, ◌≡◌, ◌≢◌, ◌↔◌, ◌+◌, ◌-◌, ◌<◌, ◌≤◌, [], ◌++◌, IfOk, OnOk, OnErr, MatchBool, IsTrue, false, length, map, take, drop, slice_get, Some, option_map, not};
 ghost use Rattle.text_model.specs.Properties.{edited, same_list, same_set};
+ghost use Rattle.text_model.specs.Ordered.{IsProper};
 ghost use Rattle.text_model.specs.PropertyQuestions.{next_change, previous_change};
 ghost use Rattle.ek_types.specs.Property.{number_of};
 ghost use Rattle.prop_intervals.specs.Edits.{edit_of};
@@ -51,18 +52,24 @@ impl Props {
         }
     }
 
-    /// The set of a character.
+    /// The set of a character: its names rise, and nil is never a value.
     pub fn at(&self, i: usize) -> &PropSet
         requires { i < length self.now }
-        ensures { slice_get self.now i ≡ Some result.now }
+        ensures exact { slice_get self.now i ≡ Some result.now }
+        ensures proper { IsProper result.now }
     {
-        self.tree.find(i).set
+        let set = self.tree.find(i).set;
+        let _proper = set.len();
+        set
     }
 
-    /// The first place behind another whose set differs from the set there, or the length.
+    /// The first place behind another whose set differs from the set there, or the length: up to it all sets are equal,
+    /// and there stands another set, or none.
     pub fn run_end(&self, i: usize) -> usize
         requires { i < length self.now }
-        ensures { result ≡ run_end i self.now }
+        ensures exact { result ≡ run_end i self.now }
+        ensures equal { (j : ℕ) → i ≤ j → j < result → slice_get self.now j ≡ slice_get self.now i }
+        ensures other { slice_get self.now result ≢ slice_get self.now i }
     {
         self.tree.find(i).end
     }
@@ -110,6 +117,7 @@ impl Props {
         requires within { to ≤ length self.old }
         ensures ok { OnOk result (self.new ≡ take from self.old ++ (map (edited (edit_of edit.now)) (drop from (take to self.old)) ++ drop to self.old)) }
         ensures changed { IfOk result (λ b. b ≡ not (same_list same_set self.old self.new)) }
+        ensures equal { IfOk result (λ b. b ≡ false ↔ self.new ≡ self.old) }
         ensures err { OnErr result (self.new ≡ self.old) }
     {
         let edited = edited_runs(self.alloc, &self.tree, from, to, edit)?;

@@ -68,10 +68,13 @@ fn with_before(onto: PropSet, before: Option<&PropSet>) -> Mem<PropSet>
 ///
 /// The character before offers all that its `rear-nonsticky` doesn't name, and the one after those that its
 /// `front-sticky` names: t names all, a list the names in it, and anything else none. The two stickiness properties
-/// are never offered. Where both offer a property, the value of the one before is taken.
+/// are never offered. Where both offer a property, the value of the one before is taken. The names of the set that is
+/// answered rise, and nil is never a value.
 pub fn inherited(alloc: Global, before: Option<&PropSet>, after: Option<&PropSet>) -> Mem<PropSet>
-    ensures { IfOk result (λ set. set ≡ inherited (option_map (λ s. s.now) before.entry) (option_map (λ s. s.now) after.entry)) }
+    ensures exact { IfOk result (λ set. set ≡ inherited (option_map (λ s. s.now) before.entry) (option_map (λ s. s.now) after.entry)) }
+    ensures proper { IfOk result IsProper }
 {
     let set = with_before(offered_by_after(alloc, after)?, before)?;
+    let _proper = set.len();
     Ok(set)
 }

@@ -5,5 +5,5 @@ use Rattle.prop_intervals.proofs.props.Props.at.Goals as goal
 pub find-requires : goal.find-requires
 find-requires c = omega (arith, length-sets_of c.self.inside.tree, ap length c.self.view_is)
 
-pub returns : goal.returns
-returns c = rw (← c.self.view_is) (get_found c.self.inside.tree c.args.i _ _ _ c.find.ensures.exact)
+pub returns-clause-exact : goal.returns-clause-exact
+returns-clause-exact c = rw (← c.self.view_is) (get_found c.self.inside.tree c.args.i _ _ _ c.find.ensures.exact)

@@ -4,7 +4,7 @@ use Rattle.std.proofs.lemmas.List.{length-map}
 use Rattle.text_model.specs.Properties.{PropSet, edited, same_list, same_set}
 use Rattle.prop_intervals.specs.Edits.{edit_of}
 use Rattle.prop_intervals.specs.Runs.{sets_of}
-use Rattle.prop_intervals.proofs.SameLemmas.{same_list-same, same_set-same, same_from}
+use Rattle.prop_intervals.proofs.SameLemmas.{same_list-same, same_set-same, same_from, unchanged_where_equal}
 use Rattle.prop_intervals.proofs.SetLemmas.{length-sets_of}
 use Rattle.prop_intervals.proofs.ChangeLemmas.{part_of, nothing_changed, whole_same}
 use Rattle.prop_intervals.proofs.props.Props.change.Goals as goal
@@ -42,3 +42,6 @@ returns-clause-changed c =
     let lengths : length new ≡ length part = ap length c.in_ok-edited.ensures.sets ∙ length-map part (edited (edit_of c.args.edit.now)) in
     rw (← c.self.view_is, c.in_ok-replace.ensures.ok, whole_same c.args.from c.args.to sets new c.requires.order (omega (arith, ap length c.self.view_is)) lengths)
     (sym (was_true _ c.if-not-edited.false) ∙ c.in_ok-edited.ensures.changed)
+
+pub returns-clause-equal : goal.returns-clause-equal
+returns-clause-equal c = unchanged_where_equal true c.args.self.now _ (returns-clause-changed c)

@@ -1,0 +1,22 @@
+-- How the program ends.
+use Rattle.std.specs.Prelude.{ℕ, Option, Some, None}
+use Rattle.kernel_top.specs.declared.status.Status.{Status}
+use Rattle.kernel_top.specs.declared.status.Status.TheVariants as status
+use Rattle.kernel_cli.specs.declared.failure.Failure.{Failure}
+use Rattle.kernel_cli.specs.declared.failure.Failure.TheVariants as failure
+
+-- why a run that ended so is a failure, if it is one
+abbrev pub failure_of : Status → Option Failure
+failure_of status.Done = None
+failure_of status.Usage = Some failure.Usage
+failure_of (status.Script line) = Some (failure.Script line)
+failure_of status.ReadFault = Some failure.Read
+failure_of status.WriteFault = Some failure.Write
+failure_of status.NoMemory = Some failure.Memory
+
+abbrev pub exit_status : Failure → ℕ
+exit_status failure.Usage = 1
+exit_status (failure.Script line) = 2
+exit_status failure.Read = 3
+exit_status failure.Write = 4
+exit_status failure.Memory = 5

@@ -1,0 +1,48 @@
+//! Why a run ended early, as standard error and the exit status tell it.
+ghost use Rattle.std.specs.Prelude.{◌≡◌, None, Some, MatchResult};
+ghost use Rattle.kernel_cli.specs.Exits.{failure_of, exit_status};
+
+use kernel_top::Status;
+use thiserror::Error;
+
+#[derive(Clone, Copy, Debug, Error)]
+pub enum Failure {
+    #[error("usage")]
+    Usage,
+    #[error("script: line {0}")]
+    Script(u32),
+    #[error("read failed")]
+    Read,
+    #[error("write failed")]
+    Write,
+    #[error("out of memory")]
+    Memory,
+}
+
+impl Failure {
+    pub fn exit_status(&self) -> u8
+        ensures { result ≡ exit_status self.now }
+    {
+        match self {
+            Failure::Usage => 1,
+            Failure::Script(_) => 2,
+            Failure::Read => 3,
+            Failure::Write => 4,
+            Failure::Memory => 5,
+        }
+    }
+}
+
+/// The failure that the end of a run is, unless it was done.
+pub fn result_of(status: Status) -> Result<(), Failure>
+    ensures { MatchResult result (λ _. failure_of status ≡ None) (λ failure. failure_of status ≡ Some failure) }
+{
+    match status {
+        Status::Done => Ok(()),
+        Status::Usage => Err(Failure::Usage),
+        Status::Script(line) => Err(Failure::Script(line)),
+        Status::ReadFault => Err(Failure::Read),
+        Status::WriteFault => Err(Failure::Write),
+        Status::NoMemory => Err(Failure::Memory),
+    }
+}
