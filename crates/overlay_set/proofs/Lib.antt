@@ -1,2 +1,9 @@
 pub mod Lists
-pub mod Searches
+pub mod Parts
+pub mod SearchLemmas
+pub mod ChangeLemmas
+pub mod SameLemmas
+pub mod EntryLemmas
+pub mod OrderLemmas
+pub mod WholeLemmas
+pub mod SlotLemmas

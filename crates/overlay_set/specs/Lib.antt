@@ -1,2 +1,5 @@
 pub mod Numbered
 pub mod Slots
+pub mod Entries
+pub mod Moves
+pub mod Winner

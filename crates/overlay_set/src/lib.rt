@@ -1,9 +1,14 @@
 //! Overlays by number: stretches of text with properties of their own, that move with every change.
 #![tactic(auto)]
 
+mod balance;
+mod bounds;
+mod moves;
 mod overlays;
+mod search;
 mod slot;
 #[cfg(test)]
 mod tests;
+mod tree;
 
 pub use overlays::{Numbers, Overlays};

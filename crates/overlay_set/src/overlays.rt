@@ -6,9 +6,13 @@ ghost use Rattle.text_model.specs.OverlayQuestions.{overlays_where, covers, lies
 ghost use Rattle.ek_types.specs.Property.{prop_of};
 ghost use Rattle.ek_types.specs.Listing.{items_of};
 ghost use Rattle.overlay_set.specs.Numbered.{overlay_at, span_of, span_at, given_of, numbers_of, numbered, next_or, previous_or, HasRoomFor};
-ghost use Rattle.overlay_set.specs.Slots.{test_of, moved_by, CanMoveIn};
+ghost use Rattle.overlay_set.specs.Slots.{test_of, with_span, moved_by, overlay_of, CanMoveIn};
+ghost use Rattle.overlay_set.specs.Entries.{HoldSame, numbers_in, passes};
 
-use crate::slot::{Change, Question, Slot, Stretch};
+use crate::bounds::Entry;
+use crate::moves::{move_in, put, take_out};
+use crate::slot::{Change, Question, Slot};
+use crate::tree::{Node, Tree, alone};
 use ek_types::{ListOf, Mem, NoMemory, PropSet, PropVal, Sym};
 use std::alloc::Global;
 use std::marker::Model;
@@ -17,10 +21,11 @@ use std::marker::Model;
 pub type Numbers = ListOf<u32>;
 
 /// Overlays by number, from 0 in the order in which they were made (GNU Emacs Lisp Reference Manual, Overlays). Places
-/// count from 0.
+/// count from 0. Those that stand somewhere are in a tree too, by where they stand.
 #[derive(Drop)]
 pub struct Overlays {
     slots: Vec<Slot>,
+    tree: Tree,
 }
 
 impl Model for Overlays {
@@ -30,10 +35,11 @@ impl Model for Overlays {
     ghost Value = { List Overlay };
 
     ghost use Rattle.overlay_set.specs.Slots.{overlay_of};
+    ghost use Rattle.overlay_set.specs.Entries.{HoldSame, entries_from};
 
     ghost view = { λ a. map overlay_of a.slots.items };
 
-    ghost invariant = { λ a. length a.slots.items < 2 ^ 32 };
+    ghost invariant = { λ a. (length a.slots.items < 2 ^ 32) × HoldSame a.tree (entries_from 0 (map overlay_of a.slots.items)) };
 }
 
 impl Overlays {
@@ -43,6 +49,7 @@ impl Overlays {
     {
         Overlays {
             slots: Vec::new(alloc),
+            tree: Tree::new(),
         }
     }
 
@@ -63,17 +70,21 @@ impl Overlays {
         ensures ok { OnOk result (self.new ≡ self.old ++ record { span = Some (span_at (buffer, from, to)); front_advance = front; rear_advance = rear; props = [] } ∷ []) }
         ensures err { OnErr result (self.new ≡ self.old) }
     {
+        let alloc = *self.slots.allocator();
         let number = self.slots.len() as u32;
-        let slot = Slot {
-            span: Some((buffer, from, to)),
+        let stretch = (buffer, from, to);
+        let Ok(()) = self.slots.reserve(1) else {
+            return Err(NoMemory);
+        };
+        let node = alone(alloc, Entry { number, stretch })?;
+        put(&mut self.tree, node);
+        self.slots.push_reserved(Slot {
+            span: Some(stretch),
             front,
             rear,
-            props: PropSet::empty(*self.slots.allocator()),
-        };
-        match self.slots.push(slot) {
-            Ok(()) => Ok(number),
-            Err(_) => Err(NoMemory),
-        }
+            props: PropSet::empty(alloc),
+        });
+        Ok(number)
     }
 
     /// Puts overlay `k` from place `from` to place `to` of a buffer. A refusal leaves it where it was.
@@ -83,8 +94,22 @@ impl Overlays {
         ensures ok { OnOk result (self.new ≡ slice_set self.old k (record (overlay_at self.old k) { span = Some (span_at (buffer, from, to)) })) }
         ensures err { OnErr result (self.new ≡ self.old) }
     {
-        self.stand(k as usize, Some((buffer, from, to)));
+        let stretch = (buffer, from, to);
+        let node = alone(*self.slots.allocator(), Entry { number: k, stretch })?;
+        self.remove(k);
+        self.stand(node);
         Ok(())
+    }
+
+    /// Puts an overlay that stands nowhere in the stretch of an entry.
+    fn stand(&mut self, node: Box<Node>)
+        requires made { node.value.entry.number < length self.old }
+        requires away { (overlay_at self.old node.value.entry.number).span ≡ None }
+        ensures { self.new ≡ slice_set self.old node.value.entry.number (with_span (overlay_at self.old node.value.entry.number) node.value.entry.stretch) }
+    {
+        let Entry { number, stretch } = node.entry;
+        put(&mut self.tree, node);
+        self.slots[number as usize].span = Some(stretch);
     }
 
     /// Takes overlay `k` out of its buffer ("Managing Overlays" there). It keeps its properties.
@@ -92,15 +117,9 @@ impl Overlays {
         requires { k < length self.old }
         ensures { self.new ≡ slice_set self.old k (record (overlay_at self.old k) { span = None }) }
     {
-        self.stand(k as usize, None);
-    }
-
-    /// Puts an overlay in its stretch, or nowhere.
-    fn stand(&mut self, k: usize, span: Option<Stretch>)
-        requires { k < length self.old }
-        ensures { self.new ≡ slice_set self.old k (record (overlay_at self.old k) { span = span_of span }) }
-    {
-        self.slots[k].span = span;
+        let slot = &mut self.slots[k as usize];
+        take_out(&mut self.tree, k, slot.span);
+        slot.span = None;
     }
 
     /// Where overlay `k` stands: a buffer with two places in it, or nowhere.
@@ -161,13 +180,15 @@ impl Overlays {
     fn found(&self, buffer: u32, question: Question) -> Mem<Numbers>
         ensures { IfOk result (λ numbers. items_of numbers ≡ numbers_of (overlays_where buffer (test_of question) self.now)) }
     {
-        let mut numbers = Numbers::new(*self.slots.allocator());
-        for k in 0..self.slots.len() {
-            if self.slots[k].answers(buffer, question) {
-                numbers.push(k as u32)?;
-            }
+        let alloc = *self.slots.allocator();
+        let mut numbers = Vec::new(alloc);
+        self.tree.found(buffer, question, &mut numbers)?;
+        numbers.sort_unstable();
+        let mut rising = Numbers::new(alloc);
+        for &number in &numbers {
+            rising.push(number)?;
         }
-        Ok(numbers)
+        Ok(rising)
     }
 
     /// Of the overlays that cover place `i` of a buffer and have a property, the one that wins: by priority (0 where
@@ -175,48 +196,22 @@ impl Overlays {
     pub fn winner(&self, buffer: u32, i: usize, name: Sym) -> Option<u32>
         ensures { result ≡ option_map (λ o. o.0) (winner buffer (i + 1) name.0 self.now) }
     {
-        let mut best = None;
-        for k in 0..self.slots.len() {
-            if self.slots[k].has_at(buffer, i, name) {
-                best = Some(self.greater(best, k));
-            }
-        }
-        best.map(|k| k as u32)
-    }
-
-    /// The greater of the best so far and a later overlay.
-    fn greater(&self, best: Option<usize>, k: usize) -> usize
-        requires best { All (λ b. b < length self.now) (option_to_list best) }
-        requires made { k < length self.now }
-        ensures within { result < length self.now }
-        ensures exact { numbered self.now result ≡ greater (option_map (numbered self.now) best) (numbered self.now k) }
-    {
-        match best {
-            Some(b) if !self.slots[k].outranks(&self.slots[b]) => b,
-            _ => k,
-        }
+        self.tree
+            .winner(self.slots.as_slice(), buffer, i, name, None)
     }
 
     /// The first place behind `i` where an overlay of a buffer begins or ends, or `None` where there is none.
     pub fn next_change(&self, buffer: u32, i: usize) -> Option<usize>
         ensures { (last : ℕ) → next_end buffer (i + 1) last self.now ≡ next_or last result }
     {
-        let mut next = None;
-        for slot in &self.slots {
-            next = slot.nearer_next(buffer, i, next);
-        }
-        next
+        self.tree.next_change(buffer, i, None)
     }
 
     /// The last place before `i` where an overlay of a buffer begins or ends, or `None` where there is none.
     pub fn prev_change(&self, buffer: u32, i: usize) -> Option<usize>
         ensures { (first : ℕ) → previous_end buffer (i + 1) first self.now ≡ previous_or first result }
     {
-        let mut previous = None;
-        for slot in &self.slots {
-            previous = slot.nearer_previous(buffer, i, previous);
-        }
-        previous
+        self.tree.prev_change(buffer, i, None)
     }
 
     /// `n` characters were put in at `at` of a buffer: the ends of its overlays just there go behind them where they
@@ -242,37 +237,14 @@ impl Overlays {
         requires { All (CanMoveIn buffer change) self.old }
         ensures { self.new ≡ map (moved_by buffer change) self.old }
     {
-        for k in 0..self.slots.len() {
-            self.move_one(k, buffer, change);
-        }
-    }
-
-    /// Moves an overlay at a change of a buffer.
-    fn move_one(&mut self, k: usize, buffer: u32, change: Change)
-        requires made { k < length self.old }
-        requires can { CanMoveIn buffer change (overlay_at self.old k) }
-        ensures { self.new ≡ slice_set self.old k (moved_by buffer change (overlay_at self.old k)) }
-    {
-        let slot = &mut self.slots[k];
-        slot.span = slot.moved(buffer, change);
+        move_in(&mut self.tree, self.slots.as_mut_slice(), buffer, change);
     }
 
     /// A buffer was killed: its overlays have no buffer.
     pub fn drop_buffer(&mut self, buffer: u32)
         ensures { self.new ≡ map (overlay_left buffer) self.old }
     {
-        for k in 0..self.slots.len() {
-            self.leave_killed(k, buffer);
-        }
-    }
-
-    /// Takes an overlay out of a killed buffer.
-    fn leave_killed(&mut self, k: usize, buffer: u32)
-        requires { k < length self.old }
-        ensures { self.new ≡ slice_set self.old k (overlay_left buffer (overlay_at self.old k)) }
-    {
-        let slot = &mut self.slots[k];
-        slot.span = slot.left(buffer);
+        self.note(buffer, Change::Killed);
     }
 
     /// Overlays of their own that stand and look alike.
@@ -283,6 +255,7 @@ impl Overlays {
         for slot in &self.slots {
             slots.push(slot.copy()?)?;
         }
-        Ok(Overlays { slots })
+        let tree = self.tree.copy(*self.slots.allocator())?;
+        Ok(Overlays { slots, tree })
     }
 }

@@ -1,7 +1,7 @@
 //! One overlay as it is kept, and how a change of a text moves it.
-ghost use Rattle.std.specs.Prelude.{◌≡◌, ℕ, ◌+◌, ◌≤◌, ◌&&◌, nat_lt, false, [], ◌∷◌, filter, Some, is_some, option_map, IfOk};
+ghost use Rattle.std.specs.Prelude.{◌≡◌, ℕ, ◌+◌, ◌≤◌, ◌&&◌, nat_lt, true, false, [], ◌∷◌, filter, Some, is_some, option_map, IfOk};
 ghost use Rattle.text_model.specs.Properties.{get, put};
-ghost use Rattle.text_model.specs.Marks.{move_overlay, evaporated, evaporate, overlay_left, insertion, deletion};
+ghost use Rattle.text_model.specs.Marks.{Span, move_overlay, evaporated, evaporate, overlay_left, insertion, deletion};
 ghost use Rattle.text_model.specs.OverlayQuestions.{span_passes, covers, overlaps, stands_in, rank, start_of, end_of, outranks, ends_of_span, least, greatest};
 ghost use Rattle.ek_types.specs.Property.{prop_of};
 ghost use Rattle.overlay_set.specs.Numbered.{span_at, span_of, given_of, next_or, previous_or};
@@ -35,6 +35,8 @@ pub enum Change {
     Insertion { at: usize, n: usize, all: bool },
     /// The part from `from` to `to` was deleted.
     Deletion { from: usize, to: usize },
+    /// The buffer was killed.
+    Killed,
 }
 
 /// What is asked of a stretch.
@@ -72,8 +74,18 @@ fn stands_in_part(from: usize, to: usize, last: usize, start: usize) -> bool
 }
 
 impl Question {
+    /// No stretch passes that ends before the first of two places or begins behind the second.
+    pub(crate) fn places(self) -> (usize, usize)
+        ensures { (s : Span) → test_of self s ≡ true → (s.start ≤ result.1) × (result.0 ≤ s.end) }
+    {
+        match self {
+            Question::At { i } => (i, i),
+            Question::Within { from, to, .. } => (from.min(to), from.max(to)),
+        }
+    }
+
     /// Whether the answer is yes for a stretch.
-    fn passes(self, stretch: Stretch) -> bool
+    pub(crate) fn passes(self, stretch: Stretch) -> bool
         ensures { result ≡ test_of self (span_at stretch) }
     {
         match self {
@@ -87,19 +99,11 @@ impl Question {
 }
 
 impl Slot {
-    /// Whether the overlay stands in the buffer and passes a test.
-    pub fn answers(&self, buffer: u32, question: Question) -> bool
-        ensures { result ≡ span_passes buffer (test_of question) (overlay_of self.now).span }
+    /// Whether it has a property.
+    pub fn has(&self, name: Sym) -> bool
+        ensures { result ≡ is_some (get self.now.props name.0) }
     {
-        self.span
-            .is_some_and(|stretch| stretch.0 == buffer && question.passes(stretch))
-    }
-
-    /// Whether it covers a place of the buffer and has a property.
-    pub fn has_at(&self, buffer: u32, i: usize, name: Sym) -> bool
-        ensures { result ≡ (span_passes buffer (covers (i + 1)) (overlay_of self.now).span && is_some (get self.now.props name.0)) }
-    {
-        self.answers(buffer, Question::At { i }) && self.props.get(name).is_some()
+        self.props.get(name).is_some()
     }
 
     /// Its priority: 0 where none is given as a number.
@@ -167,29 +171,16 @@ impl Slot {
         }
     }
 
-    /// Where it stands after a change of a buffer.
-    pub fn moved(&self, buffer: u32, change: Change) -> Option<Stretch>
-        requires { CanMoveIn buffer change (overlay_of self.now) }
-        ensures { record (overlay_of self.now) { span = span_of result } ≡ moved_by buffer change (overlay_of self.now) }
+    /// Where it goes from a stretch at a change of a buffer, if anywhere.
+    pub fn moved(&self, stretch: Stretch, buffer: u32, change: Change) -> Option<Stretch>
+        requires { CanMoveIn buffer change (with_span (overlay_of self.now) stretch) }
+        ensures { record (overlay_of self.now) { span = span_of result } ≡ moved_by buffer change (with_span (overlay_of self.now) stretch) }
     {
-        match (self.span, change) {
-            (Some(stretch), Change::Insertion { at, n, all }) if stretch.0 == buffer => {
-                Some(self.after_insert(stretch, at, n, all))
-            }
-            (Some(stretch), Change::Deletion { from, to }) if stretch.0 == buffer => {
-                self.after_delete(stretch, from, to)
-            }
-            (span, _) => span,
-        }
-    }
-
-    /// Where it stands after a buffer was killed.
-    pub fn left(&self, buffer: u32) -> Option<Stretch>
-        ensures { record (overlay_of self.now) { span = span_of result } ≡ overlay_left buffer (overlay_of self.now) }
-    {
-        match self.span {
-            Some(stretch) if stretch.0 == buffer => None,
-            other => other,
+        match change {
+            _ if stretch.0 != buffer => Some(stretch),
+            Change::Insertion { at, n, all } => Some(self.after_insert(stretch, at, n, all)),
+            Change::Deletion { from, to } => self.after_delete(stretch, from, to),
+            Change::Killed => None,
         }
     }
 
@@ -200,34 +191,6 @@ impl Slot {
         match v {
             Some(value) => self.props.with(name, value),
             None => self.props.without(name),
-        }
-    }
-
-    /// The nearest of its places behind `i` and of one that was found, where it stands in the buffer.
-    pub fn nearer_next(&self, buffer: u32, i: usize, found: Option<usize>) -> Option<usize>
-        ensures { (last : ℕ) → next_or last result ≡ least (next_or last found) (filter (λ x. nat_lt (i + 1) x) (ends_of_span buffer (overlay_of self.now).span)) }
-    {
-        match self.span {
-            Some((b, start, end)) if b == buffer => nearer_behind(
-                i,
-                end,
-                nearer_behind(i, start, found),
-            ),
-            _ => found,
-        }
-    }
-
-    /// The nearest of its places before `i` and of one that was found, where it stands in the buffer.
-    pub fn nearer_previous(&self, buffer: u32, i: usize, found: Option<usize>) -> Option<usize>
-        ensures { (first : ℕ) → previous_or first result ≡ greatest (previous_or first found) (filter (λ x. nat_lt x (i + 1)) (ends_of_span buffer (overlay_of self.now).span)) }
-    {
-        match self.span {
-            Some((b, start, end)) if b == buffer => nearer_before(
-                i,
-                end,
-                nearer_before(i, start, found),
-            ),
-            _ => found,
         }
     }
 
@@ -245,7 +208,7 @@ impl Slot {
 }
 
 /// The nearer of a place, where it lies behind `i`, and one that was found.
-fn nearer_behind(i: usize, place: usize, found: Option<usize>) -> Option<usize>
+pub(crate) fn nearer_behind(i: usize, place: usize, found: Option<usize>) -> Option<usize>
     ensures { (last : ℕ) → next_or last result ≡ least (next_or last found) (filter (λ x. nat_lt (i + 1) x) ((place + 1) ∷ [])) }
 {
     match found {
@@ -256,7 +219,7 @@ fn nearer_behind(i: usize, place: usize, found: Option<usize>) -> Option<usize>
 }
 
 /// The nearer of a place, where it lies before `i`, and one that was found.
-fn nearer_before(i: usize, place: usize, found: Option<usize>) -> Option<usize>
+pub(crate) fn nearer_before(i: usize, place: usize, found: Option<usize>) -> Option<usize>
     ensures { (first : ℕ) → previous_or first result ≡ greatest (previous_or first found) (filter (λ x. nat_lt x (i + 1)) ((place + 1) ∷ [])) }
 {
     match found {

@@ -21,7 +21,7 @@ fn span(rt: &impl Abort, overlays: &Overlays, k: u32) -> Option<(u32, usize, usi
 fn make(rt: &impl Abort, overlays: &mut Overlays, buffer: u32, from: usize, to: usize) -> Mem<u32>
     requires { from ≤ to }
 {
-    assert!(rt; overlays.count() < 100);
+    assert!(rt; overlays.count() < 100_000);
     overlays.make(buffer, from, to, false, false)
 }
 
@@ -165,5 +165,53 @@ fn an_overlay_moves_to_another_buffer_and_is_killed_with_it(rt: HostRuntime) -> 
     overlays.put(a, FACE, None)?;
     assert_eq!(rt; overlays.get(a, FACE).is_none(), true);
     assert_eq!(rt; overlays.count(), 2);
+    Ok(())
+}
+
+/// An overlay of buffer 0 with a face.
+fn with_face(rt: &impl Abort, overlays: &mut Overlays, from: usize, to: usize) -> Mem<()>
+    requires { from ≤ to }
+{
+    let k = make(rt, overlays, 0, from, to)?;
+    put(rt, overlays, k, FACE, &PropVal::Truth)
+}
+
+#[test]
+fn two_million_winners_among_many_overlays(rt: HostRuntime) -> Result<(), Fail> {
+    let mut overlays = Overlays::new(rt.alloc());
+    for k in 0..65_536usize {
+        with_face(&rt, &mut overlays, k, k + 1)?;
+    }
+    for i in 0..2_000_000u32 {
+        let place = i % 65_536;
+        assert_eq!(rt; overlays.winner(0, place as usize, FACE), Some(place));
+    }
+    Ok(())
+}
+
+#[test]
+fn winners_among_nested_overlays(rt: HostRuntime) -> Result<(), Fail> {
+    let mut overlays = Overlays::new(rt.alloc());
+    for k in 0..512usize {
+        with_face(&rt, &mut overlays, k, 1_024 - k)?;
+    }
+    for i in 0..512u32 {
+        assert_eq!(rt; overlays.winner(0, i as usize, FACE), Some(i));
+        assert_eq!(rt; overlays.winner(0, 1_023 - i as usize, FACE), Some(i));
+    }
+    Ok(())
+}
+
+#[test]
+fn winners_among_overlays_that_begin_together(rt: HostRuntime) -> Result<(), Fail> {
+    let mut overlays = Overlays::new(rt.alloc());
+    for k in 0..512usize {
+        with_face(&rt, &mut overlays, 7, 8 + k)?;
+    }
+    for i in 0..512u32 {
+        assert_eq!(rt; overlays.winner(0, 7 + i as usize, FACE), Some(i));
+    }
+    assert_eq!(rt; overlays.winner(0, 6, FACE), None);
+    assert_eq!(rt; overlays.winner(0, 519, FACE), None);
     Ok(())
 }

@@ -1,36 +1,42 @@
-use Rattle.std.proofs.Common.{◌<◌, refl, length, ap, subst, sym, ◌∙◌, arith}
-use Rattle.std.proofs.lemmas.List.{length-map, length-set, map-id}
-use Rattle.ek_types.proofs.InTurn.{all_moved, next_holds}
-use Rattle.overlay_set.specs.Numbered.{no_overlay, overlay_at}
-use Rattle.overlay_set.specs.Slots.{overlay_of, moved_by, CanMoveIn}
-use Rattle.overlay_set.proofs.Lists.{one_more, overlay_at-get_or}
+use Rattle.std.proofs.Common.{◌≡◌, All, length, map, take, drop, ◌++◌, ap, sym, subst, ◌∙◌, arith}
+use Rattle.std.proofs.lemmas.List.{length-map, with_items_is}
+use Rattle.overlay_set.specs.Slots.{overlay_of, moved_by}
+use Rattle.std.specs.List.{flat_map}
+use Rattle.overlay_set.specs.Entries.{IsMade}
+use Rattle.overlay_set.specs.Moves.{move_all, moved_entry}
+use Rattle.overlay_set.proofs.WholeLemmas.{whole_made, whole_can_move, whole_moved, whole_entries}
 use Rattle.overlay_set.proofs.overlays.Overlays.note.Goals as goal
 
-pub loop-k-init : goal.loop-k-init
-loop-k-init c = record {
-  end = c.len-k-end.ensures ∙ c.self.inside.slots.ok.0 ∙ sym (length-map c.self.inside.slots.items overlay_of) ∙ ap length c.self.view_is;
-  count = refl;
-  so_far = refl;
-}
+pub move_in-requires-clause-made : goal.move_in-requires-clause-made
+move_in-requires-clause-made c =
+    let items = c.self.inside.slots.items in
+    let made = whole_made (map overlay_of items) c.self.inside.tree c.self.invariant.1 in
+    rw c.as_mut_slice.ensures.value (subst (λ n. All (IsMade n) c.self.inside.tree) (length-map items overlay_of) made)
 
-pub move_one-requires-clause-made : goal.move_one-requires-clause-made
-move_one-requires-clause-made c = omega (arith, c.loop-k.invariant.end, c.loop-k.invariant.count)
+pub move_in-requires-clause-can : goal.move_in-requires-clause-can
+move_in-requires-clause-can c = whole_can_move c.args.buffer c.args.change (map overlay_of c.self.inside.slots.items) c.self.inside.tree c.self.invariant.1 (rw c.self.view_is c.requires)
 
-pub move_one-requires-clause-can : goal.move_one-requires-clause-can
-move_one-requires-clause-can c =
-    let made : c.loop-k.k < length c.loop-k.self = omega (arith, c.loop-k.invariant.end, c.loop-k.invariant.count) in
-    subst (CanMoveIn c.args.buffer c.args.change) (sym (overlay_at-get_or c.loop-k.self c.loop-k.k))
-    (next_holds (CanMoveIn c.args.buffer c.args.change) (λ o. o) (moved_by c.args.buffer c.args.change) c.loop-k.self c.args.self.now c.loop-k.k no_overlay made c.requires
-    (map-id c.loop-k.self ∙ c.loop-k.invariant.so_far))
-
-pub loop-k-preserved : goal.loop-k-preserved
-loop-k-preserved c =
-    let made : c.loop-k.k < length c.loop-k.self = omega (arith, c.loop-k.invariant.end, c.loop-k.invariant.count) in
-    record {
-      end = c.loop-k.invariant.end;
-      count = ap length c.move_one.ensures ∙ length-set c.loop-k.self c.loop-k.k (moved_by c.args.buffer c.args.change (overlay_at c.loop-k.self c.loop-k.k)) ∙ c.loop-k.invariant.count;
-      so_far = c.move_one.ensures ∙ one_more (moved_by c.args.buffer c.args.change) c.args.self.now c.loop-k.self c.loop-k.k made c.loop-k.invariant.so_far;
-    }
+pub invariant_of-self : goal.invariant_of-self
+invariant_of-self c =
+    let b = c.args.buffer in
+    let items = c.self.inside.slots.items in
+    let tree = c.self.inside.tree in
+    let os = map overlay_of items in
+    let moved : map overlay_of c.move_in.new.slots ≡ map (moved_by b c.args.change) os = c.move_in.ensures.slots ∙ ap (λ xs. move_all b c.args.change (map overlay_of xs) tree) c.as_mut_slice.ensures.value ∙ whole_moved b c.args.change os tree c.self.invariant.1 in
+    let long : length c.move_in.new.slots ≡ length items = omega (arith, length-map c.move_in.new.slots overlay_of, ap length moved, length-map os (moved_by b c.args.change), length-map items overlay_of) in
+    let size : length c.move_in.new.slots ≡ c.self.inside.slots.len = omega (arith, long, c.self.inside.slots.ok.0) in
+    let held = with_items_is c.self.inside.slots c.move_in.new.slots size in
+    let entries : c.move_in.new.tree ≡ flat_map (moved_entry b c.args.change os) tree = c.move_in.ensures.tree ∙ ap (λ xs. flat_map (moved_entry b c.args.change (map overlay_of xs)) tree) c.as_mut_slice.ensures.value in
+    rw (held, moved, entries, long) (c.self.invariant.0, whole_entries b c.args.change os tree c.self.invariant.1)
 
 pub returns : goal.returns
-returns c = c.loop-k.invariant.so_far ∙ all_moved (moved_by c.args.buffer c.args.change) c.loop-k.k c.args.self.now (omega (arith, c.loop-k.invariant.end))
+returns c =
+    let b = c.args.buffer in
+    let items = c.self.inside.slots.items in
+    let tree = c.self.inside.tree in
+    let os = map overlay_of items in
+    let moved : map overlay_of c.move_in.new.slots ≡ map (moved_by b c.args.change) os = c.move_in.ensures.slots ∙ ap (λ xs. move_all b c.args.change (map overlay_of xs) tree) c.as_mut_slice.ensures.value ∙ whole_moved b c.args.change os tree c.self.invariant.1 in
+    let long : length c.move_in.new.slots ≡ length items = omega (arith, length-map c.move_in.new.slots overlay_of, ap length moved, length-map os (moved_by b c.args.change), length-map items overlay_of) in
+    let size : length c.move_in.new.slots ≡ c.self.inside.slots.len = omega (arith, long, c.self.inside.slots.ok.0) in
+    let held = with_items_is c.self.inside.slots c.move_in.new.slots size in
+    ap (map overlay_of) held ∙ moved ∙ ap (map (moved_by b c.args.change)) c.self.view_is

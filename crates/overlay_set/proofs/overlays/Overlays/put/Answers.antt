@@ -1,11 +1,23 @@
-use Rattle.std.proofs.Common.{◌≡◌, option_map, ap, sym, ◌∙◌}
+use Rattle.std.proofs.Common.{◌≡◌, ◌<◌, length, option_map, refl, ap, sym, ◌∙◌, arith}
+use Rattle.std.proofs.lemmas.List.{length-map, length-set}
 use Rattle.text_model.specs.Properties.{PropSet, put}
 use Rattle.text_model.specs.Marks.{Overlay}
 use Rattle.ek_types.specs.Property.{prop_of}
 use Rattle.overlay_set.specs.Numbered.{overlay_at, given_of}
 use Rattle.overlay_set.specs.Slots.{overlay_of}
 use Rattle.overlay_set.proofs.Lists.{overlay_at_slot, overlay_set}
+use Rattle.overlay_set.proofs.SlotLemmas.{slot_kept}
 use Rattle.overlay_set.proofs.overlays.Overlays.put.Goals as goal
+
+pub invariant_of-self-2 : goal.invariant_of-self-2
+invariant_of-self-2 c =
+    let items = c.self.inside.slots.items in
+    let slot = c.index_mut-slot.result.now in
+    let new = record slot { props = c.in_ok-slot.field-0 } in
+    let within : c.args.k < length items = omega (arith, length-map items overlay_of, ap length c.self.view_is) in (
+      rw (length-set items c.args.k new) c.self.invariant.0,
+      slot_kept items c.self.inside.tree c.args.k slot new within c.index_mut-slot.ensures.value refl c.self.invariant.1,
+    )
 
 pub returns-clause-ok : goal.returns-clause-ok
 returns-clause-ok c =

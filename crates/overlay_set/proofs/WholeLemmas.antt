@@ -1,0 +1,225 @@
+-- What is done over the tree is what the definitions say of all overlays.
+use Rattle.std.proofs.Common.{◌≡◌, ℕ, ◌+◌, ◌<◌, ◌≤◌, Bool, true, false, nat_lt, ◌==◌, ◌&&◌, List, [], ◌∷◌, ◌++◌, map, length, filter, slice_set, All, Option, Some, None, option_map, is_some, min, max, IsPermutation, append_assoc, refl, ap, sym, ◌∙◌, subst, arith, if◌then◌else◌}
+use Rattle.std.specs.List.{flat_map, fold, enumerate_from}
+use Rattle.std.proofs.lemmas.Bool.{eqb-true, eqb-false, lt-ltb}
+use Rattle.std.proofs.lemmas.List.{set_comm, length-append, length-set}
+use Rattle.std.proofs.lemmas.List.Elements.{All-filter, All-head, All-tail, All-weaker}
+use Rattle.text_model.specs.Properties.{get}
+use Rattle.text_model.specs.Marks.{Overlay, Span}
+use Rattle.text_model.specs.OverlayQuestions.{span_passes, covers, outranks, greater, greatest_of, overlays_where, winner, least, greatest, overlay_ends}
+use Rattle.std.specs.List.Sorted.{IsNonDecreasing}
+use Rattle.overlay_set.specs.Numbered.{overlay_at, numbers_of}
+use Rattle.overlay_set.specs.Slots.{with_span, moved_by, test_of, CanMoveIn}
+use Rattle.overlay_set.specs.Entries.{entry_of, entries_from, HoldSame, numbers_in, passes, ends_at, IsMade}
+use Rattle.overlay_set.specs.Moves.{CanMoveEntry, touches, moved_at, moved_entry, move_one, move_all}
+use Rattle.overlay_set.specs.Winner.{is_stronger, stronger, has_property, contenders, strongest}
+use Rattle.overlay_set.specs.declared.slot.Question.TheVariants.{At}
+use Rattle.overlay_set.specs.declared.slot.Question.{Question}
+use Rattle.overlay_set.specs.declared.slot.Change.{Change}
+use Rattle.overlay_set.specs.declared.slot.Change.TheVariants.{Insertion, Deletion, Killed}
+use Rattle.overlay_set.specs.declared.bounds.Entry.{Entry}
+use Rattle.overlay_set.proofs.ChangeLemmas.{kept_by_one, length-move_one, stays}
+use Rattle.overlay_set.proofs.SameLemmas.{Same, total, rises_from, rising_same, same_from_permutation, sums_from_same, same_from_sums, same-map, same-filter, same-flat_map, fold-same}
+use Rattle.overlay_set.proofs.EntryLemmas.{Agrees, agrees_all, Matches, entries_match, all_same, ends_listed, stretch_back, entries_can_move, entries_moved, kept_rises, found_listed}
+use Rattle.overlay_set.proofs.OrderLemmas.{stronger_swap}
+
+-- CHANGES
+abbrev moved_number : (b : ℕ) → Change → List Overlay → List Overlay → ℕ → List Overlay
+moved_number b change all os k = slice_set os k (moved_by b change (overlay_at all k))
+
+numbers_swap : (b : ℕ) (change : Change) (all os : List Overlay) (x y : ℕ) → moved_number b change all (moved_number b change all os x) y ≡ moved_number b change all (moved_number b change all os y) x
+numbers_swap b change all os x y = by_place (x == y) refl
+  where
+    by_place : (t : Bool) → (x == y) ≡ t → moved_number b change all (moved_number b change all os x) y ≡ moved_number b change all (moved_number b change all os y) x
+    by_place true h = let same : x ≡ y = eqb-true x y h in rw same refl
+    by_place false h = set_comm os x y (moved_by b change (overlay_at all x)) (moved_by b change (overlay_at all y)) (eqb-false x y h)
+
+-- entries that match are moved by number
+by_number : (b : ℕ) (change : Change) (all : List Overlay) (es : List Entry) (os : List Overlay) → All (Matches all) es → length os ≡ length all → ((k : ℕ) (s : ℕ × ℕ × ℕ) → with_span (overlay_at os k) s ≡ with_span (overlay_at all k) s) →
+    fold (move_one b change) os es ≡ fold (moved_number b change all) os (numbers_in es)
+by_number b change all [] os match long kept = refl
+by_number b change all (e ∷ es) os match long kept =
+    let own : Matches all e = All-head (Matches all) e es match in
+    let made : e.number < length os = (let m = own.0 in omega arith) in
+    let step : move_one b change os e ≡ moved_number b change all os e.number = ap (λ o. slice_set os e.number (moved_by b change o)) (kept e.number e.stretch ∙ own.1) in
+    by_number b change all es (move_one b change os e) (All-tail (Matches all) e es match) (length-move_one b change os e ∙ long) (λ k s. kept_by_one b change os e k s made ∙ kept k s)
+    ∙ ap (λ ps. fold (moved_number b change all) ps (numbers_in es)) step
+
+set_at_end : (pre : List Overlay) (o p : Overlay) (os : List Overlay) → slice_set (pre ++ o ∷ os) (length pre) p ≡ pre ++ p ∷ os
+set_at_end [] o p os = refl
+set_at_end (q ∷ pre) o p os = ap (λ ps. q ∷ ps) (set_at_end pre o p os)
+
+nowhere_stays : (b : ℕ) (change : Change) (o : Overlay) → o.span ≡ None → moved_by b change o ≡ o
+nowhere_stays b (Insertion at n all) o h = let k : (moved_by b (Insertion at n all) o).span ≡ None = rw h refl in ap (λ p. record o { span = p }) (k ∙ sym h)
+nowhere_stays b (Deletion from to) o h = let k : (moved_by b (Deletion from to) o).span ≡ None = rw h refl in ap (λ p. record o { span = p }) (k ∙ sym h)
+nowhere_stays b Killed o h = let k : (moved_by b Killed o).span ≡ None = rw h refl in ap (λ p. record o { span = p }) (k ∙ sym h)
+
+abbrev numbers_moved : (b : ℕ) → Change → ℕ → List Overlay → List ℕ
+numbers_moved b change k os = numbers_in (filter (touches b change) (entries_from k os))
+
+-- with the overlays before a number moved, those from it on
+all_in_turn : (b : ℕ) (change : Change) (all pre os : List Overlay) → Agrees all (length pre) os → fold (moved_number b change all) (pre ++ os) (numbers_moved b change (length pre) os) ≡ pre ++ map (moved_by b change) os
+all_in_turn b change all pre [] h = refl
+all_in_turn b change all pre (o ∷ os) h = by_span o.span refl
+    (λ p. let e : length (pre ++ p ∷ []) ≡ length pre + 1 = length-append pre (p ∷ []) in
+    ap (λ ps. fold (moved_number b change all) ps (numbers_moved b change (length pre + 1) os)) (sym (append_assoc pre (p ∷ []) os))
+    ∙ ap (λ k. fold (moved_number b change all) ((pre ++ p ∷ []) ++ os) (numbers_moved b change k os)) (sym e)
+    ∙ all_in_turn b change all (pre ++ p ∷ []) os (subst (λ k. Agrees all k os) (sym e) h.1.1)
+    ∙ append_assoc pre (p ∷ []) (map (moved_by b change) os))
+  where
+    still : ((p : Overlay) → fold (moved_number b change all) (pre ++ p ∷ os) (numbers_moved b change (length pre + 1) os) ≡ pre ++ p ∷ map (moved_by b change) os) → moved_by b change o ≡ o →
+        fold (moved_number b change all) (pre ++ o ∷ os) (numbers_moved b change (length pre + 1) os) ≡ pre ++ moved_by b change o ∷ map (moved_by b change) os
+    still ih e = ih o ∙ ap (λ p. pre ++ p ∷ map (moved_by b change) os) (sym e)
+
+    by_span : (t : Option Span) → o.span ≡ t → ((p : Overlay) → fold (moved_number b change all) (pre ++ p ∷ os) (numbers_moved b change (length pre + 1) os) ≡ pre ++ p ∷ map (moved_by b change) os) →
+        fold (moved_number b change all) (pre ++ o ∷ os) (numbers_in (filter (touches b change) (entry_of (length pre) o.span ++ entries_from (length pre + 1) os))) ≡ pre ++ moved_by b change o ∷ map (moved_by b change) os
+    by_span None e ih = ap (λ t. fold (moved_number b change all) (pre ++ o ∷ os) (numbers_in (filter (touches b change) (entry_of (length pre) t ++ entries_from (length pre + 1) os)))) e ∙ still ih (nowhere_stays b change o e)
+    by_span (Some s) e ih =
+        ap (λ t. fold (moved_number b change all) (pre ++ o ∷ os) (numbers_in (filter (touches b change) (entry_of (length pre) t ++ entries_from (length pre + 1) os)))) e
+        ∙ by_touch (touches b change (record { number = length pre; stretch = (s.buffer, s.start, s.end) })) refl
+      where
+        by_touch : (t : Bool) → touches b change (record { number = length pre; stretch = (s.buffer, s.start, s.end) }) ≡ t →
+            fold (moved_number b change all) (pre ++ o ∷ os) (numbers_in (filter (touches b change) (entry_of (length pre) (Some s) ++ entries_from (length pre + 1) os))) ≡ pre ++ moved_by b change o ∷ map (moved_by b change) os
+        by_touch true t =
+            let here : moved_number b change all (pre ++ o ∷ os) (length pre) ≡ pre ++ moved_by b change o ∷ os = ap (λ p. slice_set (pre ++ o ∷ os) (length pre) (moved_by b change p)) h.0 ∙ set_at_end pre o (moved_by b change o) os in
+            rw t (ap (λ ps. fold (moved_number b change all) ps (numbers_moved b change (length pre + 1) os)) here ∙ ih (moved_by b change o))
+        by_touch false t =
+            let same = stretch_back o s e in
+            rw t (still ih (ap (moved_by b change) (sym same) ∙ stays b change o (s.buffer, s.start, s.end) t ∙ same))
+
+pub whole_moved : (b : ℕ) (change : Change) (os : List Overlay) (tree : List Entry) → HoldSame tree (entries_from 0 os) → move_all b change os tree ≡ map (moved_by b change) os
+whole_moved b change os tree h =
+    let es = entries_from 0 os in
+    let same : Same tree es = same_from_sums tree es h in
+    let match : All (Matches os) tree = all_same (Matches os) tree es same (entries_match os 0 os (agrees_all os)) in
+    by_number b change os (filter (touches b change) tree) os (All-filter (touches b change) (Matches os) tree match) refl (λ k s. refl)
+    ∙ fold-same (moved_number b change os) (numbers_swap b change os) (numbers_in (filter (touches b change) tree)) (numbers_in (filter (touches b change) es))
+    (same-map (λ (e : Entry). e.number) (filter (touches b change) tree) (filter (touches b change) es) (same-filter (touches b change) tree es same)) os
+    ∙ all_in_turn b change os [] os (agrees_all os)
+
+-- THE WINNER
+abbrev Fits : List Overlay → ℕ → Option (ℕ × Overlay) → Type 0
+Fits all k None = Unit {0}
+Fits all k (Some best) = (best.0 < k) × (overlay_at all best.0 ≡ best.1)
+
+later_fits : (all : List Overlay) (k : ℕ) (best : Option (ℕ × Overlay)) → Fits all k best → Fits all (k + 1) best
+later_fits all k None h = tt
+later_fits all k (Some best) h = let low = h.0 in (omega arith, h.1)
+
+greater_fits : (all : List Overlay) (k : ℕ) (o : Overlay) (best : Option (ℕ × Overlay)) → overlay_at all k ≡ o → Fits all k best → Fits all (k + 1) (Some (greater best (k, o)))
+greater_fits all k o None here h = (omega arith, here)
+greater_fits all k o (Some best) here h = by_rank (outranks o best.1) refl
+  where
+    by_rank : (t : Bool) → outranks o best.1 ≡ t → Fits all (k + 1) (Some (if t then (k, o) else best))
+    by_rank true e = (omega arith, here)
+    by_rank false e = let low = h.0 in (omega arith, h.1)
+
+greater_number : (all : List Overlay) (k : ℕ) (o : Overlay) (best : Option (ℕ × Overlay)) → overlay_at all k ≡ o → Fits all k best → (greater best (k, o)).0 ≡ stronger all (option_map (λ b. b.0) best) k
+greater_number all k o None here h = refl
+greater_number all k o (Some best) here h =
+    let low : nat_lt best.0 k ≡ true = lt-ltb best.0 k h.0 in
+    let tests : is_stronger all k best.0 ≡ outranks o best.1 = rw (low, here, h.1) refl in
+    by_rank (outranks o best.1) refl tests
+  where
+    by_rank : (t : Bool) → outranks o best.1 ≡ t → is_stronger all k best.0 ≡ outranks o best.1 → (if outranks o best.1 then (k, o) else best).0 ≡ (if is_stronger all k best.0 then k else best.0)
+    by_rank true e s = rw (s, e) refl
+    by_rank false e s = rw (s, e) refl
+
+abbrev listed_from : (b i name : ℕ) → Option (ℕ × Overlay) → ℕ → List Overlay → Option (ℕ × Overlay)
+listed_from b i name best k os = greatest_of best (filter (λ (o : ℕ × Overlay). is_some (get o.1.props name)) (filter (λ (o : ℕ × Overlay). span_passes b (covers (i + 1)) o.1.span) (enumerate_from k os)))
+
+winner_listed : (b i name : ℕ) (all : List Overlay) (k : ℕ) (os : List Overlay) (best : Option (ℕ × Overlay)) → Agrees all k os → Fits all k best →
+    strongest b i name all (option_map (λ o. o.0) best) (entries_from k os) ≡ option_map (λ o. o.0) (listed_from b i name best k os)
+winner_listed b i name all k [] best h fit = refl
+winner_listed b i name all k (o ∷ os) best h fit = by_span o.span refl (λ p f. winner_listed b i name all (k + 1) os p h.1.1 f)
+  where
+    by_span : (t : Option Span) → o.span ≡ t → ((p : Option (ℕ × Overlay)) → Fits all (k + 1) p → strongest b i name all (option_map (λ o. o.0) p) (entries_from (k + 1) os) ≡ option_map (λ o. o.0) (listed_from b i name p (k + 1) os)) →
+        strongest b i name all (option_map (λ o. o.0) best) (entry_of k o.span ++ entries_from (k + 1) os) ≡ option_map (λ o. o.0) (listed_from b i name best k (o ∷ os))
+    by_span None e ih =
+        let none : span_passes b (covers (i + 1)) o.span ≡ false = ap (span_passes b (covers (i + 1))) e in
+        ap (λ p. strongest b i name all (option_map (λ o. o.0) best) (entry_of k p ++ entries_from (k + 1) os)) e ∙ rw none (ih best (later_fits all k best fit))
+    by_span (Some s) e ih =
+        ap (λ p. strongest b i name all (option_map (λ o. o.0) best) (entry_of k p ++ entries_from (k + 1) os)) e ∙ by_cover (span_passes b (covers (i + 1)) (Some s)) refl
+      where
+        by_cover : (t : Bool) → span_passes b (covers (i + 1)) (Some s) ≡ t → strongest b i name all (option_map (λ o. o.0) best) (entry_of k (Some s) ++ entries_from (k + 1) os) ≡ option_map (λ o. o.0) (listed_from b i name best k (o ∷ os))
+        by_cover false t =
+            let seen : span_passes b (covers (i + 1)) o.span ≡ false = ap (span_passes b (covers (i + 1))) e ∙ t in
+            rw (t, seen) (ih best (later_fits all k best fit))
+        by_cover true t = by_property (is_some (get o.props name)) refl
+          where
+            seen : span_passes b (covers (i + 1)) o.span ≡ true
+            seen = ap (span_passes b (covers (i + 1))) e ∙ t
+
+            by_property : (u : Bool) → is_some (get o.props name) ≡ u → strongest b i name all (option_map (λ o. o.0) best) (entry_of k (Some s) ++ entries_from (k + 1) os) ≡ option_map (λ o. o.0) (listed_from b i name best k (o ∷ os))
+            by_property false u =
+                let has : has_property name all (record { number = k; stretch = (s.buffer, s.start, s.end) }) ≡ false = ap (λ (p : Overlay). is_some (get p.props name)) h.0 ∙ u in
+                rw (t, seen, has, u) (ih best (later_fits all k best fit))
+            by_property true u =
+                let has : has_property name all (record { number = k; stretch = (s.buffer, s.start, s.end) }) ≡ true = ap (λ (p : Overlay). is_some (get p.props name)) h.0 ∙ u in
+                rw (t, seen, has, u)
+                (ap (λ m. strongest b i name all (Some m) (entries_from (k + 1) os)) (sym (greater_number all k o best h.0 fit)) ∙ ih (Some (greater best (k, o))) (greater_fits all k o best h.0 fit))
+
+pub whole_winner : (b i name : ℕ) (os : List Overlay) (tree : List Entry) → HoldSame tree (entries_from 0 os) → strongest b i name os None tree ≡ option_map (λ o. o.0) (winner b (i + 1) name os)
+whole_winner b i name os tree h =
+    let es = entries_from 0 os in
+    let same : Same tree es = same_from_sums tree es h in
+    let front = filter (passes b (At i)) tree in
+    let fronts = filter (passes b (At i)) es in
+    fold-same (λ m k. Some (stronger os m k)) (stronger_swap os) (contenders b i name os tree) (contenders b i name os es)
+    (same-map (λ (e : Entry). e.number) (filter (has_property name os) front) (filter (has_property name os) fronts) (same-filter (has_property name os) front fronts (same-filter (passes b (At i)) tree es same))) None
+    ∙ winner_listed b i name os 0 os None (agrees_all os) tt
+
+-- STARTS AND ENDS
+least_fold : (n : ℕ) (xs : List ℕ) → least n xs ≡ fold min n xs
+least_fold n [] = refl
+least_fold n (x ∷ xs) = least_fold (min n x) xs
+
+greatest_fold : (n : ℕ) (xs : List ℕ) → greatest n xs ≡ fold max n xs
+greatest_fold n [] = refl
+greatest_fold n (x ∷ xs) = greatest_fold (max n x) xs
+
+same_ends : (q : ℕ → Bool) (b : ℕ) (os : List Overlay) (tree : List Entry) → HoldSame tree (entries_from 0 os) → Same (filter q (flat_map (ends_at b) tree)) (filter q (overlay_ends b os))
+same_ends q b os tree h =
+    let es = entries_from 0 os in
+    subst (λ ns. Same (filter q (flat_map (ends_at b) tree)) (filter q ns)) (sym (ends_listed b 0 os))
+    (same-filter q (flat_map (ends_at b) tree) (flat_map (ends_at b) es) (same-flat_map (ends_at b) tree es (same_from_sums tree es h)))
+
+pub whole_least : (q : ℕ → Bool) (b n : ℕ) (os : List Overlay) (tree : List Entry) → HoldSame tree (entries_from 0 os) → least n (filter q (overlay_ends b os)) ≡ least n (filter q (flat_map (ends_at b) tree))
+whole_least q b n os tree h =
+    let xs = filter q (flat_map (ends_at b) tree) in
+    let ys = filter q (overlay_ends b os) in
+    least_fold n ys ∙ sym (fold-same min (λ m x y. omega arith) xs ys (same_ends q b os tree h) n) ∙ sym (least_fold n xs)
+
+pub whole_greatest : (q : ℕ → Bool) (b n : ℕ) (os : List Overlay) (tree : List Entry) → HoldSame tree (entries_from 0 os) → greatest n (filter q (overlay_ends b os)) ≡ greatest n (filter q (flat_map (ends_at b) tree))
+whole_greatest q b n os tree h =
+    let xs = filter q (flat_map (ends_at b) tree) in
+    let ys = filter q (overlay_ends b os) in
+    greatest_fold n ys ∙ sym (fold-same max (λ m x y. omega arith) xs ys (same_ends q b os tree h) n) ∙ sym (greatest_fold n xs)
+
+-- EACH ENTRY WAS MADE
+pub whole_made : (os : List Overlay) (tree : List Entry) → HoldSame tree (entries_from 0 os) → All (IsMade (length os)) tree
+whole_made os tree h =
+    let same : Same tree (entries_from 0 os) = same_from_sums tree (entries_from 0 os) h in
+    All-weaker (Matches os) (IsMade (length os)) (λ e m. m.0) tree (all_same (Matches os) tree (entries_from 0 os) same (entries_match os 0 os (agrees_all os)))
+
+pub whole_can_move : (b : ℕ) (change : Change) (os : List Overlay) (tree : List Entry) → HoldSame tree (entries_from 0 os) → All (CanMoveIn b change) os → All (CanMoveEntry b change) tree
+whole_can_move b change os tree h can =
+    let same : Same tree (entries_from 0 os) = same_from_sums tree (entries_from 0 os) h in
+    all_same (CanMoveEntry b change) tree (entries_from 0 os) same (entries_can_move b change 0 os can)
+
+-- the entries after a change are those of the overlays after it
+pub whole_entries : (b : ℕ) (change : Change) (os : List Overlay) (tree : List Entry) → HoldSame tree (entries_from 0 os) → HoldSame (flat_map (moved_entry b change os) tree) (entries_from 0 (map (moved_by b change) os))
+whole_entries b change os tree h =
+    let es = entries_from 0 os in
+    subst (HoldSame (flat_map (moved_entry b change os) tree)) (entries_moved b change os 0 os (agrees_all os))
+    (sums_from_same (flat_map (moved_entry b change os) tree) (flat_map (moved_entry b change os) es) (same-flat_map (moved_entry b change os) tree es (same_from_sums tree es h)))
+
+-- WHAT IS FOUND, SORTED
+pub whole_found : (b : ℕ) (q : Question) (os : List Overlay) (tree : List Entry) (found sorted : List ℕ) → HoldSame tree (entries_from 0 os) → found ≡ numbers_in (filter (passes b q) tree) → IsPermutation found sorted → IsNonDecreasing sorted →
+    sorted ≡ numbers_of (overlays_where b (test_of q) os)
+whole_found b q os tree found sorted h all mixed rising =
+    let es = entries_from 0 os in
+    let same : Same (numbers_in (filter (passes b q) tree)) (numbers_in (filter (passes b q) es)) =
+    same-map (λ (e : Entry). e.number) (filter (passes b q) tree) (filter (passes b q) es) (same-filter (passes b q) tree es (same_from_sums tree es h)) in
+    let moved : Same sorted found = same_from_permutation found sorted mixed in
+    rising_same sorted (numbers_in (filter (passes b q) es)) (rises_from sorted rising) (kept_rises (passes b q) 0 os) (λ f. moved f ∙ ap (total f) all ∙ same f) ∙ sym (found_listed b q 0 os)
