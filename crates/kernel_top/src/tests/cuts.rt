@@ -1,17 +1,14 @@
 //! A child's bytes in pieces: whatever the pieces are, the entries of the filter spell the same text, and the buffer
 //! gets the same.
 
-use super::playing::{Heard, PLAIN, child, run_script};
+use super::playing::{PLAIN, child, run_script};
 use crate::Status;
 use std::alloc::Global;
 use std::test::Fail;
 
 /// Characters of one to four bytes, and malformed bytes: one that stands in no character, and fronts of a character
 /// before a letter, before a byte that can only follow, and at the end.
-const OUTPUT: [u8; 20] = [
-    b'a', 0xC3, 0xA9, 0xE2, 0x82, 0xAC, 0xF0, 0x9D, 0x84, 0x9E, 0xFF, 0xC3, b'A', 0xE2, 0x82, b'A',
-    0x80, 0xF0, 0x9D, 0x84,
-];
+const OUTPUT: &[u8] = b"a\xC3\xA9\xE2\x82\xAC\xF0\x9D\x84\x9E\xFF\xC3A\xE2\x82A\x80\xF0\x9D\x84";
 
 /// How many bytes are in the first piece, the text of its entry, and that of the entry of the second piece.
 const CUTS: [(usize, &str, &str); 19] = [
@@ -102,8 +99,8 @@ fn two_pieces(rt: HostRuntime) -> Result<(), Fail> {
     for (cut, first, second) in CUTS {
         let mut want = lines(rt.alloc(), &[first, second])?;
         want.push_str(ENDING)?;
-        let (front, back) = OUTPUT.split_at(cut.min(20));
-        let plays = child(rt.alloc(), &[Heard::Bytes(front), Heard::Bytes(back)], &[])?;
+        let (front, back) = OUTPUT.split_at(cut.min(OUTPUT.len()));
+        let plays = child(rt.alloc(), &[front, back], &[])?;
         let ran = run_script(rt.alloc(), script.as_str(), plays, PLAIN)?;
         assert_eq!(rt; ran.status, Status::Done);
         assert_eq!(rt; ran.written.as_slice(), want.as_bytes());
@@ -117,8 +114,8 @@ fn single_bytes(rt: HostRuntime) -> Result<(), Fail> {
     let mut want = lines(rt.alloc(), &BYTE_BY_BYTE)?;
     want.push_str(ENDING)?;
     let mut reads = Vec::new(rt.alloc());
-    for i in 0..20 {
-        reads.push(Heard::Bytes(&OUTPUT[i..i + 1]))?;
+    for piece in OUTPUT.chunks(1) {
+        reads.push(piece)?;
     }
     let plays = child(rt.alloc(), reads.as_slice(), &[])?;
     let ran = run_script(rt.alloc(), script.as_str(), plays, PLAIN)?;
@@ -132,7 +129,7 @@ fn one_piece(rt: HostRuntime) -> Result<(), Fail> {
     let script = waits(rt.alloc(), 2)?;
     let mut want = lines(rt.alloc(), &[r"aé€𝄞\377\303A\342\202A\200"])?;
     want.push_str(ENDING)?;
-    let plays = child(rt.alloc(), &[Heard::Bytes(&OUTPUT)], &[])?;
+    let plays = child(rt.alloc(), &[OUTPUT], &[])?;
     let ran = run_script(rt.alloc(), script.as_str(), plays, PLAIN)?;
     assert_eq!(rt; ran.status, Status::Done);
     assert_eq!(rt; ran.written.as_slice(), want.as_bytes());
@@ -157,7 +154,7 @@ process 0 #<process c> exit 0
 "
     )?;
     let script = waits(rt.alloc(), 3)?;
-    let plays = child(rt.alloc(), &[Heard::Bytes(output.as_bytes())], &[])?;
+    let plays = child(rt.alloc(), &[output.as_bytes()], &[])?;
     let ran = run_script(rt.alloc(), script.as_str(), plays, PLAIN)?;
     assert_eq!(rt; ran.status, Status::Done);
     assert_eq!(rt; ran.written.as_slice(), want.as_bytes());

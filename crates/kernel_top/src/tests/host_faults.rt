@@ -1,7 +1,7 @@
 //! A host that fails, at each of its calls in turn. The status of the run is not changed by it.
 
 use super::one_child::{CHILD, CHILD_LINES};
-use super::playing::{Heard, PLAIN, Setting, child, run_script};
+use super::playing::{child, run_failing};
 use crate::Status;
 use host_link::Ended;
 use std::test::Fail;
@@ -77,9 +77,8 @@ process 0 #<process c> failed nil
 #[test]
 fn a_host_that_fails_at_any_call(rt: HostRuntime) -> Result<(), Fail> {
     for (fails, lines, exchanges) in FAULTS {
-        let setting = Setting { fails, ..PLAIN };
-        let plays = child(rt.alloc(), &[Heard::Bytes(b"ab")], &[])?;
-        let ran = run_script(rt.alloc(), CHILD, plays, setting)?;
+        let plays = child(rt.alloc(), &[b"ab"], &[])?;
+        let ran = run_failing(rt.alloc(), CHILD, plays, fails)?;
         assert_eq!(rt; ran.status, Status::Done);
         assert_eq!(rt; ran.written.as_slice(), lines);
         assert_eq!(rt; ran.exchanges.as_slice(), exchanges);
@@ -181,15 +180,10 @@ process 0 #<process c> exit 3
 
 #[test]
 fn a_host_that_fails_at_any_call_of_a_slow_child(rt: HostRuntime) -> Result<(), Fail> {
-    let reads = [Heard::Bytes(b"a\xC3"), Heard::Nothing, Heard::End];
     let ends = [Ended::Running, Ended::Code(3)];
     for (call, lines, exchanges) in SLOW_FAULTS {
-        let setting = Setting {
-            fails: &[call],
-            ..PLAIN
-        };
-        let plays = child(rt.alloc(), &reads, &ends)?;
-        let ran = run_script(rt.alloc(), SLOW, plays, setting)?;
+        let plays = child(rt.alloc(), &[b"a\xC3", b""], &ends)?;
+        let ran = run_failing(rt.alloc(), SLOW, plays, &[call])?;
         assert_eq!(rt; ran.status, Status::Done);
         assert_eq!(rt; ran.written.as_slice(), lines);
         assert_eq!(rt; ran.exchanges.as_slice(), exchanges);
@@ -200,16 +194,12 @@ fn a_host_that_fails_at_any_call_of_a_slow_child(rt: HostRuntime) -> Result<(), 
 #[test]
 fn a_kill_that_fails_at_the_end(rt: HostRuntime) -> Result<(), Fail> {
     let script = "(start-process \"c\" \"*scratch*\" \"cat\")(accept-process-output)";
-    for (fails, killed) in [([9], "killed"), ([2], "failed")] {
-        let setting = Setting {
-            fails: &fails,
-            ..PLAIN
-        };
+    for (call, killed) in [(9, "killed"), (2, "failed")] {
         let exchanges = format!(in rt.alloc();
             "spawn cat: started 0\nread 0: bytes ab\nkill 0: {killed}\n"
         )?;
-        let plays = child(rt.alloc(), &[Heard::Bytes(b"ab")], &[])?;
-        let ran = run_script(rt.alloc(), script, plays, setting)?;
+        let plays = child(rt.alloc(), &[b"ab"], &[])?;
+        let ran = run_failing(rt.alloc(), script, plays, &[call])?;
         assert_eq!(rt; ran.status, Status::Done);
         assert_eq!(rt;
             ran.written.as_slice(),

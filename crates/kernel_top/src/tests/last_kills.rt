@@ -1,7 +1,7 @@
 //! A child that lives when the run ends is killed once, whatever the run came to.
 
 use super::one_child::{CHILD, CHILD_LINES};
-use super::playing::{Calls, Heard, PLAIN, Setting, child, run_script};
+use super::playing::{Calls, PLAIN, Setting, child, run_script};
 use crate::Status;
 use std::test::Fail;
 
@@ -19,16 +19,16 @@ process 0 #<process c> run 0
 ";
 
 /// The bytes of the line of the start.
-const STARTED: u32 = 15;
+const STARTED: usize = 15;
 
 /// The bytes of the lines until the child has ended.
-const HEARD: u32 = 64;
+const HEARD: usize = 64;
 
 /// A sink of single bytes that fails at this call.
-fn failing_at(call: u32) -> Setting<'static> {
+fn failing_at(call: usize) -> Setting {
     let to = Calls {
         piece: 1,
-        fails: Some(call),
+        fails: u32::try_from(call).ok(),
     };
     Setting { to, ..PLAIN }
 }
@@ -62,13 +62,13 @@ process 0 #<process c> run 0
 #[test]
 fn a_sink_that_fails_while_a_child_lives(rt: HostRuntime) -> Result<(), Fail> {
     for call in 0..LEFT_LINES.len() {
-        let exchanges: &[u8] = if call < STARTED as usize {
+        let exchanges: &[u8] = if call < STARTED {
             b"spawn cat: started 0\nkill 0: killed\n"
         } else {
             b"spawn cat: started 0\nread 0: bytes ab\nkill 0: killed\n"
         };
-        let plays = child(rt.alloc(), &[Heard::Bytes(b"ab")], &[])?;
-        let ran = run_script(rt.alloc(), LEFT, plays, failing_at(call as u32))?;
+        let plays = child(rt.alloc(), &[b"ab"], &[])?;
+        let ran = run_script(rt.alloc(), LEFT, plays, failing_at(call))?;
         assert_eq!(rt; ran.status, Status::WriteFault);
         assert_eq!(rt; ran.written.as_slice(), &LEFT_LINES[..call]);
         assert_eq!(rt; ran.exchanges.as_slice(), exchanges);
@@ -79,15 +79,15 @@ fn a_sink_that_fails_while_a_child_lives(rt: HostRuntime) -> Result<(), Fail> {
 #[test]
 fn a_sink_that_fails_before_and_behind_the_end_of_a_child(rt: HostRuntime) -> Result<(), Fail> {
     for call in 0..CHILD_LINES.len() {
-        let exchanges: &[u8] = if call < STARTED as usize {
+        let exchanges: &[u8] = if call < STARTED {
             b"spawn cat: started 0\nkill 0: killed\n"
-        } else if call < HEARD as usize {
+        } else if call < HEARD {
             b"spawn cat: started 0\nread 0: bytes ab\nkill 0: killed\n"
         } else {
             b"spawn cat: started 0\nread 0: bytes ab\nread 0: end\nend 0: code 0\n"
         };
-        let plays = child(rt.alloc(), &[Heard::Bytes(b"ab")], &[])?;
-        let ran = run_script(rt.alloc(), CHILD, plays, failing_at(call as u32))?;
+        let plays = child(rt.alloc(), &[b"ab"], &[])?;
+        let ran = run_script(rt.alloc(), CHILD, plays, failing_at(call))?;
         assert_eq!(rt; ran.status, Status::WriteFault);
         assert_eq!(rt; ran.written.as_slice(), &CHILD_LINES[..call]);
         assert_eq!(rt; ran.exchanges.as_slice(), exchanges);

@@ -1,8 +1,8 @@
 //! Runs that come to a limit: no exchange is left, or the text is full.
 
-use super::playing::{Heard, PLAIN, Setting, child, run_script};
+use super::playing::{PLAIN, Setting, child, run_script};
 use crate::Status;
-use host_link::Ended;
+use host_link::Play;
 use std::alloc::Global;
 use std::test::Fail;
 
@@ -37,10 +37,19 @@ fn repeated(
     Ok(text)
 }
 
+/// A child that is silent so often.
+fn silent(alloc: Global, count: usize) -> Result<Vec<Play>, Fail> {
+    let mut reads: Vec<&[u8]> = Vec::new(alloc);
+    for _ in 0..count {
+        reads.push(b"")?;
+    }
+    child(alloc, reads.as_slice(), &[])
+}
+
 /// Of the 66 waits of 1,000 rounds the last has 535 left. A wrong number of rounds is refused before that.
 #[test]
 fn no_exchange_is_left(rt: HostRuntime) -> Result<(), Fail> {
-    let silent = [Heard::Nothing; MOST_EXCHANGES];
+    let plays = silent(rt.alloc(), MOST_EXCHANGES)?;
     let script = script(
         rt.alloc(),
         "(accept-process-output nil 1000)",
@@ -70,7 +79,6 @@ process 0 #<process c> run 0
         MOST_EXCHANGES - 1,
         "kill 0: killed\n",
     )?;
-    let plays = child(rt.alloc(), &silent, &[])?;
     let ran = run_script(rt.alloc(), script.as_str(), plays, PLAIN)?;
     assert_eq!(rt; ran.status, Status::Done);
     assert_eq!(rt; ran.written.as_slice(), lines.as_bytes());
@@ -81,7 +89,7 @@ process 0 #<process c> run 0
 /// The child has ended with the last exchange, so no further wait needs one.
 #[test]
 fn the_last_exchange(rt: HostRuntime) -> Result<(), Fail> {
-    let silent = [Heard::Nothing; MOST_EXCHANGES - 3];
+    let plays = silent(rt.alloc(), MOST_EXCHANGES - 3)?;
     let script = script(rt.alloc(), "(accept-process-output nil 1000)", 67, "")?;
     let lines = repeated(
         rt.alloc(),
@@ -105,7 +113,6 @@ process 0 #<process c> exit 0
         MOST_EXCHANGES - 3,
         "read 0: end\nend 0: code 0\n",
     )?;
-    let plays = child(rt.alloc(), &silent, &[])?;
     let ran = run_script(rt.alloc(), script.as_str(), plays, PLAIN)?;
     assert_eq!(rt; ran.status, Status::Done);
     assert_eq!(rt; ran.written.as_slice(), lines.as_bytes());
@@ -117,7 +124,6 @@ process 0 #<process c> exit 0
 #[test]
 fn the_text_is_full(rt: HostRuntime) -> Result<(), Fail> {
     let letters = "x".repeat(rt.alloc(), READ)?;
-    let full = [Heard::Bytes(letters.as_bytes()); 1024];
     let entry = format!(in rt.alloc();
         "> filter default #<process c> \"{letters}\"\n< default\n= t\n"
     )?;
@@ -149,20 +155,14 @@ fn the_text_is_full(rt: HostRuntime) -> Result<(), Fail> {
 buffer *scratch* point 9 min 1 max 4194305 modified t current
 text \"xxxxxxxa",
     )?;
-    let text = repeated(
-        rt.alloc(),
-        "",
-        letters.as_str(),
-        1023,
-        &letters.as_str()[8..],
-    )?;
+    let rest = "x".repeat(rt.alloc(), READ - 8)?;
+    let text = repeated(rt.alloc(), "", letters.as_str(), 1023, rest.as_str())?;
     write!(
         lines,
         "{text}\"\nmarker 0 #<marker at 4194305 in *scratch*>\nprocess 0 #<process c> exit 0\n"
     )?;
-    let mut reads = full.to_vec(rt.alloc())?;
-    reads.push(Heard::Bytes(b"b"))?;
-    let plays = child(rt.alloc(), reads.as_slice(), &[Ended::Code(0)])?;
+    let output = repeated(rt.alloc(), "", letters.as_str(), 1024, "b")?;
+    let plays = child(rt.alloc(), &[output.as_bytes()], &[])?;
     let setting = Setting {
         room: 10_000_000,
         ..PLAIN

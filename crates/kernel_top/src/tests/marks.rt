@@ -1,6 +1,6 @@
 //! Where the output of a child goes, and where point and the mark go with it.
 
-use super::playing::{Heard, PLAIN, child, run_script};
+use super::playing::{PLAIN, child, run_script};
 use crate::Status;
 use std::test::Fail;
 
@@ -70,7 +70,7 @@ fn output_goes_to_the_mark(rt: HostRuntime) -> Result<(), Fail> {
         let want = format!(in rt.alloc();
             "kill #<process c>\n{dump}process 0 #<process c> run 0\n"
         )?;
-        let plays = child(rt.alloc(), &[Heard::Bytes(b"ab")], &[])?;
+        let plays = child(rt.alloc(), &[b"ab"], &[])?;
         let ran = run_script(rt.alloc(), script, plays, PLAIN)?;
         assert_eq!(rt; ran.status, Status::Done);
         assert!(rt; ran.written.ends_with(want.as_bytes()), "{script}");
@@ -83,7 +83,7 @@ fn output_goes_to_the_mark(rt: HostRuntime) -> Result<(), Fail> {
 fn the_mark_goes_behind_each_text(rt: HostRuntime) -> Result<(), Fail> {
     let script =
         "(insert \"xyz\")(goto-char 2)(start-process \"c\" \"*scratch*\" \"cat\")(accept-process-output)(insert \"-\")(accept-process-output)(goto-char 99)(insert \"end\")(accept-process-output)";
-    let plays = child(rt.alloc(), &[Heard::Bytes(b"ab"), Heard::Bytes(b"cd")], &[])?;
+    let plays = child(rt.alloc(), &[b"ab", b"cd"], &[])?;
     let ran = run_script(rt.alloc(), script, plays, PLAIN)?;
     assert_eq!(rt; ran.status, Status::Done);
     assert_eq!(rt;

@@ -1,6 +1,6 @@
 //! A child that is heard out.
 
-use super::playing::{Heard, PLAIN, child, run_script};
+use super::playing::{PLAIN, child, run_script};
 use crate::Status;
 use host_link::Ended;
 use std::test::Fail;
@@ -23,7 +23,7 @@ process 0 #<process c> exit 0
 
 #[test]
 fn a_child_is_heard_out(rt: HostRuntime) -> Result<(), Fail> {
-    let plays = child(rt.alloc(), &[Heard::Bytes(b"ab")], &[])?;
+    let plays = child(rt.alloc(), &[b"ab"], &[])?;
     let ran = run_script(rt.alloc(), CHILD, plays, PLAIN)?;
     assert_eq!(rt; ran.status, Status::Done);
     assert_eq!(rt; ran.written.as_slice(), CHILD_LINES);
@@ -160,9 +160,8 @@ end 0: signal
 #[test]
 fn a_wait_asks_once_a_round(rt: HostRuntime) -> Result<(), Fail> {
     for (script, lines, exchanges) in ROUNDS {
-        let silent = [Heard::Nothing, Heard::Nothing, Heard::Nothing, Heard::End];
         let ends = [Ended::Running, Ended::Running, Ended::Signal];
-        let plays = child(rt.alloc(), &silent, &ends)?;
+        let plays = child(rt.alloc(), &[b"", b"", b""], &ends)?;
         let ran = run_script(rt.alloc(), script, plays, PLAIN)?;
         assert_eq!(rt; ran.status, Status::Done);
         assert_eq!(rt; ran.written.as_slice(), lines);

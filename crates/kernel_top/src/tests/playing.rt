@@ -14,15 +14,12 @@ pub struct Calls {
     pub fails: Option<u32>,
 }
 
-/// What a run is given beside its script and the children: the words of the command line, how source and sink are
-/// called, the bytes that the sink holds, and the calls of the host that fail.
+/// How source and sink are called, and the bytes that the sink holds.
 #[derive(Clone, Copy)]
-pub struct Setting<'a> {
-    pub words: &'a [&'a str],
+pub struct Setting {
     pub from: Calls,
     pub to: Calls,
     pub room: usize,
-    pub fails: &'a [u32],
 }
 
 const WHOLE: Calls = Calls {
@@ -30,13 +27,11 @@ const WHOLE: Calls = Calls {
     fails: None,
 };
 
-/// Nothing goes wrong.
-pub const PLAIN: Setting<'static> = Setting {
-    words: &["run"],
+/// Neither fails.
+pub const PLAIN: Setting = Setting {
     from: WHOLE,
     to: WHOLE,
     room: 100_000,
-    fails: &[],
 };
 
 /// What a run came to: its status, what was written, and a line for each exchange.
@@ -45,14 +40,6 @@ pub struct Ran {
     pub status: Status,
     pub written: Vec<u8>,
     pub exchanges: Vec<u8>,
-}
-
-/// What a child answers to a read.
-#[derive(Clone, Copy)]
-pub enum Heard<'a> {
-    Bytes(&'a [u8]),
-    Nothing,
-    End,
 }
 
 fn failing(alloc: Global, call: Option<u32>) -> Result<Vec<u32>, Fail> {
@@ -71,20 +58,16 @@ fn given(alloc: Global, words: &[&str]) -> Result<Vec<String>, Fail> {
     Ok(given)
 }
 
-/// Runs a script.
-pub fn run_script(
+/// Runs a script by these words of the command line, over a host that fails at these calls.
+pub fn run_words(
     alloc: Global,
+    words: &[&str],
     script: &str,
     plays: Vec<Play>,
+    fails: &[u32],
     setting: Setting,
 ) -> Result<Ran, Fail> {
-    let Setting {
-        words,
-        from,
-        to,
-        room,
-        fails,
-    } = setting;
+    let Setting { from, to, room } = setting;
     let words = given(alloc, words)?;
     let bytes = script.as_bytes().to_vec(alloc)?;
     let mut source = MemorySource::new(bytes, from.piece.max(1), failing(alloc, from.fails)?);
@@ -101,23 +84,37 @@ pub fn run_script(
     })
 }
 
+/// Runs a script.
+pub fn run_script(
+    alloc: Global,
+    script: &str,
+    plays: Vec<Play>,
+    setting: Setting,
+) -> Result<Ran, Fail> {
+    run_words(alloc, &["run"], script, plays, &[], setting)
+}
+
+/// Runs a script over a host that fails at these calls.
+pub fn run_failing(
+    alloc: Global,
+    script: &str,
+    plays: Vec<Play>,
+    fails: &[u32],
+) -> Result<Ran, Fail> {
+    run_words(alloc, &["run"], script, plays, fails, PLAIN)
+}
+
 /// Runs a script over a host that starts no child.
 pub fn run_alone(alloc: Global, script: &str) -> Result<Ran, Fail> {
     run_script(alloc, script, Vec::new(alloc), PLAIN)
 }
 
-fn answer(alloc: Global, heard: Heard) -> Result<Answer, Fail> {
-    match heard {
-        Heard::Bytes(given) => {
-            let mut bytes = ListOf::new(alloc);
-            for byte in given {
-                bytes.push(*byte)?;
-            }
-            Ok(Answer::Bytes(bytes))
-        }
-        Heard::Nothing => Ok(Answer::Nothing),
-        Heard::End => Ok(Answer::End),
+fn answer(alloc: Global, heard: &[u8]) -> Result<Answer, Fail> {
+    let mut bytes = ListOf::new(alloc);
+    for byte in heard {
+        bytes.push(*byte)?;
     }
+    Ok(Answer::Bytes(bytes))
 }
 
 fn end_answer(ended: Ended) -> Answer {
@@ -129,11 +126,12 @@ fn end_answer(ended: Ended) -> Answer {
     }
 }
 
-/// One child with these answers. Behind them a read comes to the end, and the child has ended with code 0.
-pub fn child(alloc: Global, reads: &[Heard], ends: &[Ended]) -> Result<Vec<Play>, Fail> {
+/// One child that answers these bytes, where none say that there are none yet, and then its end, and how it has ended,
+/// at last with code 0.
+pub fn child(alloc: Global, reads: &[&[u8]], ends: &[Ended]) -> Result<Vec<Play>, Fail> {
     let mut heard: Answers = ListOf::new(alloc);
     for read in reads {
-        heard.push(answer(alloc, *read)?)?;
+        heard.push(answer(alloc, read)?)?;
     }
     let mut ended: Answers = ListOf::new(alloc);
     for end in ends {

@@ -1,6 +1,6 @@
 //! Scripts without a child.
 
-use super::playing::{PLAIN, Setting, run_alone, run_script};
+use super::playing::{PLAIN, run_alone, run_words};
 use crate::Status;
 use std::test::Fail;
 
@@ -41,8 +41,8 @@ fn scripts_and_their_lines(rt: HostRuntime) -> Result<(), Fail> {
 fn only_the_word_run_runs(rt: HostRuntime) -> Result<(), Fail> {
     let wrong: [&[&str]; 4] = [&["walk"], &["run", "x"], &[], &["Run"]];
     for words in wrong {
-        let setting = Setting { words, ..PLAIN };
-        let ran = run_script(rt.alloc(), FIRST, Vec::new(rt.alloc()), setting)?;
+        let plays = Vec::new(rt.alloc());
+        let ran = run_words(rt.alloc(), words, FIRST, plays, &[], PLAIN)?;
         assert_eq!(rt; ran.status, Status::Usage);
         assert_eq!(rt; ran.written.len(), 0);
     }
