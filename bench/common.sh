@@ -7,6 +7,7 @@
 top=$(cd "$(dirname "$0")/.." && pwd)
 work=$(mktemp -d "${TMPDIR:-/tmp}/noonwool_bench.XXXXXX")
 trap 'rm -rf "$work"' EXIT
+trap 'exit 1' HUP INT TERM
 
 # with_crate NAME: copies the crate, and those that it stands on, into the scratch repository $work; one of the kit has
 # no folder here, and needs none. What an earlier check kept goes along, so that the crate needs no proof again.

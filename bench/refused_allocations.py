@@ -550,7 +550,7 @@ def verdict(found, whole, lines):
     read = b"".join(bytes(map(int, it.split()[3:])) for it in others if re.match(r"read \d+: bytes", it))
     entered = "".join(re.findall(r'^> filter default #<process c> "(.*)"$', written, re.M))
     faults = []
-    if not lines.startswith(written) or not (written + "\n").endswith("\n" if not written else "\n\n"):
+    if not lines.startswith(written) or (written and not written.endswith("\n")):
         faults.append("no front of whole lines")
     if exchanges != others + kills or others != [it for it in whole if not it.startswith("kill")][:len(others)]:
         faults.append("no front of the exchanges")
