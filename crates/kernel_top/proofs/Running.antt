@@ -1,13 +1,15 @@
 -- A script, form by form, and its end.
 use Rattle.std.proofs.Common.{◌≡◌, ℕ, ◌+◌, ◌≤◌, List, [], ◌∷◌, ◌++◌, map, drop, length, slice_get, Ok, Err, Result, refl, ap, sym, ◌∙◌, subst, append-nil}
-use Rattle.std.specs.Prelude.{Some, Bool, OnOk, OnErr}
+use Rattle.std.specs.Prelude.{Some, Bool, true, OnOk, OnErr}
 use Rattle.std.specs.Io.KnownBytes.{Appends}
 use Rattle.std.proofs.lemmas.List.{length-map, drop_all}
 use Rattle.editor_model.specs.Values.{Script, NoForms, Then}
 use Rattle.plain_machine.specs.Exchanges.{Exchange, living}
-use Rattle.plain_machine.specs.Run.{lines, start}
-use Rattle.plain_machine.specs.WholeRuns.{AreKills}
+use Rattle.plain_machine.specs.Items.{Said, Config}
+use Rattle.plain_machine.specs.Run.{Reaches, lines, start}
+use Rattle.plain_machine.specs.WholeRuns.{Ran, BrokenOff, AreKills}
 use Rattle.machine_laws.specs.Children.{KillsLeft}
+use Rattle.machine_laws.specs.Entries.{RanEntries, BrokenEntries, Sentinels}
 use Rattle.ek_types.specs.Io.{Rose}
 use Rattle.ek_call.specs.declared.form.Form.{Form}
 use Rattle.ek_call.specs.Meaning.{form_of, joined}
@@ -15,7 +17,7 @@ use Rattle.kernel_top.specs.Plain.{Kernel}
 use Rattle.kernel_top.specs.Outside.{deepest, Outside, Tells, SaysAtMost}
 use Rattle.kernel_top.specs.Standing.{Hosted, StaysHosted, with_unmade}
 use Rattle.kernel_top.specs.Ending.{IsOver}
-use Rattle.kernel_top.specs.Outcomes.{program_for, RanScript, StoppedScript}
+use Rattle.kernel_top.specs.Outcomes.{program_for, SentinelsComeLast, RanScript, StoppedScript}
 use Rattle.kernel_top.specs.declared.answer.Stop.{Stop}
 use Rattle.kernel_top.proofs.Finishing.{drop_at}
 use Rattle.kernel_top.proofs.SoFar.{mapped_at}
@@ -32,23 +34,35 @@ still_hosted (Ok x) old old_kills new kills h = h.0
 still_hosted (Err why) old old_kills new kills h = h
 
 module _ (script : Script) (o n : Outside) where
+  -- the entries of sentinels among what was said
+  sentinels_last : Sentinels (program_for script) deepest (start script) → (exchanges : List Exchange) (said : List Said) (last : Config) → Reaches (program_for script) deepest (start script) exchanges said last →
+      SentinelsComeLast said
+  sentinels_last law exchanges said last run before after x p same entry = law exchanges before after x last p (subst (λ l. Reaches (program_for script) deepest (start script) exchanges l last) same run) entry
+
   -- a whole run
-  pub ran : {T : Type 0} (r : Result T Stop) → IsOver r (program_for script) o n (start script) →
+  pub ran : {T : Type 0} (r : Result T Stop) → RanEntries (program_for script) deepest script → Sentinels (program_for script) deepest (start script) → IsOver r (program_for script) o n (start script) →
       OnOk r ((written : List ℕ) × (exchanges : List Exchange) × Appends o.sink.held n.sink.held written × Tells o.host.told n.host.told exchanges × RanScript script exchanges written)
-  ran (Ok x) (last, ended, gone) = (lines gone.said, gone.made, gone.written, gone.told, record { said = gone.said; last = last; run = gone.run; ended = ended; bytes = refl })
-  ran (Err why) h = tt
+  ran (Ok x) hear come (last, ended, gone) =
+      let run : Ran (program_for script) deepest script gone.made (lines gone.said) = record { said = gone.said; last = last; run = gone.run; ended = ended; bytes = refl } in (
+        lines gone.said,
+        gone.made,
+        gone.written,
+        gone.told,
+        record {
+          ran = run;
+          entries = hear gone.made (lines gone.said) run;
+          sentinels = sentinels_last come gone.made gone.said last gone.run;
+        },
+      )
+  ran (Err why) hear come h = tt
 
   -- one that was broken off
-  pub stopped : {T : Type 0} (r : Result T Stop) → KillsLeft (program_for script) deepest (start script) → IsOver r (program_for script) o n (start script) →
+  pub stopped : {T : Type 0} (r : Result T Stop) → KillsLeft (program_for script) deepest (start script) → BrokenEntries (program_for script) deepest script →
+      Sentinels (program_for script) deepest (start script) → IsOver r (program_for script) o n (start script) →
       OnErr r ((written : List ℕ) × (exchanges : List Exchange) × Appends o.sink.held n.sink.held written × Tells o.host.told n.host.told exchanges × StoppedScript script exchanges written (Rose o.sink.faults n.sink.faults → ⊥))
-  stopped (Ok x) left h = tt
-  stopped (Err why) left h = (
-    h.bytes,
-    h.made ++ h.kills,
-    h.written,
-    h.told,
-    record {
-      broken = record {
+  stopped (Ok x) left hear come h = tt
+  stopped (Err why) left hear come h =
+      let broken : BrokenOff (program_for script) deepest script (h.made ++ h.kills) h.bytes = record {
         made = h.made;
         kills = h.kills;
         said = h.said;
@@ -58,10 +72,18 @@ module _ (script : Script) (o n : Outside) where
         exchanges_are = refl;
         killed = subst (λ l. AreKills l h.kills) (sym (left h.made h.said h.last h.run ∙ h.living ∙ append-nil h.done)) h.killed;
         bytes = h.front;
-      };
-      whole = h.whole;
-    },
-  )
+      } in (
+        h.bytes,
+        h.made ++ h.kills,
+        h.written,
+        h.told,
+        record {
+          broken = broken;
+          whole = h.whole;
+          entries = hear (h.made ++ h.kills) h.bytes broken;
+          sentinels = sentinels_last come h.made h.said h.last h.run;
+        },
+      )
 
   pub room_was_enough : {T : Type 0} (r : Result T Stop) → IsOver r (program_for script) o n (start script) → SaysAtMost (program_for script) (start script) o.sink.room → n.sink.faults ≡ o.sink.faults
   room_was_enough (Ok x) (last, ended, gone) few = (gone.roomy few).faults

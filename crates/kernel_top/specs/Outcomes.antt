@@ -1,13 +1,15 @@
 -- What the top call claims, by its status: of the bytes read, of the bytes written, and of the exchanges made.
-use Rattle.std.specs.Prelude.{◌≡◌, ℕ, ◌<◌, ◌≤◌, List, [], ◌∷◌, length, codes, ◌⊎◌, Option, Some, None}
+use Rattle.std.specs.Prelude.{◌≡◌, ℕ, ◌<◌, ◌≤◌, true, false, List, [], ◌∷◌, ◌++◌, length, codes, slice_get, ◌⊎◌, Option, Some, None}
 use Rattle.std.specs.Io.KnownBytes.{IsAtEnd}
 use Rattle.editor_model.specs.Values.{Script}
-use Rattle.plain_machine.specs.Exchanges.{Exchange}
+use Rattle.plain_machine.specs.Exchanges.{Exchange, children_started}
 use Rattle.plain_machine.specs.State.{Program}
+use Rattle.plain_machine.specs.Items.{Said}
 use Rattle.plain_machine.specs.Symbols.{program_of}
 use Rattle.plain_machine.specs.Grammar.{longest_script}
 use Rattle.plain_machine.specs.Run.{lines}
 use Rattle.plain_machine.specs.WholeRuns.{Ran, BrokenOff}
+use Rattle.machine_laws.specs.Entries.{entered, heard, is_entry, has_entry}
 use Rattle.kernel_top.specs.Outside.{deepest}
 use Rattle.script_read.specs.GrammarSoFar.{IsScriptSoFar, IsNoScript}
 use Rattle.kernel_top.specs.declared.status.Status.{Status}
@@ -21,13 +23,29 @@ IsRun words = words ≡ codes "run" ∷ []
 abbrev pub program_for : Script → Program
 program_for script = program_of script [] (λ native args past. None)
 
-abbrev pub RanScript : Script → List Exchange → (written : List ℕ) → Type 0
-RanScript script exchanges written = Ran (program_for script) deepest script exchanges written
+-- The filter of each process was entered with just what was read from its child, decoded. Process p is the one whose child
+-- was started as number p, counted from 0.
+abbrev pub AreHeard : List Exchange → List Said → Type 0
+AreHeard exchanges said = (p child : ℕ) → slice_get (children_started exchanges) p ≡ Some child → entered p said ≡ heard child exchanges
 
--- a run that was broken off; where the sink didn't fail, what it wrote is whole lines
+-- each process has at most one sentinel entry, and no filter entry behind it
+abbrev pub SentinelsComeLast : List Said → Type 0
+SentinelsComeLast said =
+    (before after : List Said) (x : Said) (p : ℕ) → said ≡ before ++ x ∷ after → is_entry true p x.event ≡ true → (has_entry true p after ≡ false) × (has_entry false p after ≡ false)
+
+-- a run that came to its end
+pub record RanScript (script : Script) (exchanges : List Exchange) (written : List ℕ) : Type 0 where
+  pub ran : Ran (program_for script) deepest script exchanges written
+  pub entries : AreHeard exchanges ran.said
+  pub sentinels : SentinelsComeLast ran.said
+
+-- A run that was broken off. Where the sink didn't fail, what it wrote is whole lines: with all entries, for it isn't broken
+-- off between a read and the entry that this causes.
 pub record StoppedScript (script : Script) (exchanges : List Exchange) (written : List ℕ) (unfaulted : Type 0) : Type 0 where
   pub broken : BrokenOff (program_for script) deepest script exchanges written
   pub whole : unfaulted → written ≡ lines broken.said
+  pub entries : AreHeard broken.made broken.said
+  pub sentinels : SentinelsComeLast broken.said
 
 -- the bytes are a script, and this is so of it
 abbrev pub OfScript : List ℕ → (Script → Type 0) → Type 0

@@ -130,6 +130,9 @@ pub fn run_script<K: Sink, H: Host>(
     ensures roomy { SaysAtMost (program_for (script_of script.now)) (start (script_of script.now)) (K.state sink.old).room → (K.state sink.new).faults ≡ (K.state sink.old).faults }
 {
     machine_laws::kills_are_left();
+    machine_laws::whole_runs_hear_all();
+    machine_laws::broken_runs_hear_all();
+    machine_laws::sentinels_come_last();
     let mut kernel = Kernel::new(alloc);
     let ran = run_forms(alloc, &mut kernel, host, sink, script);
     finish(ran, &kernel, host, sink)

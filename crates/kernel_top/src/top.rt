@@ -121,8 +121,9 @@ fn run_words<S: Source, K: Sink, H: Host>(
 /// behind the program's name; only `run` alone is known.
 ///
 /// The status says what was read and written, as `outcome` has it: for `Done` the lines are those of the plain machine's
-/// whole run on the script. `unfailing` and `roomy`: neither side fails where the source is known not to, and where the
-/// sink has room for all that the machine says. No more than one byte behind the longest script, of 1,048,576 bytes, is asked of the source.
+/// whole run on the script. Filters are entered with just what was read, and sentinels come last. `unfailing` and `roomy`:
+/// neither side fails where the source is known not to, and where the sink has room for all that the machine says. No more
+/// than one byte behind the longest script, of 1,048,576 bytes, is asked of the source.
 pub fn run<S: Source, K: Sink, H: Host>(
     alloc: Global,
     words: &[String],

@@ -20,7 +20,7 @@ returns-clause-ok g c =
     let n = outside (g.K.Sink.state c.finish.new.sink) (g.H.Host.state c.finish.new.host) in
     let none : StandsFor c.new-kernel.result.beside.processes [] = ap (λ (k : Kernel). k.beside.processes) c.new-kernel.ensures in
     let came = c.run_forms-ran.ensures.comes (program_for script) empty_buffer.undo [] none in
-    ran script o n c.finish.result (c.finish.ensures.over (program_for script) o (start script) (rw c.new-kernel.ensures at came))
+    ran script o n c.finish.result (c.whole_runs_hear_all.ensures (program_for script) 16 script) (c.sentinels_come_last.ensures (program_for script) 16 script) (c.finish.ensures.over (program_for script) o (start script) (rw c.new-kernel.ensures at came))
 
 pub returns-clause-err : goal.returns-clause-err
 returns-clause-err g c =
@@ -29,7 +29,7 @@ returns-clause-err g c =
     let n = outside (g.K.Sink.state c.finish.new.sink) (g.H.Host.state c.finish.new.host) in
     let none : StandsFor c.new-kernel.result.beside.processes [] = ap (λ (k : Kernel). k.beside.processes) c.new-kernel.ensures in
     let came = c.run_forms-ran.ensures.comes (program_for script) empty_buffer.undo [] none in
-    stopped script o n c.finish.result (c.kills_are_left.ensures (program_for script) 16 script) (c.finish.ensures.over (program_for script) o (start script) (rw c.new-kernel.ensures at came))
+    stopped script o n c.finish.result (c.kills_are_left.ensures (program_for script) 16 script) (c.broken_runs_hear_all.ensures (program_for script) 16 script) (c.sentinels_come_last.ensures (program_for script) 16 script) (c.finish.ensures.over (program_for script) o (start script) (rw c.new-kernel.ensures at came))
 
 pub returns-clause-roomy : goal.returns-clause-roomy
 returns-clause-roomy g c =
