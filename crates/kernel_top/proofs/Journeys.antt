@@ -13,7 +13,7 @@ use Rattle.plain_machine.specs.WholeRuns.{IsBetweenEntries}
 use Rattle.plain_machine.proofs.Composed.{reaches_then}
 use Rattle.ek_types.specs.Io.{SinkState, Writes}
 use Rattle.host_link.specs.Hosts.{HostState, Exchanged}
-use Rattle.kernel_top.specs.Outside.{deepest, Outside, outside, Tells, SaysAtMost, HasRoomLeft, Goes, Breaks}
+use Rattle.kernel_top.specs.Outside.{deepest, Outside, outside, Tells, HasRoomLeft, Goes, Breaks}
 
 -- LINES
 pub lines_then : (first second : List Said) → lines (first ++ second) ≡ lines first ++ lines second
@@ -21,6 +21,9 @@ lines_then first second = flat_map-append (λ (x : Said). x.line) first second
 
 pub lines_of_one : (x : Said) → lines (x ∷ []) ≡ x.line
 lines_of_one x = append-nil x.line
+
+pub said_in_all : (first second : List Said) → length (lines (first ++ second)) ≡ length (lines first) + length (lines second)
+said_in_all first second = ap length (lines_then first second) ∙ length-append (lines first) (lines second)
 
 -- EXCHANGES
 pub tells_nothing : (told : Option (List Exchange)) → Tells told told []
@@ -32,14 +35,6 @@ tells_then None b c first second h k = rw h at k
 tells_then (Some list) b c first second h k = rw (h, option_map) at k ∙ ap Some (append_assoc list first second)
 
 module _ (program : Program) where
-  -- what is said from a later configuration fits beside what was said before
-  pub left_to_say : (from to : Config) (made : List Exchange) (said : List Said) (before now : SinkState) → Reaches program deepest from made said to → SaysAtMost program from before.room →
-      HasRoomLeft before now (lines said) → SaysAtMost program to now.room
-  left_to_say from to made said before now run few left exchanges more last on =
-      let whole = few (made ++ exchanges) (said ++ more) last (reaches_then program deepest from to last made exchanges said more run on) in
-      let size : length (lines (said ++ more)) ≡ length (lines said) + length (lines more) = ap length (lines_then said more) ∙ length-append (lines said) (lines more) in
-      omega (arith, whole, size, left.room)
-
   -- STEPS THAT SAY NOTHING
   pub goes_silently : (o : Outside) (c d : Config) → Reaches program deepest c [] [] d → Goes program o o c d
   goes_silently o c d run = record {
@@ -61,9 +56,9 @@ module _ (program : Program) where
     told = tells_then a.host.told b.host.told c.host.told g.made h.made g.told h.told;
     later = omega (arith, g.later, h.later);
     roomy = λ few.
-        let first = g.roomy few in
-        let second = h.roomy (left_to_say x y g.made g.said a.sink b.sink g.run few first) in
-        let size : length (lines (g.said ++ h.said)) ≡ length (lines g.said) + length (lines h.said) = ap length (lines_then g.said h.said) ∙ length-append (lines g.said) (lines h.said) in
+        let size = said_in_all g.said h.said in
+        let first = g.roomy (omega (arith, few, size)) in
+        let second = h.roomy (omega (arith, few, size, first.room)) in
         record { faults = second.faults ∙ first.faults; room = omega (arith, first.room, second.room, size) };
   }
 
@@ -97,7 +92,10 @@ module _ (program : Program) where
     told = tells_then a.host.told b.host.told c.host.told g.made h.made g.told h.told;
     later = omega (arith, g.later, h.later);
     whole = λ fine. ap (λ l. lines g.said ++ l) (h.whole (λ rose. fine (omega (arith, g.later, rose)))) ∙ sym (lines_then g.said h.said);
-    roomy = λ few. let first = g.roomy few in h.roomy (left_to_say x y g.made g.said a.sink b.sink g.run few first) ∙ first.faults;
+    roomy = λ few.
+        let size = said_in_all g.said h.said in
+        let first = g.roomy (omega (arith, few, size)) in
+        h.roomy (omega (arith, few, size, first.room)) ∙ first.faults;
   }
 
   -- A LINE
@@ -118,7 +116,7 @@ module _ (program : Program) where
     told = tells_nothing host.told;
     later = w.later;
     roomy = λ few.
-        let takes = w.roomy (rw (lines_of_one x) at (few [] (x ∷ []) n.config (said_one c n x e said))) in
+        let takes = w.roomy (rw (lines_of_one x) at few) in
         record { faults = takes.faults; room = rw (lines_of_one x) takes.room };
   }
 
@@ -137,7 +135,7 @@ module _ (program : Program) where
     told = tells_nothing host.told;
     later = w.later;
     whole = λ fine. absurd (fine w.rose);
-    roomy = λ few. absurd (false≢true (w.roomy (rw (lines_of_one x) at (few [] (x ∷ []) n.config (said_one c n x e said)))).ok);
+    roomy = λ few. absurd (false≢true (w.roomy (rw (lines_of_one x) at few)).ok);
   }
 
   -- AN EXCHANGE
@@ -175,7 +173,7 @@ module _ (program : Program) where
     told = exchange.told;
     later = w.later;
     roomy = λ few.
-        let takes = w.roomy (rw (lines_of_one x) at (few (record { ask = ask; answer = answer } ∷ []) (x ∷ []) n.config (said_asked c ask answer next n x e k said))) in
+        let takes = w.roomy (rw (lines_of_one x) at few) in
         record { faults = takes.faults; room = rw (lines_of_one x) takes.room };
   }
 
@@ -194,5 +192,5 @@ module _ (program : Program) where
     told = exchange.told;
     later = w.later;
     whole = λ fine. absurd (fine w.rose);
-    roomy = λ few. absurd (false≢true (w.roomy (rw (lines_of_one x) at (few (record { ask = ask; answer = answer } ∷ []) (x ∷ []) n.config (said_asked c ask answer next n x e k said)))).ok);
+    roomy = λ few. absurd (false≢true (w.roomy (rw (lines_of_one x) at few)).ok);
   }

@@ -7,9 +7,8 @@ use Rattle.editor_model.specs.Values.{Script}
 use Rattle.plain_machine.specs.Exchanges.{Exchange}
 use Rattle.plain_machine.specs.Grammar.{longest_script}
 use Rattle.script_read.specs.GrammarSoFar.{IsScriptSoFar, IsNoScript}
-use Rattle.plain_machine.specs.Run.{start}
-use Rattle.kernel_top.specs.Outside.{SaysAtMost}
-use Rattle.kernel_top.specs.Outcomes.{IsRun, Outcome, HasEnded, program_for}
+use Rattle.ek_types.specs.Io.{SinkState}
+use Rattle.kernel_top.specs.Outcomes.{IsRun, Outcome, HasEnded}
 use Rattle.kernel_top.specs.declared.status.Status.{Status}
 use Rattle.kernel_top.specs.declared.status.Status.TheVariants as status
 
@@ -18,15 +17,15 @@ pub too_long : (bytes : List ℕ) → longest_script < length bytes → IsNoScri
 too_long bytes h script is = omega (arith, h, is.of_machine.short)
 
 -- the outcome on the bytes of a source that has ended, for the words that were given
-pub of_bytes : (answer : Status) (words : List (List ℕ)) (read written : List ℕ) (exchanges : List Exchange) (ended unfaulted : Type 0) → IsRun words → ended →
-    Outcome answer (codes "run" ∷ []) read written exchanges (Unit {0}) unfaulted → Outcome answer words read written exchanges ended unfaulted
-of_bytes status.Done words read written exchanges ended unfaulted run end (first, second, of_script) = (run, end, of_script)
-of_bytes status.Usage words read written exchanges ended unfaulted run end (never, none, nothing, alone) = absurd (never refl)
-of_bytes (status.Script line) words read written exchanges ended unfaulted run end (first, second, none, zero_line, nothing, alone) = (run, inl end, none, zero_line, nothing, alone)
-of_bytes status.ReadFault words read written exchanges ended unfaulted run end (first, nothing, alone) = (run, nothing, alone)
-of_bytes status.WriteFault words read written exchanges ended unfaulted run end (first, second, of_script) = (run, end, of_script)
-of_bytes status.NoMemory words read written exchanges ended unfaulted run end (first, inl early) = (run, inl early)
-of_bytes status.NoMemory words read written exchanges ended unfaulted run end (first, inr (second, of_script)) = (run, inr (end, of_script))
+pub of_bytes : (answer : Status) (words : List (List ℕ)) (read written : List ℕ) (exchanges : List Exchange) (ended : Type 0) (before now : SinkState) → IsRun words → ended →
+    Outcome answer (codes "run" ∷ []) read written exchanges (Unit {0}) before now → Outcome answer words read written exchanges ended before now
+of_bytes status.Done words read written exchanges ended before now run end (first, second, of_script) = (run, end, of_script)
+of_bytes status.Usage words read written exchanges ended before now run end (never, none, nothing, alone, kept) = absurd (never refl)
+of_bytes (status.Script line) words read written exchanges ended before now run end (first, second, none, zero_line, nothing, alone, kept) = (run, inl end, none, zero_line, nothing, alone, kept)
+of_bytes status.ReadFault words read written exchanges ended before now run end (first, nothing, alone, kept) = (run, nothing, alone, kept)
+of_bytes status.WriteFault words read written exchanges ended before now run end (first, second, of_script) = (run, end, of_script)
+of_bytes status.NoMemory words read written exchanges ended before now run end (first, inl early) = (run, inl early)
+of_bytes status.NoMemory words read written exchanges ended before now run end (first, inr (second, of_script)) = (run, inr (end, of_script))
 
 -- what was read of a source whose end was met is all that it told
 pub all_read : (bytes read : List ℕ) (now : Option (List ℕ)) → Consumes (Some bytes) now read → IsAtEnd now → bytes ≡ read
@@ -42,17 +41,14 @@ no_script_read : (bytes read : List ℕ) (script : Script) (now : Option (List �
 no_script_read bytes read script now taken (inl end) is none = none script (rw (all_read bytes read now taken end) at is)
 no_script_read bytes read script now taken (inr long) is none = omega (arith, long, front_only bytes read now taken, is.of_machine.short)
 
-module _ (words : List (List ℕ)) (read written bytes : List ℕ) (exchanges : List Exchange) (before now : Option (List ℕ)) (unfaulted failed_reading failed_writing : Type 0) (script : Script) (run : IsRun words) (taken : Consumes before now read)
+module _ (words : List (List ℕ)) (read written bytes : List ℕ) (exchanges : List Exchange) (before now : Option (List ℕ)) (old new : SinkState) (failed_reading failed_writing : Type 0) (script : Script) (run : IsRun words) (taken : Consumes before now read)
     (told : before ≡ Some bytes) (is : IsScriptSoFar bytes script) where
   -- where neither source nor sink failed, a script is run to its end, or memory was wanting
-  pub completes : (answer : Status) → Outcome answer words read written exchanges (HasEnded before now) unfaulted → (answer ≡ status.ReadFault → failed_reading) → (answer ≡ status.WriteFault → failed_writing) →
+  pub completes : (answer : Status) → Outcome answer words read written exchanges (HasEnded before now) old new → (answer ≡ status.ReadFault → failed_reading) → (answer ≡ status.WriteFault → failed_writing) →
       (failed_reading → ⊥) → (failed_writing → ⊥) → (answer ≡ status.Done) ⊎ (answer ≡ status.NoMemory)
   completes status.Done o r w nr nw = inl refl
   completes status.NoMemory o r w nr nw = inr refl
-  completes status.Usage (never, none, nothing, alone) r w nr nw = absurd (never run)
-  completes (status.Script line) (first, ended, none, zero_line, nothing, alone) r w nr nw = absurd (no_script_read bytes read script now (rw told at taken) (rw told at ended) is none)
+  completes status.Usage (never, none, nothing, alone, kept) r w nr nw = absurd (never run)
+  completes (status.Script line) (first, ended, none, zero_line, nothing, alone, kept) r w nr nw = absurd (no_script_read bytes read script now (rw told at taken) (rw told at ended) is none)
   completes status.ReadFault o r w nr nw = absurd (nr (r refl))
   completes status.WriteFault o r w nr nw = absurd (nw (w refl))
-
-pub few_as : (a b : Script) (most : ℕ) → a ≡ b → SaysAtMost (program_for b) (start b) most → SaysAtMost (program_for a) (start a) most
-few_as a b most e few = rw e few

@@ -1,6 +1,6 @@
 -- A script, form by form, and its end.
 use Rattle.std.proofs.Common.{◌≡◌, ℕ, ◌+◌, ◌≤◌, List, [], ◌∷◌, ◌++◌, map, drop, length, slice_get, Ok, Err, Result, refl, ap, sym, ◌∙◌, subst, append-nil}
-use Rattle.std.specs.Prelude.{Some, Bool, true, OnOk, OnErr}
+use Rattle.std.specs.Prelude.{Some, Bool, OnOk, OnErr}
 use Rattle.std.specs.Io.KnownBytes.{Appends}
 use Rattle.std.proofs.lemmas.List.{length-map, drop_all}
 use Rattle.editor_model.specs.Values.{Script, NoForms, Then}
@@ -10,11 +10,10 @@ use Rattle.plain_machine.specs.Run.{Reaches, lines, start}
 use Rattle.plain_machine.specs.WholeRuns.{Ran, BrokenOff, AreKills}
 use Rattle.machine_laws.specs.Children.{KillsLeft}
 use Rattle.machine_laws.specs.Entries.{RanEntries, BrokenEntries, Sentinels}
-use Rattle.ek_types.specs.Io.{Rose}
 use Rattle.ek_call.specs.declared.form.Form.{Form}
 use Rattle.ek_call.specs.Meaning.{form_of, joined}
 use Rattle.kernel_top.specs.Plain.{Kernel}
-use Rattle.kernel_top.specs.Outside.{deepest, Outside, Tells, SaysAtMost}
+use Rattle.kernel_top.specs.Outside.{deepest, Outside, Tells}
 use Rattle.kernel_top.specs.Standing.{Hosted, StaysHosted, with_unmade}
 use Rattle.kernel_top.specs.Ending.{IsOver}
 use Rattle.kernel_top.specs.Outcomes.{program_for, SentinelsComeLast, RanScript, StoppedScript}
@@ -41,7 +40,7 @@ module _ (script : Script) (o n : Outside) where
 
   -- a whole run
   pub ran : {T : Type 0} (r : Result T Stop) → RanEntries (program_for script) deepest script → Sentinels (program_for script) deepest (start script) → IsOver r (program_for script) o n (start script) →
-      OnOk r ((written : List ℕ) × (exchanges : List Exchange) × Appends o.sink.held n.sink.held written × Tells o.host.told n.host.told exchanges × RanScript script exchanges written)
+      OnOk r ((written : List ℕ) × (exchanges : List Exchange) × Appends o.sink.held n.sink.held written × Tells o.host.told n.host.told exchanges × RanScript script exchanges written o.sink n.sink)
   ran (Ok x) hear come (last, ended, gone) =
       let run : Ran (program_for script) deepest script gone.made (lines gone.said) = record { said = gone.said; last = last; run = gone.run; ended = ended; bytes = refl } in (
         lines gone.said,
@@ -52,6 +51,7 @@ module _ (script : Script) (o n : Outside) where
           ran = run;
           entries = hear gone.made (lines gone.said) run;
           sentinels = sentinels_last come gone.made gone.said last gone.run;
+          roomy = λ few. (gone.roomy few).faults;
         },
       )
   ran (Err why) hear come h = tt
@@ -59,7 +59,7 @@ module _ (script : Script) (o n : Outside) where
   -- one that was broken off
   pub stopped : {T : Type 0} (r : Result T Stop) → KillsLeft (program_for script) deepest (start script) → BrokenEntries (program_for script) deepest script →
       Sentinels (program_for script) deepest (start script) → IsOver r (program_for script) o n (start script) →
-      OnErr r ((written : List ℕ) × (exchanges : List Exchange) × Appends o.sink.held n.sink.held written × Tells o.host.told n.host.told exchanges × StoppedScript script exchanges written (Rose o.sink.faults n.sink.faults → ⊥))
+      OnErr r ((written : List ℕ) × (exchanges : List Exchange) × Appends o.sink.held n.sink.held written × Tells o.host.told n.host.told exchanges × StoppedScript script exchanges written o.sink n.sink)
   stopped (Ok x) left hear come h = tt
   stopped (Err why) left hear come h =
       let broken : BrokenOff (program_for script) deepest script (h.made ++ h.kills) h.bytes = record {
@@ -82,9 +82,6 @@ module _ (script : Script) (o n : Outside) where
           whole = h.whole;
           entries = hear (h.made ++ h.kills) h.bytes broken;
           sentinels = sentinels_last come h.made h.said h.last h.run;
+          roomy = h.roomy;
         },
       )
-
-  pub room_was_enough : {T : Type 0} (r : Result T Stop) → IsOver r (program_for script) o n (start script) → SaysAtMost (program_for script) (start script) o.sink.room → n.sink.faults ≡ o.sink.faults
-  room_was_enough (Ok x) (last, ended, gone) few = (gone.roomy few).faults
-  room_was_enough (Err why) h few = h.roomy few

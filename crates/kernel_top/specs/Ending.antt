@@ -1,6 +1,6 @@
 -- The end of a run: children that run are killed, with a line for each and the dump, or in silence where the run was
 -- broken off.
-use Rattle.std.specs.Prelude.{◌≡◌, ℕ, ◌≤◌, List, [], ◌∷◌, ◌++◌, drop, Result, MatchResult}
+use Rattle.std.specs.Prelude.{◌≡◌, ℕ, ◌≤◌, List, [], ◌∷◌, ◌++◌, drop, length, Result, MatchResult}
 use Rattle.std.specs.Io.KnownBytes.{Appends}
 use Rattle.plain_machine.specs.Exchanges.{Exchange}
 use Rattle.plain_machine.specs.State.{Program}
@@ -11,7 +11,7 @@ use Rattle.plain_machine.specs.WholeRuns.{IsBetweenEntries, IsPrefixOf, AreKills
 use Rattle.machine_laws.specs.Children.{to_kill}
 use Rattle.ek_types.specs.Io.{Rose}
 use Rattle.kernel_top.specs.Plain.{Kernel}
-use Rattle.kernel_top.specs.Outside.{deepest, Outside, Tells, SaysAtMost, Goes}
+use Rattle.kernel_top.specs.Outside.{deepest, Outside, Tells, Goes}
 use Rattle.kernel_top.specs.Standing.{stands_at, working, GoesTo, unmade, running, children}
 use Rattle.kernel_top.specs.declared.answer.Stop.{Stop}
 
@@ -29,7 +29,7 @@ pub record Halts (program : Program) (before now : Outside) (from : Config) (lef
   pub told : Tells before.host.told now.host.told (made ++ kills)
   pub later : before.sink.faults ≤ now.sink.faults
   pub whole : (Rose before.sink.faults now.sink.faults → ⊥) → bytes ≡ lines said
-  pub roomy : SaysAtMost program from before.sink.room → now.sink.faults ≡ before.sink.faults
+  pub roomy : length (lines said) ≤ before.sink.room → now.sink.faults ≡ before.sink.faults
   pub done : List ℕ
   pub killed : AreKills done kills
   pub living : to_kill last ≡ done ++ left

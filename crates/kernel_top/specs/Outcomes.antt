@@ -10,6 +10,7 @@ use Rattle.plain_machine.specs.Grammar.{longest_script}
 use Rattle.plain_machine.specs.Run.{lines}
 use Rattle.plain_machine.specs.WholeRuns.{Ran, BrokenOff}
 use Rattle.machine_laws.specs.Entries.{entered, heard, is_entry, has_entry}
+use Rattle.ek_types.specs.Io.{SinkState, Rose}
 use Rattle.kernel_top.specs.Outside.{deepest}
 use Rattle.script_read.specs.GrammarSoFar.{IsScriptSoFar, IsNoScript}
 use Rattle.kernel_top.specs.declared.status.Status.{Status}
@@ -33,39 +34,41 @@ abbrev pub SentinelsComeLast : List Said → Type 0
 SentinelsComeLast said =
     (before after : List Said) (x : Said) (p : ℕ) → said ≡ before ++ x ∷ after → is_entry true p x.event ≡ true → (has_entry true p after ≡ false) × (has_entry false p after ≡ false)
 
--- a run that came to its end
-pub record RanScript (script : Script) (exchanges : List Exchange) (written : List ℕ) : Type 0 where
+-- A run that came to its end. The sink hasn't failed where it had room for what was written.
+pub record RanScript (script : Script) (exchanges : List Exchange) (written : List ℕ) (before now : SinkState) : Type 0 where
   pub ran : Ran (program_for script) deepest script exchanges written
   pub entries : AreHeard exchanges ran.said
   pub sentinels : SentinelsComeLast ran.said
+  pub roomy : length written ≤ before.room → now.faults ≡ before.faults
 
 -- A run that was broken off. Where the sink didn't fail, what it wrote is whole lines: with all entries, for it isn't broken
--- off between a read and the entry that this causes.
-pub record StoppedScript (script : Script) (exchanges : List Exchange) (written : List ℕ) (unfaulted : Type 0) : Type 0 where
+-- off between a read and the entry that this causes. The sink hasn't failed where it had room for all that was said.
+pub record StoppedScript (script : Script) (exchanges : List Exchange) (written : List ℕ) (before now : SinkState) : Type 0 where
   pub broken : BrokenOff (program_for script) deepest script exchanges written
-  pub whole : unfaulted → written ≡ lines broken.said
+  pub whole : (Rose before.faults now.faults → ⊥) → written ≡ lines broken.said
   pub entries : AreHeard broken.made broken.said
   pub sentinels : SentinelsComeLast broken.said
+  pub roomy : length (lines broken.said) ≤ before.room → now.faults ≡ before.faults
 
 -- the bytes are a script, and this is so of it
 abbrev pub OfScript : List ℕ → (Script → Type 0) → Type 0
 OfScript bytes So = (script : Script) × IsScriptSoFar bytes script × So script
 
--- `read` are the bytes taken from the source, `written` those put in the sink, `ended` that the source's end was met,
--- and `unfaulted` that the sink didn't fail
-abbrev pub Outcome : Status → (words : List (List ℕ)) → (read written : List ℕ) → List Exchange → (ended unfaulted : Type 0) → Type 0
-Outcome status.Done words read written exchanges ended unfaulted =
-    IsRun words × ended × OfScript read (λ script. RanScript script exchanges written)
-Outcome status.Usage words read written exchanges ended unfaulted =
-    (IsRun words → ⊥) × (read ≡ []) × (written ≡ []) × (exchanges ≡ [])
-Outcome (status.Script line) words read written exchanges ended unfaulted =
-    IsRun words × (ended ⊎ (longest_script < length read)) × IsNoScript read × (line ≡ 0) × (written ≡ []) × (exchanges ≡ [])
-Outcome status.ReadFault words read written exchanges ended unfaulted =
-    IsRun words × (written ≡ []) × (exchanges ≡ [])
-Outcome status.WriteFault words read written exchanges ended unfaulted =
-    IsRun words × ended × OfScript read (λ script. StoppedScript script exchanges written unfaulted)
-Outcome status.NoMemory words read written exchanges ended unfaulted =
-    IsRun words × (((written ≡ []) × (exchanges ≡ [])) ⊎ (ended × OfScript read (λ script. StoppedScript script exchanges written unfaulted)))
+-- `read` are the bytes taken from the source, `ended` that its end was met, and `written` the bytes put in the sink, which
+-- was one thing before and is another now
+abbrev pub Outcome : Status → (words : List (List ℕ)) → (read written : List ℕ) → List Exchange → (ended : Type 0) → (before now : SinkState) → Type 0
+Outcome status.Done words read written exchanges ended before now =
+    IsRun words × ended × OfScript read (λ script. RanScript script exchanges written before now)
+Outcome status.Usage words read written exchanges ended before now =
+    (IsRun words → ⊥) × (read ≡ []) × (written ≡ []) × (exchanges ≡ []) × (now ≡ before)
+Outcome (status.Script line) words read written exchanges ended before now =
+    IsRun words × (ended ⊎ (longest_script < length read)) × IsNoScript read × (line ≡ 0) × (written ≡ []) × (exchanges ≡ []) × (now ≡ before)
+Outcome status.ReadFault words read written exchanges ended before now =
+    IsRun words × (written ≡ []) × (exchanges ≡ []) × (now ≡ before)
+Outcome status.WriteFault words read written exchanges ended before now =
+    IsRun words × ended × OfScript read (λ script. StoppedScript script exchanges written before now)
+Outcome status.NoMemory words read written exchanges ended before now =
+    IsRun words × (((written ≡ []) × (exchanges ≡ []) × (now ≡ before)) ⊎ (ended × OfScript read (λ script. StoppedScript script exchanges written before now)))
 
 -- a source that told what was left has told its end
 abbrev pub HasEnded : (before now : Option (List ℕ)) → Type 0

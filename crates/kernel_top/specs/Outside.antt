@@ -26,16 +26,12 @@ outside sink host = record { sink = sink; host = host }
 abbrev pub Tells : (old new : Option (List Exchange)) → List Exchange → Type 0
 Tells old new made = new ≡ option_map (λ list. list ++ made) old
 
--- no run of the machine from here says more bytes than these
-abbrev pub SaysAtMost : Program → Config → ℕ → Type 0
-SaysAtMost program from most = (exchanges : List Exchange) (said : List Said) (last : Config) → Reaches program deepest from exchanges said last → length (lines said) ≤ most
-
 -- the sink has not failed, and has the room left that these bytes didn't use
 pub record HasRoomLeft (old new : SinkState) (written : List ℕ) : Type 0 where
   pub faults : new.faults ≡ old.faults
   pub room : old.room ≤ new.room + length written
 
--- the machine goes from one configuration to another, and all that it says is written
+-- the machine goes from one configuration to another, and all that it says is written, with no failure where there is room for it
 pub record Goes (program : Program) (old new : Outside) (from to : Config) : Type 0 where
   pub made : List Exchange
   pub said : List Said
@@ -43,10 +39,10 @@ pub record Goes (program : Program) (old new : Outside) (from to : Config) : Typ
   pub written : Appends old.sink.held new.sink.held (lines said)
   pub told : Tells old.host.told new.host.told made
   pub later : old.sink.faults ≤ new.sink.faults
-  pub roomy : SaysAtMost program from old.sink.room → HasRoomLeft old.sink new.sink (lines said)
+  pub roomy : length (lines said) ≤ old.sink.room → HasRoomLeft old.sink new.sink (lines said)
 
 -- the run is broken off: the machine went somewhere, and a front of what it said is written, all of it where the
--- sink didn't fail
+-- sink didn't fail; and it didn't where there is room for all of it
 pub record Breaks (program : Program) (old new : Outside) (from : Config) : Type 0 where
   pub made : List Exchange
   pub said : List Said
@@ -59,4 +55,4 @@ pub record Breaks (program : Program) (old new : Outside) (from : Config) : Type
   pub told : Tells old.host.told new.host.told made
   pub later : old.sink.faults ≤ new.sink.faults
   pub whole : (Rose old.sink.faults new.sink.faults → ⊥) → bytes ≡ lines said
-  pub roomy : SaysAtMost program from old.sink.room → new.sink.faults ≡ old.sink.faults
+  pub roomy : length (lines said) ≤ old.sink.room → new.sink.faults ≡ old.sink.faults

@@ -6,18 +6,17 @@ ghost use Rattle.editor_model.specs.Values.{Do, Forms, NoForms, Then};
 ghost use Rattle.plain_machine.specs.Exchanges.{Exchange};
 ghost use Rattle.plain_machine.specs.State.{Process, Program};
 ghost use Rattle.plain_machine.specs.Items.{Top};
-ghost use Rattle.plain_machine.specs.Run.{start};
 ghost use Rattle.process_table.specs.Table.{StandsFor};
 ghost use Rattle.script_read.specs.GrammarSoFar.{IsCallSoFar};
-ghost use Rattle.ek_types.specs.Io.{HasCause, Rose};
+ghost use Rattle.ek_types.specs.Io.{HasCause};
 ghost use Rattle.ek_types.specs.Listing.{items_of};
 ghost use Rattle.ek_call.specs.Meaning.{arg_of, call_of, form_of, joined, script_of};
 ghost use Rattle.ek_call.specs.Primitives.{prim_of};
 ghost use Rattle.kernel_top.specs.Forms.{IsFormSoFar, AreFormsSoFar};
-ghost use Rattle.kernel_top.specs.Outside.{outside, Tells, SaysAtMost};
+ghost use Rattle.kernel_top.specs.Outside.{outside, Tells};
 ghost use Rattle.kernel_top.specs.Standing.{stands_at, working, Comes, Hosted, StaysHosted};
 ghost use Rattle.kernel_top.specs.Calls.{ComesToReply};
-ghost use Rattle.kernel_top.specs.Outcomes.{program_for, RanScript, StoppedScript};
+ghost use Rattle.kernel_top.specs.Outcomes.{RanScript, StoppedScript};
 
 use crate::answer::{Answer, Stop};
 use crate::apply::{delete_region, goto_char, insert};
@@ -122,12 +121,11 @@ pub fn run_script<K: Sink, H: Host>(
     requires forms { AreFormsSoFar (script_of script.now).forms }
     requires few { length (H.state host.old).kills ≤ 2 ^ 31 }
     ensures ok { OnOk result ((written : List ℕ) × (exchanges : List Exchange) × Appends (K.state sink.old).held (K.state sink.new).held written
-        × Tells (H.state host.old).told (H.state host.new).told exchanges × RanScript (script_of script.now) exchanges written) }
+        × Tells (H.state host.old).told (H.state host.new).told exchanges × RanScript (script_of script.now) exchanges written (K.state sink.old) (K.state sink.new)) }
     ensures err { OnErr result ((written : List ℕ) × (exchanges : List Exchange) × Appends (K.state sink.old).held (K.state sink.new).held written
         × Tells (H.state host.old).told (H.state host.new).told exchanges
-        × StoppedScript (script_of script.now) exchanges written (Rose (K.state sink.old).faults (K.state sink.new).faults → ⊥)) }
+        × StoppedScript (script_of script.now) exchanges written (K.state sink.old) (K.state sink.new)) }
     ensures cause { HasCause (K.state sink.old).faults (K.state sink.new).faults (result ≡ Err Stop.WriteFault) }
-    ensures roomy { SaysAtMost (program_for (script_of script.now)) (start (script_of script.now)) (K.state sink.old).room → (K.state sink.new).faults ≡ (K.state sink.old).faults }
 {
     machine_laws::kills_are_left();
     machine_laws::whole_runs_hear_all();

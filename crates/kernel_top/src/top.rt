@@ -6,9 +6,8 @@ ghost use Rattle.plain_machine.specs.Grammar.{longest_script};
 ghost use Rattle.ek_types.specs.Io.{HasCause, Rose};
 ghost use Rattle.script_read.specs.GrammarSoFar.{IsScriptSoFar};
 ghost use Rattle.plain_machine.specs.Exchanges.{Exchange};
-ghost use Rattle.plain_machine.specs.Run.{start};
-ghost use Rattle.kernel_top.specs.Outside.{Tells, SaysAtMost};
-ghost use Rattle.kernel_top.specs.Outcomes.{IsRun, HasEnded, Outcome, IsUnasked, program_for};
+ghost use Rattle.kernel_top.specs.Outside.{Tells};
+ghost use Rattle.kernel_top.specs.Outcomes.{IsRun, HasEnded, Outcome, IsUnasked};
 
 use crate::answer::Stop;
 use crate::forms::run_script;
@@ -68,11 +67,10 @@ fn run_bytes<K: Sink, H: Host>(alloc: Global, bytes: &[u8], host: &mut H, sink: 
     requires { length (H.state host.old).kills ≤ 2 ^ 31 }
     ensures outcome { (written : List ℕ) × (exchanges : List Exchange) × Appends (K.state sink.old).held (K.state sink.new).held written
         × Tells (H.state host.old).told (H.state host.new).told exchanges
-        × Outcome result (codes "run" ∷ []) bytes.now written exchanges (Unit {0}) (Rose (K.state sink.old).faults (K.state sink.new).faults → ⊥) }
+        × Outcome result (codes "run" ∷ []) bytes.now written exchanges (Unit {0}) (K.state sink.old) (K.state sink.new) }
     ensures no_read { result ≡ Status.ReadFault → ⊥ }
     ensures unasked { IsUnasked result → H.state host.new ≡ H.state host.old }
     ensures write_fault { HasCause (K.state sink.old).faults (K.state sink.new).faults (result ≡ Status.WriteFault) }
-    ensures roomy { (script : Meant) → IsScriptSoFar bytes.now script → SaysAtMost (program_for script) (start script) (K.state sink.old).room → (K.state sink.new).faults ≡ (K.state sink.old).faults }
 {
     match read(alloc, bytes) {
         Ok(script) => match run_script(alloc, &script, host, sink) {
@@ -97,14 +95,12 @@ fn run_words<S: Source, K: Sink, H: Host>(
         × Appends (K.state sink.old).held (K.state sink.new).held written
         × Tells (H.state host.old).told (H.state host.new).told exchanges
         × Outcome result (map string_bytes words.now) read written exchanges
-        (HasEnded (S.state source.old).left (S.state source.new).left) (Rose (K.state sink.old).faults (K.state sink.new).faults → ⊥) }
+        (HasEnded (S.state source.old).left (S.state source.new).left) (K.state sink.old) (K.state sink.new) }
     ensures untouched { result ≡ Status.Usage → (S.state source.new ≡ S.state source.old) × (K.state sink.new ≡ K.state sink.old) }
     ensures unasked { IsUnasked result → H.state host.new ≡ H.state host.old }
     ensures read_fault { HasCause (S.state source.old).faults (S.state source.new).faults (result ≡ Status.ReadFault) }
     ensures write_fault { HasCause (K.state sink.old).faults (K.state sink.new).faults (result ≡ Status.WriteFault) }
     ensures unfailing { IsTrue (S.state source.old).unfailing → (S.state source.new).faults ≡ (S.state source.old).faults }
-    ensures roomy { (bytes : List ℕ) (script : Meant) → (S.state source.old).left ≡ Some bytes → IsScriptSoFar bytes script
-        → SaysAtMost (program_for script) (start script) (K.state sink.old).room → (K.state sink.new).faults ≡ (K.state sink.old).faults }
 {
     if !is_run(words) {
         return Status::Usage;
@@ -121,9 +117,9 @@ fn run_words<S: Source, K: Sink, H: Host>(
 /// behind the program's name; only `run` alone is known.
 ///
 /// The status says what was read and written, as `outcome` has it: for `Done` the lines are those of the plain machine's
-/// whole run on the script. Filters are entered with just what was read, and sentinels come last. `unfailing` and `roomy`:
-/// neither side fails where the source is known not to, and where the sink has room for all that the machine says. No more
-/// than one byte behind the longest script, of 1,048,576 bytes, is asked of the source.
+/// whole run on the script. Filters are entered with just what was read, and sentinels come last. The source doesn't fail
+/// where it is known not to (`unfailing`), nor the sink where it has room for what the run says. No more than one byte
+/// behind the longest script, of 1,048,576 bytes, is asked of the source.
 pub fn run<S: Source, K: Sink, H: Host>(
     alloc: Global,
     words: &[String],
@@ -136,14 +132,12 @@ pub fn run<S: Source, K: Sink, H: Host>(
         × Appends (K.state sink.old).held (K.state sink.new).held written
         × Tells (H.state host.old).told (H.state host.new).told exchanges
         × Outcome result (map string_bytes words.now) read written exchanges
-        (HasEnded (S.state source.old).left (S.state source.new).left) (Rose (K.state sink.old).faults (K.state sink.new).faults → ⊥) }
+        (HasEnded (S.state source.old).left (S.state source.new).left) (K.state sink.old) (K.state sink.new) }
     ensures untouched { result ≡ Status.Usage → (S.state source.new ≡ S.state source.old) × (K.state sink.new ≡ K.state sink.old) }
     ensures unasked { IsUnasked result → H.state host.new ≡ H.state host.old }
     ensures read_fault { HasCause (S.state source.old).faults (S.state source.new).faults (result ≡ Status.ReadFault) }
     ensures write_fault { HasCause (K.state sink.old).faults (K.state sink.new).faults (result ≡ Status.WriteFault) }
     ensures unfailing { IsTrue (S.state source.old).unfailing → (S.state source.new).faults ≡ (S.state source.old).faults }
-    ensures roomy { (bytes : List ℕ) (script : Meant) → (S.state source.old).left ≡ Some bytes → IsScriptSoFar bytes script
-        → SaysAtMost (program_for script) (start script) (K.state sink.old).room → (K.state sink.new).faults ≡ (K.state sink.old).faults }
     ensures complete { (bytes : List ℕ) (script : Meant) → IsRun (map string_bytes words.now)
         → (S.state source.old).left ≡ Some bytes → IsScriptSoFar bytes script
         → (Rose (S.state source.old).faults (S.state source.new).faults → ⊥) → (Rose (K.state sink.old).faults (K.state sink.new).faults → ⊥)

@@ -10,7 +10,7 @@ use Rattle.kernel_top.specs.Plain.{Kernel, new_kernel}
 use Rattle.kernel_top.specs.Outside.{outside}
 use Rattle.kernel_top.specs.Outcomes.{program_for}
 use Rattle.kernel_top.specs.Standing.{stands_at, working, Comes}
-use Rattle.kernel_top.proofs.Running.{ran, stopped, room_was_enough}
+use Rattle.kernel_top.proofs.Running.{ran, stopped}
 use Rattle.kernel_top.proofs.forms.run_script.Goals as goal
 
 pub returns-clause-ok : goal.returns-clause-ok
@@ -30,12 +30,3 @@ returns-clause-err g c =
     let none : StandsFor c.new-kernel.result.beside.processes [] = ap (λ (k : Kernel). k.beside.processes) c.new-kernel.ensures in
     let came = c.run_forms-ran.ensures.comes (program_for script) empty_buffer.undo [] none in
     stopped script o n c.finish.result (c.kills_are_left.ensures (program_for script) 16 script) (c.broken_runs_hear_all.ensures (program_for script) 16 script) (c.sentinels_come_last.ensures (program_for script) 16 script) (c.finish.ensures.over (program_for script) o (start script) (rw c.new-kernel.ensures at came))
-
-pub returns-clause-roomy : goal.returns-clause-roomy
-returns-clause-roomy g c =
-    let script = script_of c.args.script.now in
-    let o = outside (g.K.Sink.state c.args.sink.now) (g.H.Host.state c.args.host.now) in
-    let n = outside (g.K.Sink.state c.finish.new.sink) (g.H.Host.state c.finish.new.host) in
-    let none : StandsFor c.new-kernel.result.beside.processes [] = ap (λ (k : Kernel). k.beside.processes) c.new-kernel.ensures in
-    let came = c.run_forms-ran.ensures.comes (program_for script) empty_buffer.undo [] none in
-    room_was_enough script o n c.finish.result (c.finish.ensures.over (program_for script) o (start script) (rw c.new-kernel.ensures at came))

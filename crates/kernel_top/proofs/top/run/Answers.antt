@@ -5,4 +5,4 @@ pub returns-clause-complete : goal.returns-clause-complete
 returns-clause-complete g c =
     let (read, written, exchanges, taken, short, appended, tells, outcome) = c.run_words.ensures.outcome in
     λ bytes script run told is unread unwritten.
-    completes _ read written bytes _ _ _ _ _ _ script run taken told is c.run_words.result outcome c.run_words.ensures.read_fault.rose c.run_words.ensures.write_fault.rose unread unwritten
+    completes _ read written bytes _ _ _ _ _ _ _ script run taken told is c.run_words.result outcome c.run_words.ensures.read_fault.rose c.run_words.ensures.write_fault.rose unread unwritten
