@@ -152,7 +152,8 @@ impl Pool {
         requires target_range { to + count ≤ 256 }
         ensures cells { let old = cells self.old target.now in
             cells self.new target.now ≡ take to old ++ take count (drop at (cells self.old source.now)) ++ drop (to + count) old }
-        ensures is_live { IsLive self.new target.now }
+        ensures source_is_live { IsLive self.new source.now }
+        ensures target_is_live { IsLive self.new target.now }
         ensures others { SameOthers self.old self.new target.now }
         ensures spare { self.new.spare ≡ self.old.spare }
         ensures live { live self.new ≡ live self.old }

@@ -21,7 +21,7 @@ returns-clause-cells c =
 
 pub returns-clause-row : goal.returns-clause-row
 returns-clause-row c = record {
-  live = live_after c.args.pool.now c.copy_cells.new.self c.args.blocks.now c.index-blocks-to.result c.copy_cells.ensures.is_live c.copy_cells.ensures.others c.requires.row.live;
+  live = live_after c.args.pool.now c.copy_cells.new.self c.args.blocks.now c.index-blocks-to.result c.copy_cells.ensures.target_is_live c.copy_cells.ensures.others c.requires.row.live;
   distinct = c.requires.row.distinct;
   countable = c.requires.row.countable;
 }
