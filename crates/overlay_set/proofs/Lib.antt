@@ -8,3 +8,4 @@ pub mod OrderLemmas
 pub mod WholeLemmas
 pub mod SlotLemmas
 pub mod RivalLemmas
+pub mod ForwardLemmas

@@ -4,3 +4,4 @@ pub mod Entries
 pub mod Moves
 pub mod Winner
 pub mod Rivals
+pub mod Forward
