@@ -108,7 +108,7 @@ impl SavedStack {
         }
     }
 
-    /// Takes away what was kept last.
+    /// Takes away what was kept last, and gives it; `None` where nothing is kept.
     pub fn pop(&mut self) -> Option<Saved>
         ensures none { IsNone result ↔ (self.old ≡ []) }
         ensures newest { IfSome result (λ s. self.old ≡ kept_of s ∷ self.new) }
@@ -128,7 +128,8 @@ impl SavedStack {
         }
     }
 
-    /// The part from `from` to `to` of a buffer was deleted.
+    /// The part from `from` to `to` of a buffer was deleted: its kept places in the part go to `from`, and those behind it
+    /// come nearer.
     pub fn note_delete(&mut self, buffer: u32, from: usize, to: usize)
         requires { from ≤ to }
         ensures { self.new ≡ map (move_saved buffer (deletion from to)) self.old }

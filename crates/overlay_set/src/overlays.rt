@@ -87,7 +87,8 @@ impl Overlays {
         Ok(number)
     }
 
-    /// Puts overlay `k` from place `from` to place `to` of a buffer. A refusal leaves it where it was.
+    /// Puts overlay `k` from place `from` to place `to` of a buffer. It keeps its properties, and whether its ends advance.
+    /// A refusal leaves it where it was.
     pub fn shift(&mut self, k: u32, buffer: u32, from: usize, to: usize) -> Mem<()>
         requires made { k < length self.old }
         requires ordered { from ≤ to }
@@ -112,7 +113,8 @@ impl Overlays {
         self.slots[number as usize].span = Some(stretch);
     }
 
-    /// Takes overlay `k` out of its buffer ("Managing Overlays" there). It keeps its properties.
+    /// Takes overlay `k` out of its buffer ("Managing Overlays" there). It keeps its properties, and whether its ends
+    /// advance.
     pub fn remove(&mut self, k: u32)
         requires { k < length self.old }
         ensures { self.new ≡ slice_set self.old k (record (overlay_at self.old k) { span = None }) }
@@ -214,8 +216,9 @@ impl Overlays {
         self.tree.prev_change(buffer, i, None)
     }
 
-    /// `n` characters were put in at `at` of a buffer: the ends of its overlays just there go behind them where they
-    /// advance, or where `all` do. The start of an empty overlay doesn't leave its end behind.
+    /// `n` characters were put in at `at` of a buffer: the starts and ends of its overlays behind `at` go on by `n`, and so
+    /// do those just there which advance, or all of these where `all` is said. The start of an empty overlay doesn't leave
+    /// its end behind.
     pub fn note_insert(&mut self, buffer: u32, at: usize, n: usize, all: bool)
         requires { All (HasRoomFor buffer n) self.old }
         ensures { self.new ≡ map (move_overlay buffer all (insertion at n)) self.old }
@@ -223,8 +226,9 @@ impl Overlays {
         self.note(buffer, Change::Insertion { at, n, all });
     }
 
-    /// The part from `from` to `to` of a buffer was deleted. Its overlays that are empty then and evaporate are taken
-    /// out of it ("Overlay Properties").
+    /// The part from `from` to `to` of a buffer was deleted: the starts and ends of its overlays in the part go to `from`,
+    /// and those behind it come nearer. Its overlays that are empty then and evaporate are taken out of it ("Overlay
+    /// Properties").
     pub fn note_delete(&mut self, buffer: u32, from: usize, to: usize)
         requires { from ≤ to }
         ensures { self.new ≡ map (λ o. evaporated buffer (move_overlay buffer false (deletion from to) o)) self.old }
@@ -240,7 +244,7 @@ impl Overlays {
         move_in(&mut self.tree, self.slots.as_mut_slice(), buffer, change);
     }
 
-    /// A buffer was killed: its overlays have no buffer.
+    /// A buffer was killed: its overlays have no buffer. They keep their properties.
     pub fn drop_buffer(&mut self, buffer: u32)
         ensures { self.new ≡ map (overlay_left buffer) self.old }
     {

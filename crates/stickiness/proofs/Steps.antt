@@ -61,7 +61,7 @@ put_behind low set (p ∷ more) h r =
     ∙ put_behind (p.0 + 1) (set ++ p ∷ []) more (below_push (p.0 + 1) set p (below_more p.0 (p.0 + 1) set (omega arith) below) (omega arith)) r.1
     ∙ append_assoc set (p ∷ []) more
 
-rising-filter : (test : ℕ × PropVal → Bool) (low : ℕ) (set : PropSet) → Rising low set → Rising low (filter test set)
+pub rising-filter : (test : ℕ × PropVal → Bool) (low : ℕ) (set : PropSet) → Rising low set → Rising low (filter test set)
 rising-filter test low [] r = tt
 rising-filter test low (p ∷ set) r = by_test (λ s. Rising low s) (test p) (p ∷ filter test set) (filter test set)
     (λ h. (r.0, rising-filter test (p.0 + 1) set r.1))

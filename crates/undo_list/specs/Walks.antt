@@ -1,4 +1,5 @@
--- The walk of the code over the records of some groups.
+-- The walk of the code over the records of some groups. It serves the proof of `Records::plan` alone: the clause there
+-- says what it comes to in the words of the definitions, by groups and their trial.
 use Rattle.std.specs.Prelude.{◌+◌, ◌-◌, ◌==◌, if◌then◌else◌, List, [], ◌∷◌, Result, Ok, Err}
 use Rattle.text_model.specs.Undo.{Entry, is_boundary, lies_inside, max_after}
 use Rattle.undo_list.specs.declared.plan.Plan.{Plan}

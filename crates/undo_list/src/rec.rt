@@ -20,7 +20,8 @@ pub enum Rec {
     Prop(Sym, Option<PropVal>, usize, usize),
     /// The buffer wasn't modified before.
     First,
-    /// A deletion moved the marker of this number; the deletion's place less this is where the marker stood.
+    /// A deletion moved the marker of this number. Where the marker goes as the text is put back (in front of the text,
+    /// or behind it where it advances), less this, is where it stood.
     Moved(u32, i64),
 }
 
