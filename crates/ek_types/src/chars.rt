@@ -52,11 +52,13 @@ impl Chars {
         }
     }
 
-    /// Puts a character behind the others. A refusal leaves them as they were.
+    /// Puts a character behind the others. A refusal leaves them as they were and the spare no smaller.
     pub fn push(&mut self, c: Ch) -> Mem<()>
         requires { IsCharacter (ch_of c) }
         ensures ok { OnOk result (self.new.items ≡ self.old.items ++ ch_of c ∷ []) }
+        ensures room { OnOk result (self.old.spare ≤ self.new.spare + 1) }
         ensures err { OnErr result (self.new.items ≡ self.old.items) }
+        ensures kept { OnErr result (self.old.spare ≤ self.new.spare) }
     {
         self.items.push(c)?;
         Ok(())

@@ -80,10 +80,12 @@ impl<T> ListOf<T> {
 }
 
 impl<T: Drop> ListOf<T> {
-    /// Puts an item behind the others. A refusal leaves the list as it was.
+    /// Puts an item behind the others. A refusal leaves the list as it was and the spare no smaller.
     pub fn push(&mut self, x: T) -> Mem<()>
         ensures ok { OnOk result (items_of self.new ≡ items_of self.old ++ x ∷ []) }
+        ensures room { OnOk result (spare_of self.old ≤ spare_of self.new + 1) }
         ensures err { OnErr result (items_of self.new ≡ items_of self.old) }
+        ensures kept { OnErr result (spare_of self.old ≤ spare_of self.new) }
     {
         match self.items.push(x) {
             Ok(()) => Ok(()),
