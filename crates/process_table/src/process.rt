@@ -84,6 +84,7 @@ impl Process {
         }
     }
 
+    /// Its name. No two listed processes have the same.
     pub fn name(&self) -> &Chars
         ensures { result.now.items ≡ self.now.name }
     {
@@ -97,13 +98,14 @@ impl Process {
         self.child
     }
 
+    /// How it stands.
     pub fn status(&self) -> Status
         ensures { status_of result ≡ self.now.status }
     {
         self.status
     }
 
-    /// The number of its buffer, which may have been killed.
+    /// The number of its buffer, if it has one; that may have been killed.
     pub fn buffer(&self) -> Option<u32>
         ensures { result ≡ self.now.buffer }
     {
@@ -117,6 +119,7 @@ impl Process {
         self.mark
     }
 
+    /// Who hears its output.
     pub fn filter(&self) -> Filter
         ensures { filter_of result ≡ self.now.filter }
     {
