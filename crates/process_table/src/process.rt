@@ -112,7 +112,7 @@ impl Process {
         self.buffer
     }
 
-    /// The marker where its output is put.
+    /// The number of the marker where its output is put.
     pub fn mark(&self) -> u32
         ensures { result ≡ self.now.mark }
     {
