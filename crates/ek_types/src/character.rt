@@ -26,7 +26,7 @@ impl Ch {
         }
     }
 
-    /// The scalar value, or 0x3FFF00 and the byte.
+    /// The scalar value, or for a raw byte 0x3FFF00 plus the byte.
     pub fn code(self) -> u32
         ensures { result ≡ code (ch_of self) }
     {
@@ -36,7 +36,8 @@ impl Ch {
         }
     }
 
-    /// The character of a code; `None` for a code that no character has.
+    /// The character of a code, or `None` where no character has it: a code from 0xD800 to 0xDFFF, from 0x110000 to
+    /// 0x3FFF7F, or above 0x3FFFFF.
     pub fn from_code(code: u32) -> Option<Ch>
         ensures exact { option_map ch_of result ≡ from_code code }
     {

@@ -52,17 +52,20 @@ impl Chars {
         }
     }
 
-    /// Puts a character behind the others. A refusal leaves them as they were.
+    /// Puts a character behind the others; a raw byte is 0x80 or more. A refusal leaves them as they were and the spare
+    /// no smaller.
     pub fn push(&mut self, c: Ch) -> Mem<()>
         requires { IsCharacter (ch_of c) }
         ensures ok { OnOk result (self.new.items ≡ self.old.items ++ ch_of c ∷ []) }
+        ensures room { OnOk result (self.old.spare ≤ self.new.spare + 1) }
         ensures err { OnErr result (self.new.items ≡ self.old.items) }
+        ensures kept { OnErr result (self.old.spare ≤ self.new.spare) }
     {
         self.items.push(c)?;
         Ok(())
     }
 
-    /// Puts a character behind the others, with no memory taken.
+    /// Puts a character behind the others, with no memory taken. There must be spare, which falls by one.
     pub fn push_spare(&mut self, c: Ch)
         requires character { IsCharacter (ch_of c) }
         requires room { 0 < self.old.spare }
@@ -72,18 +75,21 @@ impl Chars {
         self.items.push_reserved(c);
     }
 
+    /// How many characters there are.
     pub fn len(&self) -> usize
         ensures { result ≡ length self.now.items }
     {
         self.items.len()
     }
 
+    /// Whether there are none.
     pub fn is_empty(&self) -> bool
         ensures { result ≡ (length self.now.items == 0) }
     {
         self.items.is_empty()
     }
 
+    /// The character at place `i`, which is below the length.
     pub fn at(&self, i: usize) -> Ch
         requires { i < length self.now.items }
         ensures item { slice_get self.now.items i ≡ Some (ch_of result) }

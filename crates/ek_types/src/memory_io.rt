@@ -28,8 +28,8 @@ impl Model for MemorySource {
 }
 
 impl MemorySource {
-    /// A source that gives at most `piece` bytes in a call, and fails at the calls whose numbers, from 0, stand in
-    /// `fails`.
+    /// A source that gives at most `piece` bytes in a call (`piece` is 1 or more), and fails at the calls whose numbers,
+    /// from 0, stand in `fails`.
     pub fn new(bytes: Vec<u8>, piece: usize, fails: Vec<u32>) -> MemorySource
         requires { 0 < piece }
         ensures { result ≡ record { left = bytes.items; piece = piece; fails = fails.items; calls = 0; faults = 0 } }
@@ -103,8 +103,8 @@ impl Model for MemorySink {
 }
 
 impl MemorySink {
-    /// A sink that holds at most `room` bytes, takes at most `piece` in a call, and fails where it is full and at the
-    /// calls whose numbers, from 0, stand in `fails`.
+    /// A sink that holds at most `room` bytes, takes at most `piece` in a call (`piece` is 1 or more), and fails where it
+    /// is full and at the calls whose numbers, from 0, stand in `fails`. All memory is taken here.
     pub fn new(alloc: Global, room: usize, piece: usize, fails: Vec<u32>) -> Mem<MemorySink>
         requires { 0 < piece }
         ensures { IfOk result (λ s. s ≡ record { held = []; limit = room; piece = piece; fails = fails.items; calls = 0; faults = 0 }) }

@@ -74,7 +74,7 @@ impl Symbols {
         }
     }
 
-    /// The name of a symbol.
+    /// The name of a symbol, whose number is below the count.
     pub fn name(&self, s: Sym) -> &str
         requires { s.0 < length self.now }
         ensures { slice_get self.now s.0 ≡ Some result.now }
@@ -82,7 +82,8 @@ impl Symbols {
         self.names.get_index(s.0 as usize).unwrap().as_str()
     }
 
-    /// The symbol of a name, which gets the next number where it has none. Want of memory leaves the names as they were.
+    /// The symbol of a name, which gets the next number where it has none. There are fewer than 2^32 - 1 names before.
+    /// Want of memory leaves the names as they were.
     pub fn intern(&mut self, name: &str) -> Mem<Sym>
         requires { length self.old + 1 < 2 ^ 32 }
         ensures names { OnOk result (self.new ≡ with_name self.old name.now) }
