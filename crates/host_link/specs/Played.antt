@@ -47,6 +47,11 @@ abbrev pub after_read : ℕ → List Answer → List Answer
 after_read room [] = []
 after_read room (answer ∷ rest) = left_of room answer ++ rest
 
+-- the room that was given, as it lies after a read: bytes stand at its front
+abbrev pub room_after : List ℕ → Answer → List ℕ
+room_after into (Bytes bytes) = bytes ++ drop (length bytes) into
+room_after into _ = into
+
 -- ENDS: answers of another kind count as running
 abbrev pub end_as : Answer → Answer
 end_as (Code n) = Code n

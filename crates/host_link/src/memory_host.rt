@@ -1,12 +1,12 @@
 //! A host in memory, which plays its children from lists and tells its exchanges.
-ghost use Rattle.std.specs.Prelude.{◌≡◌, ◌+◌, ◌-◌, ◌<◌, ◌≤◌, ◌^◌, length, map, [], ◌∷◌, ◌++◌, false, true, Some, IfOk, if◌then◌else◌, nat_lt, drop, slice_get, slice_set, string_bytes, vec_len, vec_capacity};
+ghost use Rattle.std.specs.Prelude.{◌≡◌, ◌+◌, ◌-◌, ◌<◌, ◌≤◌, ◌^◌, length, map, [], ◌∷◌, ◌++◌, false, true, Some, IfOk, OnOk, OnErr, if◌then◌else◌, nat_lt, drop, slice_get, slice_set, string_bytes, vec_len, vec_capacity};
 ghost use Rattle.std.specs.Option.{option_map};
 ghost use Rattle.plain_machine.specs.Exchanges.{Spawn, Read, AskEnd, Send, Close, Kill, Closed, Started, Refused, Failed, Broken, Sent, Killed};
 ghost use Rattle.ek_types.specs.Io.{next_count};
 ghost use Rattle.ek_types.specs.MemoryIo.{fails_at};
 ghost use Rattle.host_link.specs.Meaning.{answer_of, exchanges_of};
 ghost use Rattle.host_link.specs.Hosts.{Asked, Exchanged, Fits, IsNumbered, after_spawn, is_fault, spawned_answer, got_answer, ended_answer, send_answer, kill_answer};
-ghost use Rattle.host_link.specs.Played.{Plays, PlaysSpawn, host_state, next_read, after_read, next_end, read_reply, plays_after_read, end_reply, plays_after_end, send_reply, kill_reply, after_exchange};
+ghost use Rattle.host_link.specs.Played.{Plays, PlaysSpawn, host_state, next_read, after_read, room_after, next_end, read_reply, plays_after_read, end_reply, plays_after_end, send_reply, kill_reply, after_exchange};
 ghost use Rattle.host_link.specs.Logged.{due_by};
 ghost use Rattle.host_link.specs.Cursors.{cursors_by, rest_of, whole_play};
 
@@ -136,6 +136,8 @@ fn read_or_fail(
     ensures fits { IfOk result (λ t. Fits (length into.old) t.reply) }
     ensures rest { IfOk result
         (λ t. rest_of play.now t.cursor ≡ (if fails then rest_of play.now cursor else record (rest_of play.now cursor) { reads = after_read (length into.old) (rest_of play.now cursor).reads })) }
+    ensures room { IfOk result (λ t. into.new ≡ room_after into.old (answer_of t.answer)) }
+    ensures room_kept { OnErr result (into.new ≡ into.old) }
 {
     if fails {
         return Ok(Turn {
@@ -221,6 +223,8 @@ impl Host for MemoryHost {
             (read_reply self.old child (length into.old))
             (after_exchange self.old (plays_after_read self.old child (length into.old)) self.old.kills (Read child) (read_reply self.old child (length into.old)))
             result }
+        ensures room { OnOk result (into.new ≡ room_after into.old (read_reply self.old child (length into.old))) }
+        ensures room_kept { OnErr result (into.new ≡ into.old) }
     {
         let number = child as usize;
         let alloc = self.log.allocator();
