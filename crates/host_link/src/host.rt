@@ -50,7 +50,8 @@ pub enum KillAnswer {
 
 /// The outside of a run. Children are numbered from 0 in the order in which they are started.
 ///
-/// Each call but `told` is one exchange. `NoMemory` comes before anything was asked and leaves the host as it was.
+/// Each call but `told` is one exchange, and a child that it names was started before. `NoMemory` comes before anything
+/// was asked and leaves the host as it was.
 /// `Refused`, `Failed` and `Broken` come only where the count of faults rose in that call; the count never falls and
 /// stays at 2^64 - 1 once it stands there. `Nothing` and `Running` are the host's word.
 pub trait Host {
@@ -62,7 +63,8 @@ pub trait Host {
     /// it that each was made once, also where the host tells no exchanges.
     ghost made: { Self → Self → Ask → ℕ → Answer → Type 0 } = { λ _ _ _ _ _. Unit {0} };
 
-    /// Starts a program. A child that is started has the next number.
+    /// Starts a program, where fewer than 2^32 - 1 children were started before. A child that is started has the next
+    /// number; `Refused` starts none.
     fn spawn(&mut self, program: &str, args: &[String]) -> Mem<Spawned>
         requires { length (state self.old).kills < 2 ^ 32 - 1 }
         ensures asked { Asked (state self.old) (state self.new) (after_spawn (state self.old).kills)
@@ -70,7 +72,7 @@ pub trait Host {
         ensures number { IfOk result (IsNumbered (length (state self.old).kills)) }
         ensures made { IfOk result (λ s. made self.old self.new (Spawn program.now (map string_bytes args.now)) 0 (spawned_answer s)) };
 
-    /// Takes bytes of a child's output to the front of `into`.
+    /// Takes bytes of a child's output to the front of `into`, which isn't empty. `NoMemory` leaves `into` as it was.
     fn read(&mut self, child: u32, into: &mut [u8]) -> Mem<Got>
         requires there { child < length (state self.old).kills }
         requires room { 0 < length into.old }
@@ -105,7 +107,7 @@ pub trait Host {
     fn told(&self) -> Option<&Exchanges>
         ensures { option_map (λ list. exchanges_of list.now) result ≡ (state self.now).told };
 
-    /// Asks a child to be killed, which is asked at most once of each child. It takes no memory.
+    /// Asks that a child be killed, at most once for each child. It takes no memory.
     fn kill(&mut self, child: u32) -> KillAnswer
         requires { slice_get (state self.old).kills child ≡ Some false }
         ensures asked { Exchanged (state self.old) (state self.new)

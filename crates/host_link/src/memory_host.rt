@@ -19,7 +19,8 @@ use ek_types::Mem;
 use std::alloc::Global;
 use std::marker::Model;
 
-/// Starts a child for each of its plays, in their order, and fails at the calls that it was told.
+/// Starts a child for each of its plays, in their order, and refuses a spawn past the last one. It fails at the calls that
+/// it was told, and tells its exchanges.
 #[derive(Drop)]
 pub struct MemoryHost {
     plays: Vec<Play>,
@@ -45,8 +46,9 @@ impl Model for MemoryHost {
 }
 
 impl MemoryHost {
-    /// A host that has started no child. It fails at the calls whose numbers, from 0 over all calls but `told`, stand
-    /// in `fails`.
+    /// A host that has started no child, and takes its memory where `plays` takes it. The calls whose numbers, from 0 over
+    /// all calls but `told`, stand in `fails` answer `Refused`, `Failed` or `Broken` by their kind and use up no answer of
+    /// a play; a call of `close` can't fail. A call that answers `NoMemory` isn't counted.
     pub fn new(plays: Vec<Play>, fails: Vec<u32>) -> MemoryHost
         ensures { result ≡ record {
           plays = map whole_play plays.items;

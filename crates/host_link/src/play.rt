@@ -14,7 +14,8 @@ use ek_types::Mem;
 use std::alloc::Global;
 
 /// The answers of one child, to reads and to the question how it ended. Past the last one a read answers `End`, and
-/// the child has ended with code 0.
+/// the child has ended with code 0. Bytes that the room of a read doesn't hold come next. No bytes count as `Nothing`, and
+/// so do answers of another kind; to the question how it ended these count as `Running`.
 #[derive(Drop)]
 pub struct Play {
     pub reads: Answers,

@@ -16,7 +16,8 @@ use ek_types::{ListOf, Mem};
 use std::alloc::Global;
 use std::marker::Model;
 
-/// Keeps and tells the exchanges of another host.
+/// Keeps and tells the exchanges of another host. Each call but `told` is made once on that host, and its answer handed
+/// on; memory for keeping it is taken before that host is asked.
 #[derive(Drop)]
 pub struct Recorder<H: Host> {
     inner: H,
@@ -36,7 +37,7 @@ impl<H: Host> Model for Recorder<H> {
 }
 
 impl<H: Host> Recorder<H> {
-    /// A recorder over a host that has started no child yet.
+    /// A recorder, with no exchange yet, over a host that has started no child.
     pub fn new(alloc: Global, inner: H) -> Recorder<H>
         requires { (H.state inner).kills ≡ [] }
         ensures inner { result.inner ≡ inner }
