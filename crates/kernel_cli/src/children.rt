@@ -157,6 +157,7 @@ impl<'a, R: Processes> Host for RealHost<'a, R> {
         ensures asked { Asked (untold self.old.faults self.old.kills.items) (untold self.new.faults self.new.kills.items)
             (λ _. self.old.kills.items) (Read child) (got_answer into.new) result }
         ensures fits { IfOk result (Fits (length into.new)) }
+        ensures room_kept { OnErr result (into.new ≡ into.old) }
         ensures faults { IfOk result (λ got. self.new.faults ≡ faults_after (got_answer into.new got) self.old.faults) }
         ensures got { IfOk result (λ got. got ≢ Got.Failed → OutputGives R.Started.Stdout.remaining
             (of_child (λ c. c.stdout) self.old.children.items child) (of_child (λ c. c.stdout) self.new.children.items child) into.new got) }

@@ -47,7 +47,7 @@ impl Decoder {
     }
 
     /// Appends the characters of the bytes held and the bytes given, without a tail that may still become a character,
-    /// and then holds that tail. Takes no memory.
+    /// and then holds that tail. Needs spare in `out` for all these bytes, and takes no memory.
     pub fn feed(&mut self, bytes: &[u8], out: &mut Chars)
         requires { length self.old + length bytes.now ≤ out.old.spare }
         ensures items { out.new.items ≡ out.old.items ++ characters (self.old ++ bytes.now) }
@@ -64,7 +64,8 @@ impl Decoder {
         }
     }
 
-    /// Appends the bytes held as raw bytes, since nothing follows them, and then holds nothing. Takes no memory.
+    /// Appends the bytes held as raw bytes, since nothing follows them, and then holds nothing. Needs spare in `out` for
+    /// them, and takes no memory.
     pub fn finish(&mut self, out: &mut Chars)
         requires { length self.old ≤ out.old.spare }
         ensures items { out.new.items ≡ out.old.items ++ all_characters self.old }
