@@ -53,7 +53,7 @@ impl Pool {
         }
     }
 
-    /// Makes the spare at least `blocks`. A refusal leaves the pool as it was.
+    /// Raises the spare to `blocks` where it is less, and else changes nothing. A refusal leaves the pool as it was.
     pub fn reserve(&mut self, blocks: usize) -> Result<(), PoolMemory>
         ensures slots { self.new.slots ≡ self.old.slots }
         ensures ok { OnOk result (self.new.spare ≡ max self.old.spare blocks) }
@@ -72,7 +72,8 @@ impl Pool {
         }
     }
 
-    /// A block that nobody else has, where the spare isn't 0. What its cells hold is left open.
+    /// Lends a block that nobody else has, and lowers the spare by one; `None` exactly where the spare is 0, and then nothing
+    /// changes. What its cells hold is left open.
     pub fn take(&mut self) -> Option<Block>
         ensures none { IsNone result ↔ (self.old.spare ≡ 0) }
         ensures unchanged { IfNone result (self.new ≡ self.old) }
@@ -91,7 +92,7 @@ impl Pool {
         Some(Block { number })
     }
 
-    /// Takes a block back.
+    /// Takes back a block that is live in this pool, and raises the spare by one.
     pub fn give(&mut self, block: Block)
         requires { IsLive self.old block }
         ensures gone { cells_at self.new block ≡ None }
@@ -120,7 +121,7 @@ impl Pool {
         self.blocks.len()
     }
 
-    /// What was last set in cell `i` of the block, counted from 0.
+    /// What was last set in cell `i` of a block that is live in this pool, counted from 0 and below 256.
     pub fn cell(&self, block: &Block, i: usize) -> u32
         requires live { IsLive self.now block.now }
         requires range { i < 256 }
@@ -129,7 +130,7 @@ impl Pool {
         self.blocks[block.number][i]
     }
 
-    /// Sets cell `i` of the block, counted from 0, and no other cell.
+    /// Sets cell `i` of a block that is live in this pool, counted from 0 and below 256, and no other cell.
     pub fn set_cell(&mut self, block: &Block, i: usize, value: u32)
         requires live { IsLive self.old block.now }
         requires range { i < 256 }
@@ -144,7 +145,7 @@ impl Pool {
     }
 
     /// Copies `count` cells of one block, from cell `at` on, to the cells from `to` on of another one, or of the same one,
-    /// where the two parts may overlap. No other cell changes.
+    /// where the two parts may overlap. Both blocks are live in this pool, and cells are counted from 0. No other cell changes.
     pub fn copy_cells(&mut self, source: &Block, at: usize, target: &Block, to: usize, count: usize)
         requires source_live { IsLive self.old source.now }
         requires target_live { IsLive self.old target.now }
