@@ -1,4 +1,3 @@
-pub mod Cuttings
 pub mod Fronts
 pub mod Readings
 pub mod Steps
