@@ -2,7 +2,7 @@
 ghost use Rattle.std.specs.Prelude.{◌≡◌, ℕ, ◌+◌, ◌<◌, ◌≤◌, [], ◌∷◌, ◌++◌, length, IfOk, IsOk, OnOk, OnErr, slice_get, Some, List, map};
 ghost use Rattle.ek_types.specs.Listing.{items_of, spare_of};
 
-use crate::memory::{Mem, NoMemory};
+use crate::memory::Mem;
 use std::alloc::Global;
 
 /// A value that can be copied where memory allows it.
@@ -39,10 +39,8 @@ impl<T> ListOf<T> {
         ensures kept { spare_of self.old ≤ spare_of self.new }
         ensures had { n ≤ spare_of self.old → IsOk result }
     {
-        match self.items.reserve(n) {
-            Ok(()) => Ok(()),
-            Err(_) => Err(NoMemory),
-        }
+        self.items.reserve(n)?;
+        Ok(())
     }
 
     /// The allocator that the list keeps.
@@ -85,10 +83,8 @@ impl<T: Drop> ListOf<T> {
         ensures ok { OnOk result (items_of self.new ≡ items_of self.old ++ x ∷ []) }
         ensures err { OnErr result (items_of self.new ≡ items_of self.old) }
     {
-        match self.items.push(x) {
-            Ok(()) => Ok(()),
-            Err(_) => Err(NoMemory),
-        }
+        self.items.push(x)?;
+        Ok(())
     }
 }
 
