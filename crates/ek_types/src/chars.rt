@@ -1,10 +1,10 @@
 //! A list of characters with a spare.
-ghost use Rattle.std.specs.Prelude.{◌≡◌, ℕ, ◌+◌, ◌<◌, ◌≤◌, length, [], ◌∷◌, ◌++◌, OnOk, OnErr, IfOk, IsOk, slice_get, Some, ◌==◌};
+ghost use Rattle.std.specs.Prelude.{◌≡◌, ◌+◌, ◌<◌, ◌≤◌, length, [], ◌∷◌, ◌++◌, OnOk, OnErr, IfOk, IsOk, slice_get, Some, ◌==◌};
 ghost use Rattle.text_model.specs.Characters.{IsCharacter};
 ghost use Rattle.ek_types.specs.Seen.{ch_of};
 
 use crate::character::Ch;
-use crate::memory::{Mem, NoMemory};
+use crate::memory::Mem;
 use std::alloc::Global;
 use std::marker::Model;
 
@@ -46,10 +46,8 @@ impl Chars {
         ensures kept { self.old.spare ≤ self.new.spare }
         ensures had { n ≤ self.old.spare → IsOk result }
     {
-        match self.items.reserve(n) {
-            Ok(()) => Ok(()),
-            Err(_) => Err(NoMemory),
-        }
+        self.items.reserve(n)?;
+        Ok(())
     }
 
     /// Puts a character behind the others; a raw byte is 0x80 or more. A refusal leaves them as they were and the spare
@@ -102,9 +100,7 @@ impl Chars {
     pub fn copy(&self) -> Mem<Chars>
         ensures { IfOk result (λ c. c.items ≡ self.now.items) }
     {
-        match self.items.clone() {
-            Ok(items) => Ok(Chars { items }),
-            Err(_) => Err(NoMemory),
-        }
+        let items = self.items.clone()?;
+        Ok(Chars { items })
     }
 }

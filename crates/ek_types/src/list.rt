@@ -2,7 +2,7 @@
 ghost use Rattle.std.specs.Prelude.{◌≡◌, ℕ, ◌+◌, ◌<◌, ◌≤◌, [], ◌∷◌, ◌++◌, length, IfOk, IsOk, OnOk, OnErr, slice_get, Some, List, map};
 ghost use Rattle.ek_types.specs.Listing.{items_of, spare_of};
 
-use crate::memory::{Mem, NoMemory};
+use crate::memory::Mem;
 use std::alloc::Global;
 
 /// A value that can be copied where memory allows it.
@@ -40,10 +40,8 @@ impl<T> ListOf<T> {
         ensures kept { spare_of self.old ≤ spare_of self.new }
         ensures had { n ≤ spare_of self.old → IsOk result }
     {
-        match self.items.reserve(n) {
-            Ok(()) => Ok(()),
-            Err(_) => Err(NoMemory),
-        }
+        self.items.reserve(n)?;
+        Ok(())
     }
 
     /// The allocator that the list keeps.
@@ -91,10 +89,8 @@ impl<T: Drop> ListOf<T> {
         ensures err { OnErr result (items_of self.new ≡ items_of self.old) }
         ensures kept { OnErr result (spare_of self.old ≤ spare_of self.new) }
     {
-        match self.items.push(x) {
-            Ok(()) => Ok(()),
-            Err(_) => Err(NoMemory),
-        }
+        self.items.push(x)?;
+        Ok(())
     }
 }
 

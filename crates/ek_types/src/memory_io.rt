@@ -4,7 +4,7 @@ ghost use Rattle.ek_types.specs.Io.{HasCause, Takes, Puts, StaysUnfailing, Stays
 ghost use Rattle.ek_types.specs.MemoryIo.{MemorySourceState, MemorySinkState, fails_at, source_state, sink_state, read_answer, after_read, room_after_read, write_answer, after_write};
 
 use crate::io::{Sink, Source, Took, Wrote};
-use crate::memory::{Mem, NoMemory};
+use crate::memory::Mem;
 use std::alloc::Global;
 use std::marker::Model;
 
@@ -109,17 +109,14 @@ impl MemorySink {
         requires { 0 < piece }
         ensures { IfOk result (λ s. s ≡ record { held = []; limit = room; piece = piece; fails = fails.items; calls = 0; faults = 0 }) }
     {
-        match Vec::with_capacity(alloc, room) {
-            Ok(bytes) => Ok(MemorySink {
-                bytes,
-                room,
-                piece,
-                fails,
-                calls: 0,
-                faults: 0,
-            }),
-            Err(_) => Err(NoMemory),
-        }
+        Ok(MemorySink {
+            bytes: Vec::with_capacity(alloc, room)?,
+            room,
+            piece,
+            fails,
+            calls: 0,
+            faults: 0,
+        })
     }
 
     /// What it holds.

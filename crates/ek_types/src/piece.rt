@@ -1,5 +1,5 @@
 //! Pieces of text: characters with their properties.
-ghost use Rattle.std.specs.Prelude.{◌≡◌, ℕ, ◌<◌, ◌≤◌, length, map, [], ◌++◌, IfOk, OnOk, OnErr, slice_get, Some, option_map, ◌==◌};
+ghost use Rattle.std.specs.Prelude.{◌≡◌, ℕ, ◌<◌, ◌≤◌, length, [], ◌++◌, IfOk, OnOk, OnErr, slice_get, Some, option_map, ◌==◌};
 ghost use Rattle.std.specs.List.{prefix_len};
 ghost use Rattle.text_model.specs.Properties.{bare, with_sets, edited, Replace};
 ghost use Rattle.text_model.specs.Characters.{IsCharacter};

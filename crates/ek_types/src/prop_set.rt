@@ -1,5 +1,5 @@
 //! Property sets.
-ghost use Rattle.std.specs.Prelude.{◌≡◌, [], ◌++◌, IfOk, OnOk, OnErr, option_map, length, map, take, drop, slice_get, Some, ◌<◌, ◌≤◌};
+ghost use Rattle.std.specs.Prelude.{◌≡◌, [], ◌++◌, IfOk, OnOk, option_map, length, map, drop, slice_get, Some, ◌<◌, ◌≤◌};
 ghost use Rattle.std.specs.List.{prefix_len};
 ghost use Rattle.text_model.specs.Properties.{get, put, with_value, without, given};
 ghost use Rattle.text_model.specs.Ordered.{IsProper};

@@ -1,10 +1,11 @@
 //! Names and their numbers.
 ghost use Rattle.std.specs.Prelude.{◌≡◌, ℕ, ◌+◌, ◌<◌, ◌^◌, length, List, [], ◌∷◌, ◌++◌, map, Some, None, IfOk, OnOk, OnErr, slice_get, string_bytes};
 ghost use Rattle.std.specs.Option.{option_map};
+ghost use Rattle.text_model.specs.Names.{first_symbols, with_name};
 ghost use Rattle.ek_types.specs.Property.{number_of};
-ghost use Rattle.ek_types.specs.Names.{first_symbols, number_in, with_name, AreNumbered};
+ghost use Rattle.ek_types.specs.Names.{number_in, AreNumbered};
 
-use crate::memory::{Mem, NoMemory};
+use crate::memory::Mem;
 use indexmap::IndexSet;
 use std::alloc::Global;
 use std::marker::Model;
@@ -101,7 +102,7 @@ impl Symbols {
         }
     }
 
-    // A name that has no number gets the next one.
+    /// Gives a name that has no number the next one.
     fn put_last(&mut self, name: &str) -> Mem<()>
         requires absent { number_in self.old name.now ≡ None }
         requires room { length self.old + 1 < 2 ^ 32 }
@@ -117,10 +118,8 @@ impl Symbols {
     pub fn copy(&self) -> Mem<Symbols>
         ensures { IfOk result (λ s. s ≡ self.now) }
     {
-        match self.names.clone() {
-            Ok(names) => Ok(Symbols { names }),
-            Err(_) => Err(NoMemory),
-        }
+        let names = self.names.clone()?;
+        Ok(Symbols { names })
     }
 }
 

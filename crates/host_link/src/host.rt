@@ -1,5 +1,5 @@
 //! The trait of a host: what the kernel asks of the outside.
-ghost use Rattle.std.specs.Prelude.{◌≡◌, ℕ, ◌+◌, ◌-◌, ◌<◌, ◌≤◌, ◌^◌, length, map, false, true, Some, IfOk, OnOk, OnErr, slice_get, slice_set, string_bytes};
+ghost use Rattle.std.specs.Prelude.{◌≡◌, ℕ, ◌-◌, ◌<◌, ◌^◌, length, map, false, true, Some, IfOk, OnOk, OnErr, slice_get, slice_set, string_bytes};
 ghost use Rattle.std.specs.Option.{option_map};
 ghost use Rattle.plain_machine.specs.Exchanges.{Ask, Answer, Spawn, Read, AskEnd, Send, Close, Kill, Closed};
 ghost use Rattle.host_link.specs.Meaning.{exchanges_of};

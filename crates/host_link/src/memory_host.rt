@@ -1,10 +1,9 @@
 //! A host in memory, which plays its children from lists and tells its exchanges.
-ghost use Rattle.std.specs.Prelude.{◌≡◌, ◌+◌, ◌-◌, ◌<◌, ◌≤◌, ◌^◌, length, map, [], ◌∷◌, ◌++◌, false, true, Some, IfOk, OnOk, OnErr, if◌then◌else◌, nat_lt, drop, slice_get, slice_set, string_bytes, vec_len, vec_capacity};
-ghost use Rattle.std.specs.Option.{option_map};
+ghost use Rattle.std.specs.Prelude.{◌≡◌, ◌+◌, ◌-◌, ◌<◌, ◌≤◌, ◌^◌, length, map, [], ◌++◌, false, true, Some, IfOk, OnOk, OnErr, if◌then◌else◌, nat_lt, drop, slice_get, slice_set, string_bytes, vec_len, vec_capacity};
 ghost use Rattle.plain_machine.specs.Exchanges.{Spawn, Read, AskEnd, Send, Close, Kill, Closed, Started, Refused, Failed, Broken, Sent, Killed};
 ghost use Rattle.ek_types.specs.Io.{next_count};
 ghost use Rattle.ek_types.specs.MemoryIo.{fails_at};
-ghost use Rattle.host_link.specs.Meaning.{answer_of, exchanges_of};
+ghost use Rattle.host_link.specs.Meaning.{answer_of};
 ghost use Rattle.host_link.specs.Hosts.{Asked, Exchanged, Fits, IsNumbered, after_spawn, is_fault, spawned_answer, got_answer, ended_answer, send_answer, kill_answer};
 ghost use Rattle.host_link.specs.Played.{Plays, host_state, next_read, after_read, room_after, next_end, reply_to};
 ghost use Rattle.host_link.specs.Logged.{due_by};
@@ -50,14 +49,7 @@ impl MemoryHost {
     /// all calls but `told`, stand in `fails` answer `Refused`, `Failed` or `Broken` by their kind and use up no answer of
     /// a play; a call of `close` can't fail. A call that answers `NoMemory` isn't counted.
     pub fn new(plays: Vec<Play>, fails: Vec<u32>) -> MemoryHost
-        ensures { result ≡ record {
-          plays = map whole_play plays.items;
-          kills = [];
-          fails = fails.items;
-          calls = 0;
-          faults = 0;
-          told = [];
-        } }
+        ensures { result ≡ record { plays = map whole_play plays.items; kills = []; fails = fails.items; calls = 0; faults = 0; told = [] } }
     {
         let alloc = *plays.allocator();
         MemoryHost {

@@ -1,10 +1,9 @@
 //! What a child of a host in memory answers, and how far it has come.
-ghost use Rattle.std.specs.Prelude.{◌≡◌, ◌+◌, ◌-◌, ◌^◌, ◌<◌, ◌≤◌, [], ◌∷◌, length, drop, true, IfOk, OnErr, if◌then◌else◌};
-ghost use Rattle.ek_types.specs.Listing.{items_of};
+ghost use Rattle.std.specs.Prelude.{◌≡◌, ◌+◌, ◌-◌, ◌^◌, ◌<◌, [], ◌∷◌, length, drop, true, IfOk, OnErr, if◌then◌else◌};
 ghost use Rattle.host_link.specs.Hosts.{Fits, got_answer, ended_answer};
 ghost use Rattle.plain_machine.specs.Exchanges.{Bytes};
 ghost use Rattle.host_link.specs.Meaning.{answer_of};
-ghost use Rattle.host_link.specs.Played.{read_as, left_of, next_read, after_read, room_after, end_as, next_end};
+ghost use Rattle.host_link.specs.Played.{left_of, next_read, after_read, room_after, end_as, next_end};
 ghost use Rattle.host_link.specs.Cursors.{IsReadTurn, less, moved_by, rest_of};
 
 use crate::answering::answer_to_end;
@@ -168,10 +167,7 @@ pub(crate) fn read_play(
 pub(crate) fn end_play(play: &Play, cursor: Cursor) -> Turn<Ended>
     ensures told { ended_answer result.reply ≡ next_end (rest_of play.now cursor).ends }
     ensures same { answer_of result.answer ≡ ended_answer result.reply }
-    ensures rest { rest_of play.now result.cursor ≡ record (rest_of play.now cursor) {
-      ends = drop 1
-          (rest_of play.now cursor).ends;
-    } }
+    ensures rest { rest_of play.now result.cursor ≡ record (rest_of play.now cursor) { ends = drop 1 (rest_of play.now cursor).ends } }
 {
     if cursor.ends >= play.ends.len() {
         return Turn {

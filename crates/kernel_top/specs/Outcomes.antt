@@ -1,5 +1,5 @@
 -- What the top call claims, by its status: of the bytes read, of the bytes written, and of the exchanges made.
-use Rattle.std.specs.Prelude.{◌≡◌, ℕ, ◌<◌, ◌≤◌, List, [], ◌∷◌, length, codes, ◌⊎◌, Option, Some, None}
+use Rattle.std.specs.Prelude.{◌≡◌, ℕ, ◌<◌, List, [], ◌∷◌, length, codes, ◌⊎◌, Option, Some, None}
 use Rattle.std.specs.Io.KnownBytes.{IsAtEnd}
 use Rattle.editor_model.specs.Values.{Script}
 use Rattle.plain_machine.specs.Exchanges.{Exchange}

@@ -3,7 +3,7 @@ ghost use Rattle.std.specs.Prelude.{◌≡◌, ◌↔◌, ◌≤◌, List, [], �
 ghost use Rattle.text_model.specs.Marks.{move_saved, insertion, deletion};
 ghost use Rattle.narrow_region.specs.Kept.{kept_of, HasRoomFor};
 
-use ek_types::{Mem, NoMemory, place_after_delete, place_after_insert};
+use ek_types::{Mem, place_after_delete, place_after_insert};
 use std::alloc::Global;
 use std::marker::Model;
 
@@ -102,10 +102,8 @@ impl SavedStack {
         ensures ok { OnOk result (self.new ≡ kept_of s ∷ self.old) }
         ensures err { OnErr result (self.new ≡ self.old) }
     {
-        match self.items.push(s) {
-            Ok(()) => Ok(()),
-            Err(_) => Err(NoMemory),
-        }
+        self.items.push(s)?;
+        Ok(())
     }
 
     /// Takes away what was kept last, and gives it; `None` where nothing is kept.

@@ -1,8 +1,8 @@
 //! Stretches with the numbers of their overlays, and the bounds of many of them.
-ghost use Rattle.std.specs.Prelude.{◌≡◌, false, Option, Some, None, min, max, filter, option_map, ◌+◌, ◌<◌, ℕ, nat_lt, nat_le, ◌==◌, ◌||◌, ◌&&◌, true, not, is_some, unwrap_or};
+ghost use Rattle.std.specs.Prelude.{◌≡◌, false, min, max, filter, ◌+◌, ◌<◌, ℕ, nat_lt, nat_le, ◌==◌, ◌||◌, ◌&&◌, true, not, is_some, unwrap_or};
 ghost use Rattle.text_model.specs.OverlayQuestions.{least, greatest};
 ghost use Rattle.overlay_set.specs.Numbered.{next_or, previous_or};
-ghost use Rattle.overlay_set.specs.Entries.{Within, Holds, ends_at, passes, is_same};
+ghost use Rattle.overlay_set.specs.Entries.{Holds, ends_at, passes, is_same};
 ghost use Rattle.text_model.specs.Marks.{Overlay};
 ghost use Rattle.overlay_set.specs.Slots.{moved_by, with_span};
 ghost use Rattle.overlay_set.specs.Moves.{touches};

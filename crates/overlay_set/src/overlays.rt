@@ -1,19 +1,19 @@
 //! All overlays of a run, by number.
-ghost use Rattle.std.specs.Prelude.{◌≡◌, ℕ, ◌+◌, ◌-◌, ◌^◌, ◌<◌, ◌≤◌, false, [], ◌∷◌, ◌++◌, length, map, Some, None, option_map, option_to_list, slice_set, All, OnOk, OnErr, IfOk};
+ghost use Rattle.std.specs.Prelude.{◌≡◌, ℕ, ◌+◌, ◌-◌, ◌^◌, ◌<◌, ◌≤◌, false, [], ◌∷◌, ◌++◌, length, map, Some, None, option_map, slice_set, All, OnOk, OnErr, IfOk};
 ghost use Rattle.text_model.specs.Properties.{get, put};
 ghost use Rattle.text_model.specs.Marks.{Overlay, move_overlay, evaporated, overlay_left, insertion, deletion};
-ghost use Rattle.text_model.specs.OverlayQuestions.{overlays_where, covers, lies_within, winner, greater, next_end, previous_end};
+ghost use Rattle.text_model.specs.OverlayQuestions.{overlays_where, covers, lies_within, winner, next_end, previous_end};
 ghost use Rattle.ek_types.specs.Property.{prop_of};
 ghost use Rattle.ek_types.specs.Listing.{items_of};
 ghost use Rattle.overlay_set.specs.Numbered.{overlay_at, span_of, span_at, given_of, numbers_of, next_or, previous_or, HasRoomFor};
 ghost use Rattle.overlay_set.specs.Slots.{test_of, with_span, moved_by, overlay_of, CanMoveIn};
-ghost use Rattle.overlay_set.specs.Entries.{HoldSame, numbers_in, passes};
+ghost use Rattle.overlay_set.specs.Entries.{HoldSame};
 
 use crate::bounds::Entry;
 use crate::moves::{move_in, put, take_out};
 use crate::slot::{Change, Question, Slot};
 use crate::tree::{Node, Tree, alone};
-use ek_types::{ListOf, Mem, NoMemory, PropSet, PropVal, Sym};
+use ek_types::{ListOf, Mem, PropSet, PropVal, Sym};
 use std::alloc::Global;
 use std::marker::Model;
 
@@ -73,9 +73,7 @@ impl Overlays {
         let alloc = *self.slots.allocator();
         let number = self.slots.len() as u32;
         let stretch = (buffer, from, to);
-        let Ok(()) = self.slots.reserve(1) else {
-            return Err(NoMemory);
-        };
+        self.slots.reserve(1)?;
         let node = alone(alloc, Entry { number, stretch })?;
         put(&mut self.tree, node);
         self.slots.push_reserved(Slot {

@@ -1,5 +1,5 @@
 //! One process.
-ghost use Rattle.std.specs.Prelude.{◌≡◌, ◌+◌, ◌≤◌, [], ◌++◌, ◌&&◌, true, length, option_map};
+ghost use Rattle.std.specs.Prelude.{◌≡◌, ◌+◌, ◌≤◌, ◌++◌, ◌&&◌, true, length, option_map};
 ghost use Rattle.text_model.specs.Decoding.{characters, tail, all_characters};
 ghost use Rattle.editor_model.specs.Editor.{same_name};
 ghost use Rattle.plain_machine.specs.Calls.{with_filter, with_sentinel, of_buffer, with_input_closed};

@@ -1,5 +1,5 @@
 //! Records of changes.
-ghost use Rattle.std.specs.Prelude.{◌≡◌, ◌^◌, ◌<◌, ◌+◌, IfOk, if◌then◌else◌};
+ghost use Rattle.std.specs.Prelude.{◌≡◌, ◌^◌, ◌<◌, ◌+◌, if◌then◌else◌};
 ghost use Rattle.text_model.specs.Undo.{is_boundary, lies_inside, max_after, ends_at};
 ghost use Rattle.undo_list.specs.Records.{rec_of, size_of, lengthened};
 

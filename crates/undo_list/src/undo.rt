@@ -1,5 +1,5 @@
 //! The undo state of a buffer.
-ghost use Rattle.std.specs.Prelude.{◌≡◌, ℕ, ◌+◌, ◌<◌, ◌≤◌, true, false, if◌then◌else◌, [], length, Result, Ok, Err, OnOk, OnErr, IfOk, IsOk, IsErr, slice_get, Some};
+ghost use Rattle.std.specs.Prelude.{◌≡◌, ℕ, ◌+◌, ◌<◌, ◌≤◌, true, false, if◌then◌else◌, [], length, Ok, Err, OnOk, OnErr, IfOk, IsOk, IsErr, slice_get, Some};
 ghost use Rattle.text_model.specs.Undo.{extends, pushed, with_boundary, started, without_pending, disabled, enabled, pass, passed};
 ghost use Rattle.text_model.specs.Commit.{fresh_group};
 ghost use Rattle.undo_list.specs.Records.{rec_of};

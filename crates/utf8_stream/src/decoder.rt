@@ -78,7 +78,7 @@ impl Decoder {
         self.count = 0;
     }
 
-    // One byte more.
+    /// Appends the characters that are complete with one byte more.
     fn feed_one(&mut self, byte: u8, out: &mut Chars)
         requires { length self.old + 1 ≤ out.old.spare }
         ensures items { out.new.items ≡ out.old.items ++ characters (self.old ++ byte ∷ []) }
@@ -90,6 +90,7 @@ impl Decoder {
         self.hold(open(&joined[..self.count + 1], out));
     }
 
+    /// Holds these bytes in place of the others.
     fn hold(&mut self, bytes: &[u8])
         requires tail { tail bytes.now ≡ bytes.now }
         requires short { length bytes.now ≤ 3 }
@@ -100,7 +101,7 @@ impl Decoder {
     }
 }
 
-// Appends the characters of the bytes without a tail, and gives that tail.
+/// Appends the characters of the bytes without a tail, and gives that tail.
 fn open<'a>(bytes: &'a [u8], out: &mut Chars) -> &'a [u8]
     requires { length bytes.now ≤ out.old.spare }
     ensures items { out.new.items ≡ out.old.items ++ characters bytes.now }

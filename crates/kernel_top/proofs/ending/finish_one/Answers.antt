@@ -1,11 +1,10 @@
-use Rattle.std.proofs.Common.{◌≡◌, ℕ, Bool, true, false, List, [], ◌∷◌, drop, slice_get, refl, ap, sym, ◌∙◌, subst, Ok, Err, arith, append-nil}
-use Rattle.std.specs.Prelude.{Some, None}
+use Rattle.std.proofs.Common.{◌≡◌, true, false, [], ◌∷◌, slice_get, refl, ap, sym, ◌∙◌, subst, arith, append-nil}
+use Rattle.std.specs.Prelude.{Some}
 use Rattle.plain_machine.specs.State.{new_state, Process}
 use Rattle.plain_machine.specs.Arguments.{runs}
 use Rattle.kernel_top.specs.Standing.{stands_at}
 use Rattle.kernel_top.proofs.Killing.{end_skip, hosted_skip, hosted_after, lives, end_broken, end_kills, end_kill_broken}
 use Rattle.kernel_top.proofs.Output.{stood, stopped_by}
-use Rattle.kernel_top.specs.Ending.{IsAtEnd}
 use Rattle.kernel_top.specs.Outside.{outside}
 use Rattle.kernel_top.specs.declared.answer.Stop.TheVariants as stop
 use Rattle.kernel_top.proofs.ending.finish_one.Goals as goal

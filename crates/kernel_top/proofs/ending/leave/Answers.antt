@@ -1,6 +1,4 @@
-use Rattle.std.proofs.Common.{◌≡◌, ℕ, Bool, true, false, List, [], ◌∷◌, length, refl, ap, sym, ◌∙◌, subst, Ok, Err, arith}
-use Rattle.plain_machine.specs.State.{new_state}
-use Rattle.kernel_top.specs.Standing.{stands_at}
+use Rattle.std.proofs.Common.{[], ap, ◌∙◌, Ok, Err, arith}
 use Rattle.kernel_top.proofs.Finishing.{halts_kill}
 use Rattle.kernel_top.proofs.Killing.{one_at_end, ends_whole, ends_broken}
 use Rattle.kernel_top.proofs.Output.{stopped_by}
