@@ -1,9 +1,9 @@
 //! A text, and its calls.
-ghost use Rattle.std.specs.Prelude.{◌≡◌, ℕ, ◌+◌, ◌*◌, ◌<◌, ◌≤◌, [], ◌++◌, length, take, drop, map, IfOk, OnOk, OnErr, IsOk, slice_index, slice_get, Some, None};
+ghost use Rattle.std.specs.Prelude.{◌≡◌, ◌+◌, ◌*◌, ◌<◌, ◌≤◌, [], ◌++◌, length, take, drop, IfOk, OnOk, OnErr, IsOk, slice_index, slice_get, Some, None};
 ghost use Rattle.text_model.specs.Characters.{IsCharacter, code};
-ghost use Rattle.ek_types.specs.Seen.{ch_of, AreCharacters};
-ghost use Rattle.text_pool.specs.Pool.{Pooled, cells_at, IsLive, live};
-ghost use Rattle.gap_text.specs.Blocks.{cells_of, Absent, Apart, AllLive, AllGone, IsRow, SameOutside, OnlyFresh, ChangesCellsOf};
+ghost use Rattle.ek_types.specs.Seen.{ch_of};
+ghost use Rattle.text_pool.specs.Pool.{Pooled, live};
+ghost use Rattle.gap_text.specs.Blocks.{cells_of, Apart, AllGone, IsRow, SameOutside, OnlyFresh, ChangesCellsOf};
 ghost use Rattle.gap_text.specs.Text.{Gapped, codes, characters, LiesIn};
 
 use crate::growth::{blocks_wanted, insert_blocks, make_room};
