@@ -9,7 +9,7 @@ ghost use Rattle.plain_machine.specs.Exchanges.{Spawn, Read, AskEnd, Send, Close
 ghost use Rattle.host_link.specs.Hosts.{Asked, Exchanged, Fits, IsNumbered, after_spawn, spawned_answer, got_answer, ended_answer, send_answer, kill_answer};
 ghost use Rattle.kernel_cli.specs.Answers.{untold, faults_after, of_child, Gives, OutputGives, InputTakes, told_end};
 
-use ek_types::{Mem, NoMemory};
+use ek_types::Mem;
 use host_link::{Ended, Exchanges, Got, Host, KillAnswer, SendAnswer, Spawned};
 use std::alloc::{AllocError, Global};
 use std::io::{self, Read, Write};
@@ -132,9 +132,7 @@ impl<'a, R: Processes> Host for RealHost<'a, R> {
         ensures number { IfOk result (IsNumbered (length self.old.kills.items)) }
         ensures faults { IfOk result (λ answer. self.new.faults ≡ faults_after (spawned_answer answer) self.old.faults) }
     {
-        let Ok(mut command) = command_of(self.alloc, program, args) else {
-            return Err(NoMemory);
-        };
+        let mut command = command_of(self.alloc, program, args)?;
         self.children.reserve(1)?;
         self.kills.reserve(1)?;
         match command.spawn(self.rt) {
