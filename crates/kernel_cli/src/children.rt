@@ -208,6 +208,7 @@ impl<'a, R: Processes> Host for RealHost<'a, R> {
         requires { child < length self.old.kills.items }
         ensures asked { Asked (untold self.old.faults self.old.kills.items) (untold self.new.faults self.new.kills.items)
             (λ _. self.old.kills.items) (Close child) (λ _. Closed) result }
+        ensures faults { self.new.faults ≡ self.old.faults }
         ensures closed { OnOk result (of_child (λ c. c.stdin) self.new.children.items child ≡ None) }
     {
         self.children[child as usize].stdin = None;

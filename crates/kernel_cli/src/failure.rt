@@ -1,4 +1,4 @@
-//! Why a run ended early, as standard error and the exit status tell it.
+//! Why a run ended early, as the line on standard error and the exit status tell it.
 ghost use Rattle.std.specs.Prelude.{◌≡◌, None, Some, MatchResult};
 ghost use Rattle.kernel_cli.specs.Exits.{failure_of, exit_status};
 
@@ -7,15 +7,15 @@ use thiserror::Error;
 
 #[derive(Clone, Copy, Debug, Error)]
 pub enum Failure {
-    #[error("usage")]
+    #[error("kernel_cli: usage")]
     Usage,
-    #[error("script: line {0}")]
+    #[error("kernel_cli: script: line {0}")]
     Script(u32),
-    #[error("read failed")]
+    #[error("kernel_cli: read failed")]
     Read,
-    #[error("write failed")]
+    #[error("kernel_cli: write failed")]
     Write,
-    #[error("out of memory")]
+    #[error("kernel_cli: out of memory")]
     Memory,
 }
 

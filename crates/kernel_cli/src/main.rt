@@ -47,7 +47,7 @@ fn main(rt: HostRuntime) -> ExitCode {
     match work(&rt) {
         Ok(()) => ExitCode::SUCCESS,
         Err(failure) => {
-            let _ = eprintln!(rt; "kernel_cli: {failure}");
+            let _ = eprintln!(rt; "{failure}");
             ExitCode::from(failure.exit_status())
         }
     }

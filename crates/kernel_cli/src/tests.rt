@@ -142,11 +142,11 @@ fn a_long_output_is_read_to_its_end(rt: HostRuntime) -> Result<(), Fail> {
 #[test]
 fn a_failure_is_told_in_a_line(rt: HostRuntime) -> Result<(), Fail> {
     let told = [
-        (Status::Usage, "usage", 1),
-        (Status::Script(0), "script: line 0", 2),
-        (Status::ReadFault, "read failed", 3),
-        (Status::WriteFault, "write failed", 4),
-        (Status::NoMemory, "out of memory", 5),
+        (Status::Usage, "kernel_cli: usage", 1),
+        (Status::Script(0), "kernel_cli: script: line 0", 2),
+        (Status::ReadFault, "kernel_cli: read failed", 3),
+        (Status::WriteFault, "kernel_cli: write failed", 4),
+        (Status::NoMemory, "kernel_cli: out of memory", 5),
     ];
     for (status, line, exit_status) in told {
         let Err(failure) = result_of(status) else {
