@@ -1,7 +1,8 @@
 //! The primitive calls.
-ghost use Rattle.std.specs.Prelude.{◌≡◌, map, IfSome};
+ghost use Rattle.std.specs.Prelude.{◌≡◌, map, IfSome, Some};
 ghost use Rattle.std.specs.Option.{option_map};
 ghost use Rattle.editor_model.specs.Prims.{word, arity};
+ghost use Rattle.editor_model.specs.Values.{Prim as Meant};
 ghost use Rattle.ek_call.specs.Primitives.{prim_of, named, named_in};
 
 /// A primitive call of the editor, named as in the GNU Emacs Lisp Reference Manual.
@@ -213,6 +214,7 @@ impl Primitive {
     pub fn find(name: &str) -> Option<Primitive>
         ensures exact { option_map prim_of result ≡ named name.now }
         ensures word { IfSome result (λ p. word (prim_of p) ≡ name.now) }
+        ensures every { (p : Meant) → word p ≡ name.now → option_map prim_of result ≡ Some p }
     {
         first_named(&EVERY_CALL, name)
     }

@@ -3,6 +3,7 @@ use Rattle.std.proofs.Common.{◌≡◌, ℕ, zero, suc, ◌+◌, ◌<◌, ◌�
 use Rattle.std.proofs.lemmas.List.{map-append, map-set, reverse-append}
 use Rattle.std.proofs.lemmas.List.Elements.{All-append, All-cons, All-head, All-nil, All-tail}
 use Rattle.std.proofs.lemmas.Option.{slice_get-map, slice_get-get_or}
+use Rattle.text_model.proofs.Lists.{All-slice_get}
 
 -- the first of them are moved
 abbrev pub first_moved : {A : Type 0} → (A → A) → ℕ → List A → List A
@@ -15,11 +16,6 @@ all_moved move zero [] h = refl
 all_moved move zero (x ∷ xs) h = absurd (omega arith)
 all_moved move (suc i) [] h = refl
 all_moved move (suc i) (x ∷ xs) h = ap (λ ys. move x ∷ ys) (all_moved move i xs (omega arith))
-
-length-first_moved : {A : Type 0} (move : A → A) (i : ℕ) (xs : List A) → length (first_moved move i xs) ≡ length xs
-length-first_moved move zero xs = refl
-length-first_moved move (suc i) [] = refl
-length-first_moved move (suc i) (x ∷ xs) = ap suc (length-first_moved move i xs)
 
 -- the next is still where it was
 next_as_it_was : {A : Type 0} (move : A → A) (i : ℕ) (xs : List A) → slice_get (first_moved move i xs) i ≡ slice_get xs i
@@ -50,11 +46,6 @@ next_moved see move items olds i d y within e same =
 -- at the end of the loop
 pub moved_at_end : {A B : Type 0} (see : A → B) (move : B → B) (items : List A) (olds : List B) (i : ℕ) → length olds ≤ i → map see items ≡ first_moved move i olds → map see items ≡ map move olds
 moved_at_end see move items olds i past same = same ∙ all_moved move i olds past
-
-All-slice_get : {A : Type 0} (P : A → Type 0) (xs : List A) (i : ℕ) (x : A) → All P xs → slice_get xs i ≡ Some x → P x
-All-slice_get P [] i x h e = cc
-All-slice_get P (y ∷ xs) zero x h e = let same : y ≡ x = cc in subst P same (All-head P y xs h)
-All-slice_get P (y ∷ xs) (suc i) x h e = All-slice_get P xs i x (All-tail P y xs h) e
 
 -- what holds of all that was there holds of the next
 pub next_holds : {A B : Type 0} (P : B → Type 0) (see : A → B) (move : B → B) (items : List A) (olds : List B) (i : ℕ) (d : A) → i < length items → All P olds → map see items ≡ first_moved move i olds → P (see (get_or items i d))

@@ -5,8 +5,10 @@ use Rattle.std.proofs.lemmas.Iterator.Adapters.{position_from-zero}
 use Rattle.std.proofs.lemmas.Bool.Decides.{Decides-eqb}
 use Rattle.std.proofs.lemmas.Slice.Eq.{bytes_eq-Decides}
 use Rattle.std.proofs.lemmas.List.{length-map}
+use Rattle.text_model.specs.Names.{same_word, number_from, with_name}
+use Rattle.text_model.proofs.Cases.{same_tests}
 use Rattle.indexmap.specs.IndexSet.{insert_key}
-use Rattle.ek_types.specs.Names.{same_word, number_from, number_in, with_name, AreNumbered}
+use Rattle.ek_types.specs.Names.{number_in, AreNumbered}
 
 -- SAME WORDS
 pub same_word-true : (a b : List ℕ) → same_word a b ≡ true → a ≡ b
@@ -19,16 +21,9 @@ pub same_word-itself : (a : List ℕ) → same_word a a ≡ true
 same_word-itself [] = refl
 same_word-itself (x ∷ a) = grind (arith, Decides-eqb x x, same_word-itself a)
 
--- two tests of the same fact agree
-agreeing : (p q : Bool) → (p ≡ true → q ≡ true) → (q ≡ true → p ≡ true) → p ≡ q
-agreeing true true f g = refl
-agreeing false false f g = refl
-agreeing true false f g = sym (f refl)
-agreeing false true f g = g refl
-
 pub same_word-bytes_eq : (a b : List ℕ) → same_word a b ≡ bytes_eq b a
 same_word-bytes_eq a b =
-    agreeing _ _
+    same_tests _ _
     (λ e. (bytes_eq-Decides b a).1 (sym (same_word-true a b e)))
     (λ e. rw ((bytes_eq-Decides b a).0 e) (same_word-itself a))
 

@@ -1,8 +1,8 @@
 -- Writes that follow one another.
-use Rattle.std.proofs.Common.{◌≡◌, ℕ, List, [], ◌++◌, take, drop, Result, Ok, Err, Some, None, sym, ap, ◌∙◌, append_assoc, arith, refl, length-append, take-append-drop}
+use Rattle.std.proofs.Common.{◌≡◌, ℕ, List, ◌++◌, take, drop, Result, Ok, Err, Some, None, sym, ap, ◌∙◌, append_assoc, arith, refl, length-append, take-append-drop}
 use Rattle.std.specs.declared.option.Option.{Option}
 use Rattle.std.specs.Io.KnownBytes.{Appends, Keeps}
-use Rattle.std.proofs.KnownBytes.{Appends-trans, Appends-nil}
+use Rattle.std.proofs.KnownBytes.{Appends-trans}
 use Rattle.ek_types.specs.Io.{SinkState, Writes, Continues, ContinuesBy, IsPrefixOf}
 
 pub take_is_prefix : (i : ℕ) (xs : List ℕ) → IsPrefixOf (take i xs) xs
@@ -19,10 +19,6 @@ prefix_then a b w (rest, e) = (rest, ap (λ l. a ++ l) e ∙ sym (append_assoc a
 
 pub prefix_more : (a b w : List ℕ) → IsPrefixOf w a → IsPrefixOf w (a ++ b)
 prefix_more a b w (rest, e) = (rest ++ b, ap (λ l. l ++ b) e ∙ append_assoc w rest b)
-
--- nothing written
-pub writes_nothing : {T E : Type 0} (x : T) (s : SinkState) → Writes {E = E} s s (Ok x) []
-writes_nothing x s = record { ok = Appends-nil s.held; err = tt; later = omega arith; rose = tt; roomy = λ h. record { ok = refl; faults = refl; room = omega arith } }
 
 -- a failure ends the writing there, whatever was to follow
 pub writes_stop : {T U E F : Type 0} (e : E) (f : F) (old new : SinkState) (a b : List ℕ) → Writes {T = T} old new (Err e) a → Writes {T = U} old new (Err f) (a ++ b)
@@ -77,14 +73,6 @@ continues_then h k = record { by = by_then _ _ _ _ _ _ _ _ h.by k.by }
 
 pub continues_same : {T U E F : Type 0} {q : Result T E} {r : Result U F} {old new : SinkState} {a b : List ℕ} → a ≡ b → Continues q r old new a → Continues q r old new b
 continues_same e p = rw (← e) p
-
-nothing_by : {T E : Type 0} (q : Result T E) (s : SinkState) → ContinuesBy q q s s []
-nothing_by (Ok x) s = writes_nothing x s
-nothing_by (Err e) s = refl
-
--- printing nothing
-pub continues_nothing : {T E : Type 0} (q : Result T E) (s : SinkState) → Continues q q s s []
-continues_nothing q s = record { by = nothing_by q s }
 
 -- printing that begins with no failure so far writes
 pub writes_of : {T U E F : Type 0} {x : T} {r : Result U F} {old new : SinkState} {a : List ℕ} → Continues {E = E} (Ok x) r old new a → Writes old new r a

@@ -6,7 +6,8 @@ use Rattle.std.proofs.lemmas.List.{map-append, take-map, drop-map}
 use Rattle.std.proofs.lemmas.Bool.{eqb-true, eqb-false, eq-eqb, ne_eqb, ltb-true, ltb-false}
 use Rattle.text_model.specs.Properties.{PropVal, Symbols, PropSet, without, with_value, given}
 use Rattle.text_model.specs.Ordered.{Rising, IsValue, HasValues, IsProper}
-use Rattle.text_model.proofs.Sets.{by_test, rising-without, rising-with_value}
+use Rattle.text_model.proofs.Sets.{rising-without, rising-with_value}
+use Rattle.text_model.proofs.Cases.{by_test}
 use Rattle.ek_types.specs.Property.{is_before, without_first}
 
 -- IN PARTS

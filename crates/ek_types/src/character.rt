@@ -1,6 +1,6 @@
 //! Characters: Unicode scalar values, and raw bytes that are part of none.
 ghost use Rattle.std.specs.Prelude.{◌≡◌, ◌≤◌, option_map, nat_le, take, drop, if◌then◌else◌, Some, None};
-ghost use Rattle.text_model.specs.Characters.{IsCharacter, code, from_code, encoded, Raw};
+ghost use Rattle.text_model.specs.Characters.{code, from_code, encoded, Raw};
 ghost use Rattle.ek_types.specs.Seen.{ch_of};
 
 /// A character of a text: a Unicode scalar value, or a byte of malformed input, as the GNU Emacs Lisp Reference
@@ -26,7 +26,7 @@ impl Ch {
         }
     }
 
-    /// The scalar value, or 0x3FFF00 and the byte.
+    /// The scalar value, or for a raw byte 0x3FFF00 plus the byte.
     pub fn code(self) -> u32
         ensures { result ≡ code (ch_of self) }
     {
@@ -36,7 +36,8 @@ impl Ch {
         }
     }
 
-    /// The character of a code; `None` for a code that no character has.
+    /// The character of a code, or `None` where no character has it: a code from 0xD800 to 0xDFFF, from 0x110000 to
+    /// 0x3FFF7F, or above 0x3FFFFF.
     pub fn from_code(code: u32) -> Option<Ch>
         ensures exact { option_map ch_of result ≡ from_code code }
     {

@@ -1,10 +1,10 @@
 //! A list of characters with a spare.
-ghost use Rattle.std.specs.Prelude.{◌≡◌, ℕ, ◌+◌, ◌<◌, ◌≤◌, length, [], ◌∷◌, ◌++◌, OnOk, OnErr, IfOk, IsOk, slice_get, Some, ◌==◌};
+ghost use Rattle.std.specs.Prelude.{◌≡◌, ◌+◌, ◌<◌, ◌≤◌, length, [], ◌∷◌, ◌++◌, OnOk, OnErr, IfOk, IsOk, slice_get, Some, ◌==◌};
 ghost use Rattle.text_model.specs.Characters.{IsCharacter};
 ghost use Rattle.ek_types.specs.Seen.{ch_of};
 
 use crate::character::Ch;
-use crate::memory::{Mem, NoMemory};
+use crate::memory::Mem;
 use std::alloc::Global;
 use std::marker::Model;
 
@@ -46,23 +46,24 @@ impl Chars {
         ensures kept { self.old.spare ≤ self.new.spare }
         ensures had { n ≤ self.old.spare → IsOk result }
     {
-        match self.items.reserve(n) {
-            Ok(()) => Ok(()),
-            Err(_) => Err(NoMemory),
-        }
+        self.items.reserve(n)?;
+        Ok(())
     }
 
-    /// Puts a character behind the others. A refusal leaves them as they were.
+    /// Puts a character behind the others; a raw byte is 0x80 or more. A refusal leaves them as they were and the spare
+    /// no smaller.
     pub fn push(&mut self, c: Ch) -> Mem<()>
         requires { IsCharacter (ch_of c) }
         ensures ok { OnOk result (self.new.items ≡ self.old.items ++ ch_of c ∷ []) }
+        ensures room { OnOk result (self.old.spare ≤ self.new.spare + 1) }
         ensures err { OnErr result (self.new.items ≡ self.old.items) }
+        ensures kept { OnErr result (self.old.spare ≤ self.new.spare) }
     {
         self.items.push(c)?;
         Ok(())
     }
 
-    /// Puts a character behind the others, with no memory taken.
+    /// Puts a character behind the others, with no memory taken. There must be spare, which falls by one.
     pub fn push_spare(&mut self, c: Ch)
         requires character { IsCharacter (ch_of c) }
         requires room { 0 < self.old.spare }
@@ -72,18 +73,21 @@ impl Chars {
         self.items.push_reserved(c);
     }
 
+    /// How many characters there are.
     pub fn len(&self) -> usize
         ensures { result ≡ length self.now.items }
     {
         self.items.len()
     }
 
+    /// Whether there are none.
     pub fn is_empty(&self) -> bool
         ensures { result ≡ (length self.now.items == 0) }
     {
         self.items.is_empty()
     }
 
+    /// The character at place `i`, which is below the length.
     pub fn at(&self, i: usize) -> Ch
         requires { i < length self.now.items }
         ensures item { slice_get self.now.items i ≡ Some (ch_of result) }
@@ -96,9 +100,7 @@ impl Chars {
     pub fn copy(&self) -> Mem<Chars>
         ensures { IfOk result (λ c. c.items ≡ self.now.items) }
     {
-        match self.items.clone() {
-            Ok(items) => Ok(Chars { items }),
-            Err(_) => Err(NoMemory),
-        }
+        let items = self.items.clone()?;
+        Ok(Chars { items })
     }
 }

@@ -32,7 +32,8 @@ pub trait Source {
     /// What is left, the count of faults, and whether it is known that no call fails from here on.
     ghost state: { Self → SourceState };
 
-    /// Moves the first bytes of what is left to the front of `into`. `End` and `Failed` leave what is left.
+    /// Moves the first bytes of what is left to the front of `into`, which isn't empty. `End` and `Failed` leave what is
+    /// left.
     fn read(&mut self, into: &mut [u8]) -> Took
         requires { 0 < length into.old }
         ensures bytes { Takes (state self.old).left (state self.new).left into.new result }
@@ -46,7 +47,7 @@ pub trait Sink {
     /// What it holds, the count of faults, and how many more bytes it is known to take with no call failing.
     ghost state: { Self → SinkState };
 
-    /// Takes the first bytes of `from` behind what it holds. `Failed` leaves what it holds.
+    /// Takes the first bytes of `from`, which isn't empty, behind what it holds. `Failed` leaves what it holds.
     fn write(&mut self, from: &[u8]) -> Wrote
         requires { 0 < length from.now }
         ensures bytes { Puts (state self.old).held (state self.new).held from.now result }

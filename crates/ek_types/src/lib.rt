@@ -23,7 +23,7 @@ pub use io::{Sink, SinkFault, Source, Took, Wrote};
 pub use list::{Copied, ListOf};
 pub use memory::{Mem, NoMemory};
 pub use memory_io::{MemorySink, MemorySource};
-pub use piece::{Piece, Run};
+pub use piece::Piece;
 pub use places::{place_after_delete, place_after_insert};
 pub use prop_set::PropSet;
 pub use property::{PropVal, SymList};

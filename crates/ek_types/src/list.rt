@@ -2,7 +2,7 @@
 ghost use Rattle.std.specs.Prelude.{◌≡◌, ℕ, ◌+◌, ◌<◌, ◌≤◌, [], ◌∷◌, ◌++◌, length, IfOk, IsOk, OnOk, OnErr, slice_get, Some, List, map};
 ghost use Rattle.ek_types.specs.Listing.{items_of, spare_of};
 
-use crate::memory::{Mem, NoMemory};
+use crate::memory::Mem;
 use std::alloc::Global;
 
 /// A value that can be copied where memory allows it.
@@ -12,6 +12,7 @@ pub trait Copied: Sized {
 
     ghost seen: { Self → Seen };
 
+    /// The same value again.
     fn copy(&self) -> Mem<Self>
         ensures { IfOk result (λ c. seen c ≡ seen self.now) };
 }
@@ -39,10 +40,8 @@ impl<T> ListOf<T> {
         ensures kept { spare_of self.old ≤ spare_of self.new }
         ensures had { n ≤ spare_of self.old → IsOk result }
     {
-        match self.items.reserve(n) {
-            Ok(()) => Ok(()),
-            Err(_) => Err(NoMemory),
-        }
+        self.items.reserve(n)?;
+        Ok(())
     }
 
     /// The allocator that the list keeps.
@@ -50,18 +49,21 @@ impl<T> ListOf<T> {
         *self.items.allocator()
     }
 
+    /// How many items there are.
     pub fn len(&self) -> usize
         ensures { result ≡ length (items_of self.now) }
     {
         self.items.len()
     }
 
+    /// All items.
     pub fn as_slice(&self) -> &[T]
         ensures { result.now ≡ items_of self.now }
     {
         self.items.as_slice()
     }
 
+    /// The item at place `i`, which is below the length.
     pub fn at(&self, i: usize) -> &T
         requires { i < length (items_of self.now) }
         ensures { slice_get (items_of self.now) i ≡ Some result.now }
@@ -69,7 +71,7 @@ impl<T> ListOf<T> {
         &self.items[i]
     }
 
-    /// Puts an item behind the others, with no memory taken.
+    /// Puts an item behind the others, with no memory taken. There must be spare, which falls by one.
     pub fn push_spare(&mut self, x: T)
         requires { 0 < spare_of self.old }
         ensures items { items_of self.new ≡ items_of self.old ++ x ∷ [] }
@@ -80,15 +82,15 @@ impl<T> ListOf<T> {
 }
 
 impl<T: Drop> ListOf<T> {
-    /// Puts an item behind the others. A refusal leaves the list as it was.
+    /// Puts an item behind the others. A refusal leaves the list as it was and the spare no smaller.
     pub fn push(&mut self, x: T) -> Mem<()>
         ensures ok { OnOk result (items_of self.new ≡ items_of self.old ++ x ∷ []) }
+        ensures room { OnOk result (spare_of self.old ≤ spare_of self.new + 1) }
         ensures err { OnErr result (items_of self.new ≡ items_of self.old) }
+        ensures kept { OnErr result (spare_of self.old ≤ spare_of self.new) }
     {
-        match self.items.push(x) {
-            Ok(()) => Ok(()),
-            Err(_) => Err(NoMemory),
-        }
+        self.items.push(x)?;
+        Ok(())
     }
 }
 

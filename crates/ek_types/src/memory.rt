@@ -1,5 +1,4 @@
 //! Want of memory, the one answer that is always free.
-ghost use Rattle.std.specs.Prelude.{◌≡◌};
 
 use std::alloc::{AllocError, AllocFailed};
 

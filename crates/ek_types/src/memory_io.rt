@@ -4,7 +4,7 @@ ghost use Rattle.ek_types.specs.Io.{HasCause, Takes, Puts, StaysUnfailing, Stays
 ghost use Rattle.ek_types.specs.MemoryIo.{MemorySourceState, MemorySinkState, fails_at, source_state, sink_state, read_answer, after_read, room_after_read, write_answer, after_write};
 
 use crate::io::{Sink, Source, Took, Wrote};
-use crate::memory::{Mem, NoMemory};
+use crate::memory::Mem;
 use std::alloc::Global;
 use std::marker::Model;
 
@@ -28,8 +28,8 @@ impl Model for MemorySource {
 }
 
 impl MemorySource {
-    /// A source that gives at most `piece` bytes in a call, and fails at the calls whose numbers, from 0, stand in
-    /// `fails`.
+    /// A source that gives at most `piece` bytes in a call (`piece` is 1 or more), and fails at the calls whose numbers,
+    /// from 0, stand in `fails`.
     pub fn new(bytes: Vec<u8>, piece: usize, fails: Vec<u32>) -> MemorySource
         requires { 0 < piece }
         ensures { result ≡ record { left = bytes.items; piece = piece; fails = fails.items; calls = 0; faults = 0 } }
@@ -103,23 +103,20 @@ impl Model for MemorySink {
 }
 
 impl MemorySink {
-    /// A sink that holds at most `room` bytes, takes at most `piece` in a call, and fails where it is full and at the
-    /// calls whose numbers, from 0, stand in `fails`.
+    /// A sink that holds at most `room` bytes, takes at most `piece` in a call (`piece` is 1 or more), and fails where it
+    /// is full and at the calls whose numbers, from 0, stand in `fails`. All memory is taken here.
     pub fn new(alloc: Global, room: usize, piece: usize, fails: Vec<u32>) -> Mem<MemorySink>
         requires { 0 < piece }
         ensures { IfOk result (λ s. s ≡ record { held = []; limit = room; piece = piece; fails = fails.items; calls = 0; faults = 0 }) }
     {
-        match Vec::with_capacity(alloc, room) {
-            Ok(bytes) => Ok(MemorySink {
-                bytes,
-                room,
-                piece,
-                fails,
-                calls: 0,
-                faults: 0,
-            }),
-            Err(_) => Err(NoMemory),
-        }
+        Ok(MemorySink {
+            bytes: Vec::with_capacity(alloc, room)?,
+            room,
+            piece,
+            fails,
+            calls: 0,
+            faults: 0,
+        })
     }
 
     /// What it holds.

@@ -1,5 +1,5 @@
 //! Pieces of text: characters with their properties.
-ghost use Rattle.std.specs.Prelude.{◌≡◌, ℕ, ◌<◌, ◌≤◌, length, map, [], ◌++◌, IfOk, OnOk, OnErr, slice_get, Some, option_map, ◌==◌};
+ghost use Rattle.std.specs.Prelude.{◌≡◌, ℕ, ◌<◌, ◌≤◌, length, [], ◌++◌, IfOk, OnOk, OnErr, slice_get, Some, option_map, ◌==◌};
 ghost use Rattle.std.specs.List.{prefix_len};
 ghost use Rattle.text_model.specs.Properties.{bare, with_sets, edited, Replace};
 ghost use Rattle.text_model.specs.Characters.{IsCharacter};
@@ -135,19 +135,21 @@ impl Piece {
         }
     }
 
+    /// How many characters there are.
     pub fn len(&self) -> usize
         ensures { result ≡ length self.now }
     {
         self.text.len()
     }
 
+    /// Whether there are none.
     pub fn is_empty(&self) -> bool
         ensures { result ≡ (length self.now == 0) }
     {
         self.text.len() == 0
     }
 
-    /// The character at a place.
+    /// The character at place `i`, which is below the length.
     pub fn ch(&self, i: usize) -> Ch
         requires { i < length self.now }
         ensures item { option_map (λ c. c.0) (slice_get self.now i) ≡ Some (ch_of result) }
@@ -156,7 +158,7 @@ impl Piece {
         self.text.at(i)
     }
 
-    /// The property set of the character at a place.
+    /// The property set of the character at place `i`, which is below the length.
     pub fn props(&self, i: usize) -> &PropSet
         requires { i < length self.now }
         ensures { option_map (λ c. c.1) (slice_get self.now i) ≡ Some result.now }
@@ -164,8 +166,8 @@ impl Piece {
         set_of(&self.runs, &self.nothing, ending_by(&self.runs, i))
     }
 
-    /// Gives each character from one place to another this property set in place of its own. Want of memory leaves
-    /// the piece as it was.
+    /// Gives each character from place `from` to the one before place `to` this property set in place of its own. `from`
+    /// is at most `to`, and `to` at most the length. Want of memory leaves the piece as it was.
     pub fn put(&mut self, from: usize, to: usize, set: &PropSet) -> Mem<()>
         requires { (from ≤ to) × (to ≤ length self.old) }
         ensures ok { OnOk result (self.new ≡ with_sets from to (edited (Replace set.now)) self.old) }

@@ -4,7 +4,7 @@ ghost use Rattle.std.specs.Prelude.{◌≡◌, ◌+◌, ◌≤◌};
 ghost use Rattle.text_model.specs.Places as places;
 
 /// Where `place` stands after `n` characters were put in at `at`. A place just there goes behind them where it
-/// `advances` (GNU Emacs Lisp Reference Manual, Marker Insertion Types).
+/// `advances` (GNU Emacs Lisp Reference Manual, Marker Insertion Types). `n` plus the place is at most the last `usize`.
 pub fn place_after_insert(at: usize, n: usize, advances: bool, place: usize) -> usize
     requires { n + place ≤ usize.MAX }
     ensures { result ≡ places.after_insert at n advances place }
@@ -16,7 +16,7 @@ pub fn place_after_insert(at: usize, n: usize, advances: bool, place: usize) -> 
     }
 }
 
-/// Where `place` stands after the part from `from` to `to` was deleted.
+/// Where `place` stands after the part from `from` to `to`, which isn't smaller, was deleted.
 pub fn place_after_delete(from: usize, to: usize, place: usize) -> usize
     requires { from ≤ to }
     ensures { result ≡ places.after_delete from to place }

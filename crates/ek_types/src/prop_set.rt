@@ -1,5 +1,5 @@
 //! Property sets.
-ghost use Rattle.std.specs.Prelude.{◌≡◌, [], ◌++◌, IfOk, OnOk, OnErr, option_map, length, map, take, drop, slice_get, Some, ◌<◌, ◌≤◌};
+ghost use Rattle.std.specs.Prelude.{◌≡◌, [], ◌++◌, IfOk, OnOk, option_map, length, map, drop, slice_get, Some, ◌<◌, ◌≤◌};
 ghost use Rattle.std.specs.List.{prefix_len};
 ghost use Rattle.text_model.specs.Properties.{get, put, with_value, without, given};
 ghost use Rattle.text_model.specs.Ordered.{IsProper};
@@ -111,7 +111,7 @@ impl PropSet {
         self.pairs.len()
     }
 
-    /// The property at a place, counted from 0, by rising number of the name.
+    /// The property at place `i`, counted from 0 and below the length, by rising number of the name.
     pub fn at(&self, i: usize) -> (Sym, &PropVal)
         requires { i < length self.now }
         ensures { slice_get self.now i ≡ Some (number_of result.0, prop_of result.1.now) }

@@ -1,10 +1,11 @@
 //! Names and their numbers.
 ghost use Rattle.std.specs.Prelude.{◌≡◌, ℕ, ◌+◌, ◌<◌, ◌^◌, length, List, [], ◌∷◌, ◌++◌, map, Some, None, IfOk, OnOk, OnErr, slice_get, string_bytes};
 ghost use Rattle.std.specs.Option.{option_map};
+ghost use Rattle.text_model.specs.Names.{first_symbols, with_name};
 ghost use Rattle.ek_types.specs.Property.{number_of};
-ghost use Rattle.ek_types.specs.Names.{first_symbols, number_in, with_name, AreNumbered};
+ghost use Rattle.ek_types.specs.Names.{number_in, AreNumbered};
 
-use crate::memory::{Mem, NoMemory};
+use crate::memory::Mem;
 use indexmap::IndexSet;
 use std::alloc::Global;
 use std::marker::Model;
@@ -74,7 +75,7 @@ impl Symbols {
         }
     }
 
-    /// The name of a symbol.
+    /// The name of a symbol, whose number is below the count.
     pub fn name(&self, s: Sym) -> &str
         requires { s.0 < length self.now }
         ensures { slice_get self.now s.0 ≡ Some result.now }
@@ -82,7 +83,8 @@ impl Symbols {
         self.names.get_index(s.0 as usize).unwrap().as_str()
     }
 
-    /// The symbol of a name, which gets the next number where it has none. Want of memory leaves the names as they were.
+    /// The symbol of a name, which gets the next number where it has none. There are fewer than 2^32 - 1 names before.
+    /// Want of memory leaves the names as they were.
     pub fn intern(&mut self, name: &str) -> Mem<Sym>
         requires { length self.old + 1 < 2 ^ 32 }
         ensures names { OnOk result (self.new ≡ with_name self.old name.now) }
@@ -100,7 +102,7 @@ impl Symbols {
         }
     }
 
-    // A name that has no number gets the next one.
+    /// Gives a name that has no number the next one.
     fn put_last(&mut self, name: &str) -> Mem<()>
         requires absent { number_in self.old name.now ≡ None }
         requires room { length self.old + 1 < 2 ^ 32 }
@@ -116,10 +118,8 @@ impl Symbols {
     pub fn copy(&self) -> Mem<Symbols>
         ensures { IfOk result (λ s. s ≡ self.now) }
     {
-        match self.names.clone() {
-            Ok(names) => Ok(Symbols { names }),
-            Err(_) => Err(NoMemory),
-        }
+        let names = self.names.clone()?;
+        Ok(Symbols { names })
     }
 }
 

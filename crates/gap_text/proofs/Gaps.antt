@@ -1,35 +1,53 @@
 -- A gap that moves among cells.
-use Rattle.std.proofs.Common.{◌≡◌, ℕ, ◌+◌, ◌-◌, ◌<◌, ◌≤◌, List, [], ◌∷◌, ◌++◌, length, get_or, set, take, drop, refl, sym, ap, ◌∙◌, arith, append_assoc}
-use Rattle.std.proofs.lemmas.List.{take_more, take_more_set, take-set-le, drop_more, drop-set, drop-set-lt, take_at, drop_at, take-take, take-append-le, drop-drop, length-take-le}
+use Rattle.std.proofs.Common.{take-add, ◌≡◌, ℕ, ◌+◌, ◌-◌, ◌≤◌, List, ◌++◌, length, take, drop, refl, sym, ap, ◌∙◌, arith, append_assoc}
+use lib.Seq.{paste, take-append-add}
+use Rattle.std.proofs.lemmas.List.{take_at, drop_at, take-take, take-append-le, take-append-drop, drop-drop, length-take-le, length-drop}
+use Rattle.std.proofs.lemmas.List.Edits.{take-paste, drop-paste}
 use Rattle.gap_text.specs.Text.{without_gap}
 
--- the cell before the gap goes behind it
-pub gap_steps_left : (found : List ℕ) (p s : ℕ) → p + 1 + s ≤ length found
-    → without_gap p s (set found (p + s) (get_or found p 0)) ≡ without_gap (p + 1) s found
-gap_steps_left found p s h =
-    let a : take p (set found (p + s) (get_or found p 0)) ≡ take p found = take-set-le p found (p + s) (get_or found p 0) (omega arith) in
-    let b : drop (p + s) (set found (p + s) (get_or found p 0)) ≡ get_or found p 0 ∷ drop (p + s + 1) found = drop-set found (p + s) (get_or found p 0) (omega arith) in
-    let e : take (p + 1) found ≡ take p found ++ get_or found p 0 ∷ [] = take_more found p 0 (omega arith) in
-    let n : p + 1 + s ≡ p + s + 1 = omega arith in
-    rw (a, b, e, n, append_assoc (take p found) (get_or found p 0 ∷ []) (drop (p + s + 1) found)) refl
+-- the cells before the gap go behind it
+pub gap_moves_left : (found : List ℕ) (p s n : ℕ) → p + n + s ≤ length found
+    → without_gap p s (paste found (p + s) (drop p found) n) ≡ without_gap (p + n) s found
+gap_moves_left found p s n h =
+    let on : p + s + n ≡ p + n + s = omega arith in
+    let enough : length (drop p found) ≡ length found - p = length-drop p found in
+    let head : length (take (p + s) found) ≡ p + s = length-take-le (p + s) found (omega arith) in
+    let front : take p (take (p + s) found ++ take n (drop p found) ++ drop (p + s + n) found) ≡ take p found
+    = ap (take p) (append_assoc (take (p + s) found) (take n (drop p found)) (drop (p + s + n) found))
+    ∙ take-append-le p (take (p + s) found) (take n (drop p found) ++ drop (p + s + n) found) (omega arith)
+    ∙ take-take p (p + s) found (omega arith) in
+    let back : drop (p + s) (take (p + s) found ++ take n (drop p found) ++ drop (p + s + n) found) ≡ take n (drop p found) ++ drop (p + s + n) found
+    = ap (drop (p + s)) (append_assoc (take (p + s) found) (take n (drop p found)) (drop (p + s + n) found))
+    ∙ drop_at (take (p + s) found) (take n (drop p found) ++ drop (p + s + n) found) (p + s) head in
+    rw (front, back, take-add p n found, on) (sym (append_assoc (take p found) (take n (drop p found)) (drop (p + n + s) found)))
 
--- the cell behind the gap goes before it
-pub gap_steps_right : (found : List ℕ) (p s : ℕ) → p + s < length found
-    → without_gap (p + 1) s (set found p (get_or found (p + s) 0)) ≡ without_gap p s found
-gap_steps_right found p s h =
-    let a : take (p + 1) (set found p (get_or found (p + s) 0)) ≡ take p found ++ get_or found (p + s) 0 ∷ [] = take_more_set found p (get_or found (p + s) 0) (omega arith) in
-    let b : drop (p + 1 + s) (set found p (get_or found (p + s) 0)) ≡ drop (p + 1 + s) found = drop-set-lt (p + 1 + s) found p (get_or found (p + s) 0) (omega arith) in
-    let e : drop (p + s) found ≡ get_or found (p + s) 0 ∷ drop (p + s + 1) found = drop_more found (p + s) 0 h in
-    let n : p + 1 + s ≡ p + s + 1 = omega arith in
-    rw (a, b, e, n, append_assoc (take p found) (get_or found (p + s) 0 ∷ []) (drop (p + s + 1) found)) refl
+-- the cells behind the gap go before it
+pub gap_moves_right : (found : List ℕ) (p s n : ℕ) → p + s + n ≤ length found
+    → without_gap (p + n) s (paste found p (drop (p + s) found) n) ≡ without_gap p s found
+gap_moves_right found p s n h =
+    let on : p + n + s ≡ p + s + n = omega arith in
+    let enough : length (drop (p + s) found) ≡ length found - (p + s) = length-drop (p + s) found in
+    let front : take (p + n) (paste found p (drop (p + s) found) n) ≡ take p found ++ take n (drop (p + s) found)
+    = take-paste found p (drop (p + s) found) n (omega arith) (omega arith) in
+    let back : drop (p + n + s) (paste found p (drop (p + s) found) n) ≡ drop n (drop (p + s) found)
+    = sym (drop-drop s (p + n) (paste found p (drop (p + s) found) n))
+    ∙ ap (drop s) (drop-paste found p (drop (p + s) found) n (omega arith) (omega arith))
+    ∙ drop-drop s (p + n) found ∙ ap (λ k. drop k found) on ∙ sym (drop-drop n (p + s) found) in
+    rw (front, back) (append_assoc (take p found) (take n (drop (p + s) found)) (drop n (drop (p + s) found))
+    ∙ ap (λ xs. take p found ++ xs) (take-append-drop n (drop (p + s) found)))
 
 pub drop_over : (xs ys : List ℕ) (p k : ℕ) → length xs ≡ p → drop (p + k) (xs ++ ys) ≡ drop k ys
 drop_over xs ys p k n = sym (drop-drop k p (xs ++ ys)) ∙ ap (λ l. drop k l) (drop_at xs ys p n)
 
-drop_past : (xs ys : List ℕ) (p to : ℕ) → length xs ≡ p → p ≤ to → drop to (xs ++ ys) ≡ drop (to - p) ys
+pub drop_past : (xs ys : List ℕ) (p to : ℕ) → length xs ≡ p → p ≤ to → drop to (xs ++ ys) ≡ drop (to - p) ys
 drop_past xs ys p to n k =
     let e : to ≡ p + (to - p) = omega arith in
     ap (λ n. drop n (xs ++ ys)) e ∙ drop_over xs ys p (to - p) n
+
+pub take_past : (xs ys : List ℕ) (p to : ℕ) → length xs ≡ p → p ≤ to → take to (xs ++ ys) ≡ xs ++ take (to - p) ys
+take_past xs ys p to n k =
+    let e : to ≡ length xs + (to - p) = omega arith in
+    ap (λ m. take m (xs ++ ys)) e ∙ take-append-add xs ys (to - p)
 
 same_end : (p s to : ℕ) → p ≤ to → p + s + (to - p) ≡ to + s
 same_end p s to k = omega arith

@@ -1,5 +1,6 @@
 -- The steps of the loops that move a gap and that write into it.
-use Rattle.std.proofs.Common.{add-zero, slice_get, Some, ◌≡◌, ℕ, ◌+◌, ◌-◌, ◌*◌, ◌<◌, ◌≤◌, List, [], ◌∷◌, ◌++◌, length, get_or, set, take, drop, map, refl, ap, ◌∙◌, arith, append_assoc}
+use Rattle.std.proofs.Common.{add-zero, slice_get, Some, ◌≡◌, ℕ, ◌+◌, ◌-◌, ◌*◌, ◌<◌, ◌≤◌, List, [], ◌∷◌, ◌++◌, length, set, take, drop, map, refl, ap, ◌∙◌, arith, append_assoc}
+use lib.Seq.{paste}
 use Rattle.std.proofs.lemmas.List.{append-nil, take_more_set, drop-set-lt, map-append}
 use Rattle.text_pool.specs.Pool.{Pooled}
 use Rattle.text_model.specs.Characters.{Ch, IsCharacter, code}
@@ -8,7 +9,7 @@ use Rattle.ek_types.proofs.Listed.{take_one_more}
 use Rattle.gap_text.specs.Blocks.{cells_of, IsRow, ChangesCellsOf}
 use Rattle.gap_text.specs.Text.{without_gap}
 use Rattle.gap_text.proofs.Rows.{length_row}
-use Rattle.gap_text.proofs.Gaps.{gap_steps_left, gap_steps_right}
+use Rattle.gap_text.proofs.Gaps.{gap_moves_left, gap_moves_right}
 
 pub no_change : (blocks : List ℕ) (pool : Pooled) → ChangesCellsOf blocks pool pool
 no_change blocks pool = record { others = λ number a. refl; spare = refl; count = refl }
@@ -26,31 +27,29 @@ pub record Moving (blocks : List ℕ) (first pool : Pooled) (gap spare place : �
 pub starts_moving : (blocks : List ℕ) (pool : Pooled) (gap spare : ℕ) → IsRow pool blocks → Moving blocks pool pool gap spare gap
 starts_moving blocks pool gap spare row = record { kept = refl; row = row; changes = no_change blocks pool }
 
-pub moves_left : (blocks : List ℕ) (first middle last : Pooled) (gap spare place value : ℕ) → Moving blocks first middle gap spare place → 0 < place → place + spare ≤ 256 * length blocks
-    → value ≡ get_or (cells_of middle blocks) (place - 1) 0
-    → cells_of last blocks ≡ set (cells_of middle blocks) (place - 1 + spare) value → IsRow last blocks → ChangesCellsOf blocks middle last
-    → Moving blocks first last gap spare (place - 1)
-moves_left blocks first middle last gap spare place value m l fits v e row changes =
+pub moves_left : (blocks : List ℕ) (first middle last : Pooled) (gap spare place count : ℕ) → Moving blocks first middle gap spare place → count ≤ place → place + spare ≤ 256 * length blocks
+    → (let old = cells_of middle blocks in cells_of last blocks ≡ paste old (place - count + spare) (drop (place - count) old) count) → IsRow last blocks → ChangesCellsOf blocks middle last
+    → Moving blocks first last gap spare (place - count)
+moves_left blocks first middle last gap spare place count m l fits e row changes =
     let len : length (cells_of middle blocks) ≡ 256 * length blocks = length_row middle blocks m.row.live in
-    let back : place - 1 + 1 ≡ place = omega arith in
-    let step : without_gap (place - 1) spare (set (cells_of middle blocks) (place - 1 + spare) (get_or (cells_of middle blocks) (place - 1) 0)) ≡ without_gap (place - 1 + 1) spare (cells_of middle blocks)
-    = gap_steps_left (cells_of middle blocks) (place - 1) spare (omega arith) in
+    let back : place - count + count ≡ place = omega arith in
+    let step : without_gap (place - count) spare (paste (cells_of middle blocks) (place - count + spare) (drop (place - count) (cells_of middle blocks)) count) ≡ without_gap (place - count + count) spare (cells_of middle blocks)
+    = gap_moves_left (cells_of middle blocks) (place - count) spare count (omega arith) in
     record {
-      kept = ap (λ found. without_gap (place - 1) spare found) (e ∙ ap (λ w. set (cells_of middle blocks) (place - 1 + spare) w) v) ∙ step ∙ ap (λ p. without_gap p spare (cells_of middle blocks)) back ∙ m.kept;
+      kept = ap (λ found. without_gap (place - count) spare found) e ∙ step ∙ ap (λ p. without_gap p spare (cells_of middle blocks)) back ∙ m.kept;
       row = row;
       changes = one_more_change blocks first middle last m.changes changes;
     }
 
-pub moves_right : (blocks : List ℕ) (first middle last : Pooled) (gap spare place value : ℕ) → Moving blocks first middle gap spare place → place + spare < 256 * length blocks
-    → value ≡ get_or (cells_of middle blocks) (place + spare) 0
-    → cells_of last blocks ≡ set (cells_of middle blocks) place value → IsRow last blocks → ChangesCellsOf blocks middle last
-    → Moving blocks first last gap spare (place + 1)
-moves_right blocks first middle last gap spare place value m fits v e row changes =
+pub moves_right : (blocks : List ℕ) (first middle last : Pooled) (gap spare place count : ℕ) → Moving blocks first middle gap spare place → place + spare + count ≤ 256 * length blocks
+    → (let old = cells_of middle blocks in cells_of last blocks ≡ paste old place (drop (place + spare) old) count) → IsRow last blocks → ChangesCellsOf blocks middle last
+    → Moving blocks first last gap spare (place + count)
+moves_right blocks first middle last gap spare place count m fits e row changes =
     let len : length (cells_of middle blocks) ≡ 256 * length blocks = length_row middle blocks m.row.live in
-    let step : without_gap (place + 1) spare (set (cells_of middle blocks) place (get_or (cells_of middle blocks) (place + spare) 0)) ≡ without_gap place spare (cells_of middle blocks)
-    = gap_steps_right (cells_of middle blocks) place spare (omega arith) in
+    let step : without_gap (place + count) spare (paste (cells_of middle blocks) place (drop (place + spare) (cells_of middle blocks)) count) ≡ without_gap place spare (cells_of middle blocks)
+    = gap_moves_right (cells_of middle blocks) place spare count (omega arith) in
     record {
-      kept = ap (λ found. without_gap (place + 1) spare found) (e ∙ ap (λ w. set (cells_of middle blocks) place w) v) ∙ step ∙ m.kept;
+      kept = ap (λ found. without_gap (place + count) spare found) e ∙ step ∙ m.kept;
       row = row;
       changes = one_more_change blocks first middle last m.changes changes;
     }

@@ -1,6 +1,8 @@
 -- The cells of a list of blocks as one row.
-use Rattle.std.proofs.Common.{◌/◌, ◌%◌, ⊎_elim, ◌≡◌, ◌≢◌, ℕ, zero, suc, ◌+◌, ◌-◌, ◌*◌, ◌<◌, List, [], ◌∷◌, ◌++◌, length, get_or, set, flat_map, refl, sym, ap, ◌∙◌, subst, arith, unwrap_or, IsSomeAnd, Option, Some, None}
-use Rattle.std.proofs.lemmas.List.{length-append, get_or_append_left, get_or-append_right, set-append_left, set-append_right}
+use Rattle.std.proofs.Common.{◌/◌, ◌%◌, ⊎_elim, ◌≡◌, ◌≢◌, ℕ, zero, suc, ◌+◌, ◌-◌, ◌*◌, ◌<◌, ◌≤◌, List, [], ◌∷◌, ◌++◌, length, get_or, set, take, drop, flat_map, refl, sym, ap, ◌∙◌, subst, arith, append_assoc, unwrap_or, IsSomeAnd, Option, Some, None}
+use lib.Seq.{paste}
+use Rattle.std.proofs.lemmas.List.{length-append, length-drop, get_or_append_left, get_or-append_right, set-append_left, set-append_right, take-append-le, drop-append-le}
+use Rattle.gap_text.proofs.Gaps.{drop_past, take_past}
 use Rattle.text_pool.specs.Pool.{Pooled, cells_at, cells, IsLive, live, SameOthers}
 use Rattle.std.proofs.lemmas.Bool.{cases_eq}
 use Rattle.gap_text.specs.Blocks.{cells_of, Absent, Distinct, AllLive, SameOutside, Apart}
@@ -64,6 +66,43 @@ set-row f g (block ∷ blocks) (suc q) r place d value n l k e full here same =
     set-row f g blocks q r (place - 256) d value n.1 (omega arith) k (omega arith) (λ j h. full (suc j) (omega arith)) here same in
     rw (same block (absent_at block blocks q d n.0 (omega arith)), right, rest) refl
 
+-- a part of the row that lies in one block
+pub part-row : (pool : Pooled) (blocks : List ℕ) (q r place n d : ℕ) → AllLive pool blocks → q < length blocks → r + n ≤ 256 → place ≡ 256 * q + r
+    → take n (drop place (cells_of pool blocks)) ≡ take n (drop r (cells pool (get_or blocks q d)))
+part-row pool [] q r place n d h l k e = absurd (omega arith)
+part-row pool (block ∷ blocks) zero r place n d h l k e =
+    let at : place ≡ r = omega arith in
+    let full : length (cells pool block) ≡ 256 = length_live pool block h.0 in
+    let left : length (drop r (cells pool block)) ≡ length (cells pool block) - r = length-drop r (cells pool block) in
+    rw at (ap (take n) (drop-append-le r (cells pool block) (cells_of pool blocks) (omega arith)) ∙ take-append-le n (drop r (cells pool block)) (cells_of pool blocks) (omega arith))
+part-row pool (block ∷ blocks) (suc q) r place n d h l k e =
+    let full : length (cells pool block) ≡ 256 = length_live pool block h.0 in
+    ap (take n) (drop_past (cells pool block) (cells_of pool blocks) 256 place full (omega arith))
+    ∙ part-row pool blocks q r (place - 256) n d h.1 (omega arith) k (omega arith)
+
+-- a part of one block is written over
+pub over-row : (f g : ℕ → List ℕ) (blocks part : List ℕ) (q r place n d : ℕ) → Distinct blocks → q < length blocks → r + n ≤ 256 → place ≡ 256 * q + r
+    → ((k : ℕ) → k < length blocks → length (f (get_or blocks k d)) ≡ 256)
+    → g (get_or blocks q d) ≡ take r (f (get_or blocks q d)) ++ part ++ drop (r + n) (f (get_or blocks q d))
+    → ((other : ℕ) → other ≢ get_or blocks q d → g other ≡ f other)
+    → flat_map g blocks ≡ take place (flat_map f blocks) ++ part ++ drop (place + n) (flat_map f blocks)
+over-row f g [] part q r place n d u l k e full here same = absurd (omega arith)
+over-row f g (block ∷ blocks) part zero r place n d u l k e full here same =
+    let at : place ≡ r = omega arith in
+    let whole : length (f block) ≡ 256 = full 0 (omega arith) in
+    let front : take r (f block ++ flat_map f blocks) ≡ take r (f block) = take-append-le r (f block) (flat_map f blocks) (omega arith) in
+    let back : drop (r + n) (f block ++ flat_map f blocks) ≡ drop (r + n) (f block) ++ flat_map f blocks = drop-append-le (r + n) (f block) (flat_map f blocks) (omega arith) in
+    rw (at, front, back, here, flat_map_same f g blocks block u.0 same) (append_assoc (take r (f block) ++ part) (drop (r + n) (f block)) (flat_map f blocks))
+over-row f g (block ∷ blocks) part (suc q) r place n d u l k e full here same =
+    let whole : length (f block) ≡ 256 = full 0 (omega arith) in
+    let on : place + n - 256 ≡ place - 256 + n = omega arith in
+    let front : take place (f block ++ flat_map f blocks) ≡ f block ++ take (place - 256) (flat_map f blocks) = take_past (f block) (flat_map f blocks) 256 place whole (omega arith) in
+    let back : drop (place + n) (f block ++ flat_map f blocks) ≡ drop (place - 256 + n) (flat_map f blocks) = drop_past (f block) (flat_map f blocks) 256 (place + n) whole (omega arith) ∙ ap (λ k. drop k (flat_map f blocks)) on in
+    let rest = over-row f g blocks part q r (place - 256) n d u.1 (omega arith) k (omega arith) (λ j h. full (suc j) (omega arith)) here same in
+    rw (same block (absent_at block blocks q d u.0 (omega arith)), front, back, rest)
+    (sym (ap (λ xs. xs ++ drop (place - 256 + n) (flat_map f blocks)) (append_assoc (f block) (take (place - 256) (flat_map f blocks)) part)
+    ∙ append_assoc (f block) (take (place - 256) (flat_map f blocks) ++ part) (drop (place - 256 + n) (flat_map f blocks))))
+
 -- blocks that don't change have the same cells
 pub same_cells : (old new : Pooled) (blocks changed : List ℕ) → SameOutside changed old new → Apart blocks changed → cells_of new blocks ≡ cells_of old blocks
 same_cells old new [] changed s a = refl
@@ -104,6 +143,24 @@ write_row old new blocks place block value h live distinct here same =
     (λ k l. same_full old blocks block k live l)
     (subst (λ b. cells new b ≡ set (cells old b) (place % 256) value) h.is here)
     (λ other ne. ap (λ o. unwrap_or o []) (same other (λ e. ne (e ∙ h.is))))
+
+-- cells of one block are copied over those of another, or of the same one
+pub copy_row : (old new : Pooled) (blocks : List ℕ) (from to source target count : ℕ) → Holds blocks from source → Holds blocks to target → AllLive old blocks → Distinct blocks
+    → from % 256 + count ≤ 256 → to % 256 + count ≤ 256
+    → cells new target ≡ take (to % 256) (cells old target) ++ take count (drop (from % 256) (cells old source)) ++ drop (to % 256 + count) (cells old target)
+    → SameOthers old new target
+    → cells_of new blocks ≡ paste (cells_of old blocks) to (drop from (cells_of old blocks)) count
+copy_row old new blocks from to source target count s t live distinct from_fits to_fits here same =
+    let source_range : from < 256 * length blocks = s.range in
+    let target_range : to < 256 * length blocks = t.range in
+    let part : take count (drop from (cells_of old blocks)) ≡ take count (drop (from % 256) (cells old source))
+    = part-row old blocks (from / 256) (from % 256) from count source live (omega arith) (omega arith) (omega arith)
+    ∙ ap (λ b. take count (drop (from % 256) (cells old b))) (sym s.is) in
+    rw part
+    (over-row (cells old) (cells new) blocks (take count (drop (from % 256) (cells old source))) (to / 256) (to % 256) to count target distinct (omega arith) (omega arith) (omega arith)
+    (λ k l. same_full old blocks target k live l)
+    (subst (λ b. cells new b ≡ take (to % 256) (cells old b) ++ take count (drop (from % 256) (cells old source)) ++ drop (to % 256 + count) (cells old b)) t.is here)
+    (λ other ne. ap (λ o. unwrap_or o []) (same other (λ e. ne (e ∙ t.is)))))
 
 pub live_after : (old new : Pooled) (blocks : List ℕ) (block : ℕ) → IsLive new block → SameOthers old new block → AllLive old blocks → AllLive new blocks
 live_after old new [] block here same live = tt

@@ -1,5 +1,6 @@
 //! The cells of a list of blocks as one row, counted from 0, and the gap in it.
-ghost use Rattle.std.specs.Prelude.{◌≡◌, ℕ, ◌+◌, ◌*◌, ◌<◌, ◌≤◌, ◌++◌, length, take, drop, map, slice_index, slice_set};
+ghost use lib.Seq.{paste};
+ghost use Rattle.std.specs.Prelude.{◌≡◌, ℕ, ◌+◌, ◌*◌, ◌%◌, ◌<◌, ◌≤◌, ◌++◌, length, take, drop, map, slice_index, slice_set};
 ghost use Rattle.text_model.specs.Characters.{code};
 ghost use Rattle.ek_types.specs.Seen.{AreCharacters};
 ghost use Rattle.gap_text.specs.Blocks.{cells_of, IsRow, AllLive, ChangesCellsOf};
@@ -28,6 +29,23 @@ pub(crate) fn set_cell_at(blocks: &[Block], pool: &mut Pool, place: usize, value
     pool.set_cell(&blocks[place / CELLS], place % CELLS, value);
 }
 
+/// Copies `count` cells from the place `from` on to the places from `to` on. Either part lies in one block.
+fn copy_within_blocks(blocks: &[Block], pool: &mut Pool, from: usize, to: usize, count: usize)
+    requires row { IsRow pool.old blocks.now }
+    requires some { 0 < count }
+    requires source { from % 256 + count ≤ 256 }
+    requires source_range { from + count ≤ 256 * length blocks.now }
+    requires target { to % 256 + count ≤ 256 }
+    requires target_range { to + count ≤ 256 * length blocks.now }
+    ensures cells { let old = cells_of pool.old blocks.now in cells_of pool.new blocks.now ≡ paste old to (drop from old) count }
+    ensures row { IsRow pool.new blocks.now }
+    ensures pool { ChangesCellsOf blocks.now pool.old pool.new }
+{
+    let source = &blocks[from / CELLS];
+    let target = &blocks[to / CELLS];
+    pool.copy_cells(source, from % CELLS, target, to % CELLS, count);
+}
+
 /// Moves a gap of `spare` cells from the place `gap` to the place `to`, on its left. Each cell between goes behind it.
 fn move_left(blocks: &[Block], pool: &mut Pool, gap: usize, spare: usize, to: usize)
     requires row { IsRow pool.old blocks.now }
@@ -39,9 +57,12 @@ fn move_left(blocks: &[Block], pool: &mut Pool, gap: usize, spare: usize, to: us
 {
     let mut place = gap;
     while place > to {
-        place -= 1;
-        let value = cell_at(blocks, pool, place);
-        set_cell_at(blocks, pool, place + spare, value);
+        // As far back as neither part leaves its block.
+        let of_source = (place - 1) % CELLS + 1;
+        let of_target = (place + spare - 1) % CELLS + 1;
+        let count = (place - to).min(of_source).min(of_target);
+        place -= count;
+        copy_within_blocks(blocks, pool, place, place + spare, count);
     }
 }
 
@@ -54,13 +75,19 @@ fn move_right(blocks: &[Block], pool: &mut Pool, gap: usize, spare: usize, to: u
     ensures row { IsRow pool.new blocks.now }
     ensures pool { ChangesCellsOf blocks.now pool.old pool.new }
 {
-    for place in gap..to {
-        let value = cell_at(blocks, pool, place + spare);
-        set_cell_at(blocks, pool, place, value);
+    let mut place = gap;
+    while place < to {
+        // As far on as neither part leaves its block.
+        let of_source = CELLS - (place + spare) % CELLS;
+        let of_target = CELLS - place % CELLS;
+        let count = (to - place).min(of_source).min(of_target);
+        copy_within_blocks(blocks, pool, place + spare, place, count);
+        place += count;
     }
 }
 
-/// Moves a gap of `spare` cells from the place `gap` to the place `to`, by as many cells as lie between.
+/// Moves a gap of `spare` cells from the place `gap` to the place `to`, by as many cells as lie between, a part of a
+/// block at a time.
 pub(crate) fn move_gap(blocks: &[Block], pool: &mut Pool, gap: usize, spare: usize, to: usize)
     requires row { IsRow pool.old blocks.now }
     requires from_fits { gap + spare ≤ 256 * length blocks.now }

@@ -1,9 +1,9 @@
 //! A text, and its calls.
-ghost use Rattle.std.specs.Prelude.{◌≡◌, ℕ, ◌+◌, ◌*◌, ◌<◌, ◌≤◌, [], ◌++◌, length, take, drop, map, IfOk, OnOk, OnErr, IsOk, slice_index, slice_get, Some, None};
+ghost use Rattle.std.specs.Prelude.{◌≡◌, ◌+◌, ◌*◌, ◌<◌, ◌≤◌, [], ◌++◌, length, take, drop, IfOk, OnOk, OnErr, IsOk, slice_index, slice_get, Some, None};
 ghost use Rattle.text_model.specs.Characters.{IsCharacter, code};
-ghost use Rattle.ek_types.specs.Seen.{ch_of, AreCharacters};
-ghost use Rattle.text_pool.specs.Pool.{Pooled, cells_at, IsLive, live};
-ghost use Rattle.gap_text.specs.Blocks.{cells_of, Absent, Apart, AllLive, AllGone, IsRow, SameOutside, OnlyFresh, ChangesCellsOf};
+ghost use Rattle.ek_types.specs.Seen.{ch_of};
+ghost use Rattle.text_pool.specs.Pool.{Pooled, live};
+ghost use Rattle.gap_text.specs.Blocks.{cells_of, Apart, AllGone, IsRow, SameOutside, OnlyFresh, ChangesCellsOf};
 ghost use Rattle.gap_text.specs.Text.{Gapped, codes, characters, LiesIn};
 
 use crate::growth::{blocks_wanted, insert_blocks, make_room};
@@ -14,8 +14,8 @@ use std::marker::Model;
 use text_pool::{Block, CELLS, Pool};
 
 /// A text over blocks of a pool. By itself it is its list of blocks with the place and the size of a gap among their
-/// cells; its characters are those of the cells outside the gap, so each call that looks at them takes the pool. A text
-/// can't be dropped, since its blocks can't: it has to be released.
+/// cells; its characters are those of the cells outside the gap, so each call that looks at them takes the pool, in which
+/// all its blocks must be live. A text can't be dropped, since its blocks can't: it has to be released.
 pub struct Text {
     blocks: Vec<Block>,
     // The cell at which the gap starts.
@@ -90,7 +90,7 @@ impl Text {
         }
     }
 
-    /// The characters from `from` to before `to`.
+    /// The characters from `from` to before `to`, counted from 0, where `to` is at most the length.
     pub fn copy_out(&self, pool: &Pool, from: usize, to: usize) -> Mem<Chars>
         requires lies { LiesIn pool.now self.now }
         requires order { from ≤ to }
@@ -105,7 +105,8 @@ impl Text {
         Ok(text)
     }
 
-    /// Puts a text before character `i`, or behind all. It takes no memory.
+    /// Puts a text before character `i`, counted from 0, or behind all. It needs spare for the text, which falls by its
+    /// length, and takes no memory.
     pub fn insert(&mut self, pool: &mut Pool, i: usize, text: &Chars)
         requires lies { LiesIn pool.old self.old }
         requires place { i ≤ length (characters pool.old self.old) }
@@ -125,7 +126,8 @@ impl Text {
         self.spare -= count;
     }
 
-    /// Takes the characters from `from` to before `to` out. It takes no memory.
+    /// Takes the characters from `from` to before `to` out, counted from 0. The spare rises by their number. It takes no
+    /// memory.
     pub fn delete(&mut self, pool: &mut Pool, from: usize, to: usize)
         requires lies { LiesIn pool.old self.old }
         requires order { from ≤ to }
@@ -186,7 +188,7 @@ impl Text {
         Ok(())
     }
 
-    /// Gives all blocks back.
+    /// Gives all blocks back, so that the pool's spare rises by their number.
     pub fn release(self, pool: &mut Pool)
         requires { LiesIn pool.old self }
         ensures gone { AllGone pool.new self.blocks }
@@ -261,7 +263,9 @@ impl Text {
         ensures count { IfOk result (λ text. live pool.new ≡ live pool.old + length text.blocks) }
         ensures source { LiesIn pool.new self.now }
         ensures source_characters { characters pool.new self.now ≡ characters pool.old self.now }
+        ensures pool_spare { IfOk result (λ text. pool.old.spare ≤ pool.new.spare + length text.blocks) }
         ensures refused { OnErr result (pool.new.slots ≡ pool.old.slots) }
+        ensures spare_after_refusal { OnErr result (pool.old.spare ≤ pool.new.spare) }
     {
         let mut text = Text::new(*self.blocks.allocator());
         match text.reserve(pool, self.len()) {

@@ -1,10 +1,12 @@
 -- A host in memory after an exchange.
-use Rattle.std.proofs.Common.{◌≡◌, ℕ, Bool, nat_lt, List, [], ◌∷◌, ◌++◌, get_or}
+use Rattle.std.proofs.Common.{◌≡◌, ℕ, Bool, nat_lt, List, [], ◌∷◌, ◌++◌, get_or, refl, ap, ◌∙◌}
 use Rattle.std.specs.Bool.{if◌then◌else◌}
 use Rattle.ek_types.specs.Io.{next_count}
-use Rattle.plain_machine.specs.Exchanges.{Ask, Answer, Exchange, Started, Refused}
-use Rattle.host_link.specs.Hosts.{is_fault}
-use Rattle.host_link.specs.Played.{PlayState, MemoryHostState, after_exchange}
+use Rattle.plain_machine.specs.Exchanges.{Ask, Answer, Exchange, Spawn, Started, Refused}
+use Rattle.host_link.specs.declared.host.Spawned.{Spawned}
+use Rattle.host_link.specs.declared.host.Spawned.TheVariants as spawned
+use Rattle.host_link.specs.Hosts.{is_fault, after_spawn, spawned_answer}
+use Rattle.host_link.specs.Played.{PlayState, MemoryHostState, after_exchange, kills_after}
 
 -- an answer by the play of one child, as seen through the list of all plays
 pub answer_as : (f : PlayState → Answer) (fault : Answer) (left : List PlayState) (k : ℕ) (d rest : PlayState) (fails now : Bool)
@@ -24,3 +26,12 @@ host_after o s plays kills ask answer reply p k calls faults before told same as
 pub spawn_as : (fails now : Bool) (started children given plays : ℕ) → fails ≡ now → started ≡ children → given ≡ plays
     → (if fails then Refused else (if nat_lt started given then Started started else Refused)) ≡ (if now then Refused else (if nat_lt children plays then Started children else Refused))
 spawn_as fails now started children given plays e s p = rw (e, s, p)
+
+children_as : (kills : List Bool) (program : List ℕ) (args : List (List ℕ)) (s : Spawned) → after_spawn kills s ≡ kills_after kills (Spawn program args) (spawned_answer s)
+children_as kills program args (spawned.Started child) = refl
+children_as kills program args spawned.Refused = refl
+
+-- the children after a spawn, by its answer
+pub children_after : (kills : List Bool) (program : List ℕ) (args : List (List ℕ)) (s : Spawned) (reply : Answer) → spawned_answer s ≡ reply
+    → after_spawn kills s ≡ kills_after kills (Spawn program args) reply
+children_after kills program args s reply e = children_as kills program args s ∙ ap (kills_after kills (Spawn program args)) e

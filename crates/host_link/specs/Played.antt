@@ -1,10 +1,9 @@
 -- A host in memory: what it answers, and what it is afterwards.
-use Rattle.std.specs.Prelude.{◌≡◌, ℕ, pos, nat_lt, Bool, if◌then◌else◌, List, [], ◌∷◌, ◌++◌, length, take, drop, get_or, slice_set, Some, Result, MatchResult}
+use Rattle.std.specs.Prelude.{◌≡◌, ℕ, pos, nat_lt, Bool, true, false, if◌then◌else◌, List, [], ◌∷◌, ◌++◌, length, take, drop, get_or, slice_set, Some}
 use Rattle.ek_types.specs.Io.{next_count}
 use Rattle.ek_types.specs.MemoryIo.{fails_at}
-use Rattle.plain_machine.specs.Exchanges.{Ask, Answer, Exchange, Spawn, Started, Refused, Bytes, Nothing, End, Code, Signal, Running, Sent, Broken, Killed, Failed}
-use Rattle.host_link.specs.Hosts.{HostState, after_spawn, is_fault, spawned_answer}
-use Rattle.host_link.specs.declared.host.Spawned.{Spawned}
+use Rattle.plain_machine.specs.Exchanges.{Ask, Answer, Exchange, Spawn, Read, AskEnd, Send, Close, Kill, Started, Refused, Bytes, Nothing, End, Code, Signal, Running, Sent, Broken, Closed, Killed, Failed}
+use Rattle.host_link.specs.Hosts.{HostState, is_fault}
 
 -- what a child still answers to reads, and to the question how it ended
 pub record PlayState : Type 0 where
@@ -46,6 +45,11 @@ next_read room (answer ∷ rest) = read_as room answer
 abbrev pub after_read : ℕ → List Answer → List Answer
 after_read room [] = []
 after_read room (answer ∷ rest) = left_of room answer ++ rest
+
+-- the room that was given, as it lies after a read: bytes stand at its front
+abbrev pub room_after : List ℕ → Answer → List ℕ
+room_after into (Bytes bytes) = bytes ++ drop (length bytes) into
+room_after into _ = into
 
 -- ENDS: answers of another kind count as running
 abbrev pub end_as : Answer → Answer
@@ -103,11 +107,30 @@ after_exchange s plays kills ask answer = record {
   told = s.told ++ record { ask = ask; answer = answer } ∷ [];
 }
 
--- the call answers this reply and leaves this host, or memory was wanting and the host is as it was
-abbrev pub Plays : {T E : Type 0} → MemoryHostState → MemoryHostState → (T → Answer) → Answer → MemoryHostState → Result T E → Type 0
-Plays old new answer reply after result = MatchResult result (λ x. (answer x ≡ reply) × (new ≡ after)) (λ _. new ≡ old)
+-- A CALL OF ANY KIND
+-- what is answered, where there is room for so many bytes
+abbrev pub reply_to : MemoryHostState → Ask → ℕ → Answer
+reply_to s (Spawn program args) room = spawn_reply s
+reply_to s (Read child) room = read_reply s child room
+reply_to s (AskEnd child) room = end_reply s child
+reply_to s (Send child bytes) room = send_reply s
+reply_to s (Close child) room = Closed
+reply_to s (Kill child) room = kill_reply s
 
--- a spawn, which is known by the child that it started
-abbrev pub PlaysSpawn : {E : Type 0} → MemoryHostState → MemoryHostState → List ℕ → List (List ℕ) → Result Spawned E → Type 0
-PlaysSpawn old new program args result =
-    MatchResult result (λ s. (spawned_answer s ≡ spawn_reply old) × (new ≡ after_exchange old old.plays (after_spawn old.kills s) (Spawn program args) (spawn_reply old))) (λ _. new ≡ old)
+-- what is left of the plays
+abbrev pub plays_after : MemoryHostState → Ask → ℕ → List PlayState
+plays_after s (Read child) room = plays_after_read s child room
+plays_after s (AskEnd child) room = plays_after_end s child
+plays_after s _ room = s.plays
+
+-- the children, and which of them were asked Kill
+abbrev pub kills_after : List Bool → Ask → Answer → List Bool
+kills_after kills (Spawn program args) (Started child) = kills ++ false ∷ []
+kills_after kills (Kill child) answer = slice_set kills child true
+kills_after kills _ _ = kills
+
+-- the call has this answer and leaves this host
+abbrev pub Plays : MemoryHostState → MemoryHostState → Ask → ℕ → Answer → Type 0
+Plays old new ask room answer =
+    (answer ≡ reply_to old ask room)
+    × (new ≡ after_exchange old (plays_after old ask room) (kills_after old.kills ask (reply_to old ask room)) ask (reply_to old ask room))

@@ -1,7 +1,7 @@
 //! The trait of a host: what the kernel asks of the outside.
-ghost use Rattle.std.specs.Prelude.{◌≡◌, ◌+◌, ◌-◌, ◌<◌, ◌≤◌, ◌^◌, length, map, false, true, Some, IfOk, slice_get, slice_set, string_bytes};
+ghost use Rattle.std.specs.Prelude.{◌≡◌, ℕ, ◌-◌, ◌<◌, ◌^◌, length, map, false, true, Some, IfOk, OnOk, OnErr, slice_get, slice_set, string_bytes};
 ghost use Rattle.std.specs.Option.{option_map};
-ghost use Rattle.plain_machine.specs.Exchanges.{Spawn, Read, AskEnd, Send, Close, Kill, Closed};
+ghost use Rattle.plain_machine.specs.Exchanges.{Ask, Answer, Spawn, Read, AskEnd, Send, Close, Kill, Closed};
 ghost use Rattle.host_link.specs.Meaning.{exchanges_of};
 ghost use Rattle.host_link.specs.Hosts.{HostState, Asked, Exchanged, Fits, IsNumbered, after_spawn, spawned_answer, got_answer, ended_answer, send_answer, kill_answer};
 
@@ -50,53 +50,67 @@ pub enum KillAnswer {
 
 /// The outside of a run. Children are numbered from 0 in the order in which they are started.
 ///
-/// Each call but `told` is one exchange. `NoMemory` comes before anything was asked and leaves the host as it was.
+/// Each call but `told` is one exchange, and a child that it names was started before. `NoMemory` comes before anything
+/// was asked and leaves the host as it was.
 /// `Refused`, `Failed` and `Broken` come only where the count of faults rose in that call; the count never falls and
 /// stays at 2^64 - 1 once it stands there. `Nothing` and `Running` are the host's word.
 pub trait Host {
     /// The exchanges, where the host tells them, the count of faults, and which children were asked Kill.
     ghost state: { Self → HostState };
 
-    /// Starts a program. A child that is started has the next number.
+    /// What a call did, in the host's own words: the host before and after it, the ask, for how many bytes there was room
+    /// (0 but in a read), and the answer. Code over any host has this by the call alone. So whoever hands calls on shows by
+    /// it that each was made once, also where the host tells no exchanges.
+    ghost made: { Self → Self → Ask → ℕ → Answer → Type 0 } = { λ _ _ _ _ _. Unit {0} };
+
+    /// Starts a program, where fewer than 2^32 - 1 children were started before. A child that is started has the next
+    /// number; `Refused` starts none.
     fn spawn(&mut self, program: &str, args: &[String]) -> Mem<Spawned>
         requires { length (state self.old).kills < 2 ^ 32 - 1 }
         ensures asked { Asked (state self.old) (state self.new) (after_spawn (state self.old).kills)
             (Spawn program.now (map string_bytes args.now)) spawned_answer result }
-        ensures number { IfOk result (IsNumbered (length (state self.old).kills)) };
+        ensures number { IfOk result (IsNumbered (length (state self.old).kills)) }
+        ensures made { IfOk result (λ s. made self.old self.new (Spawn program.now (map string_bytes args.now)) 0 (spawned_answer s)) };
 
-    /// Takes bytes of a child's output to the front of `into`.
+    /// Takes bytes of a child's output to the front of `into`, which isn't empty. `NoMemory` leaves `into` as it was.
     fn read(&mut self, child: u32, into: &mut [u8]) -> Mem<Got>
         requires there { child < length (state self.old).kills }
         requires room { 0 < length into.old }
         ensures asked { Asked (state self.old) (state self.new) (λ _. (state self.old).kills)
             (Read child) (got_answer into.new) result }
-        ensures fits { IfOk result (Fits (length into.new)) };
+        ensures fits { IfOk result (Fits (length into.new)) }
+        ensures made { IfOk result (λ got. made self.old self.new (Read child) (length into.old) (got_answer into.new got)) }
+        ensures room_kept { OnErr result (into.new ≡ into.old) };
 
     /// Asks how a child has ended.
     fn end(&mut self, child: u32) -> Mem<Ended>
         requires { child < length (state self.old).kills }
-        ensures { Asked (state self.old) (state self.new) (λ _. (state self.old).kills) (AskEnd child)
-            ended_answer result };
+        ensures asked { Asked (state self.old) (state self.new) (λ _. (state self.old).kills) (AskEnd child)
+            ended_answer result }
+        ensures made { IfOk result (λ ended. made self.old self.new (AskEnd child) 0 (ended_answer ended)) };
 
     /// Sends bytes to a child's input.
     fn send(&mut self, child: u32, bytes: &[u8]) -> Mem<SendAnswer>
         requires { child < length (state self.old).kills }
-        ensures { Asked (state self.old) (state self.new) (λ _. (state self.old).kills)
-            (Send child bytes.now) send_answer result };
+        ensures asked { Asked (state self.old) (state self.new) (λ _. (state self.old).kills)
+            (Send child bytes.now) send_answer result }
+        ensures made { IfOk result (λ sent. made self.old self.new (Send child bytes.now) 0 (send_answer sent)) };
 
     /// Closes a child's input.
     fn close(&mut self, child: u32) -> Mem<()>
         requires { child < length (state self.old).kills }
-        ensures { Asked (state self.old) (state self.new) (λ _. (state self.old).kills) (Close child)
-            (λ _. Closed) result };
+        ensures asked { Asked (state self.old) (state self.new) (λ _. (state self.old).kills) (Close child)
+            (λ _. Closed) result }
+        ensures made { OnOk result (made self.old self.new (Close child) 0 Closed) };
 
     /// The exchanges so far, exactly where the host tells.
     fn told(&self) -> Option<&Exchanges>
         ensures { option_map (λ list. exchanges_of list.now) result ≡ (state self.now).told };
 
-    /// Asks a child to be killed, which is asked at most once of each child. It takes no memory.
+    /// Asks that a child be killed, at most once for each child. It takes no memory.
     fn kill(&mut self, child: u32) -> KillAnswer
         requires { slice_get (state self.old).kills child ≡ Some false }
-        ensures { Exchanged (state self.old) (state self.new)
-            (slice_set (state self.old).kills child true) (Kill child) (kill_answer result) };
+        ensures asked { Exchanged (state self.old) (state self.new)
+            (slice_set (state self.old).kills child true) (Kill child) (kill_answer result) }
+        ensures made { made self.old self.new (Kill child) 0 (kill_answer result) };
 }

@@ -1,6 +1,6 @@
 //! The exchanges that a host keeps, with a place set aside for each kill that may still come.
-ghost use Rattle.std.specs.Prelude.{◌≡◌, ◌+◌, ◌-◌, ◌<◌, ◌≤◌, [], ◌∷◌, ◌++◌, OnOk, OnErr};
-ghost use Rattle.host_link.specs.Meaning.{ask_of, answer_of, exchange_of, exchanges_of};
+ghost use Rattle.std.specs.Prelude.{◌≡◌, ◌+◌, ◌-◌, ◌<◌, ◌≤◌, [], ◌∷◌, ◌++◌, OnOk};
+ghost use Rattle.host_link.specs.Meaning.{ask_of, answer_of, exchanges_of};
 ghost use Rattle.host_link.specs.Logged.{Logged, due_by};
 
 use crate::asking::{Answer, Ask, Exchange, Exchanges};
@@ -58,20 +58,14 @@ impl Log {
         ensures due { self.new.due ≡ self.old.due }
         ensures room { OnOk result (n ≤ self.new.places) }
     {
-        let Some(places) = self.due.checked_add(n) else {
-            return Err(NoMemory);
-        };
+        let places = self.due.checked_add(n).ok_or(NoMemory)?;
         self.list.reserve(places)
     }
 
     /// Notes an exchange at its place.
     pub fn put(&mut self, ask: Ask, answer: Answer)
         requires { 0 < self.old.places }
-        ensures told { self.new.told ≡ self.old.told ++ record {
-          ask = ask_of ask;
-          answer = answer_of
-              answer;
-        } ∷ [] }
+        ensures told { self.new.told ≡ self.old.told ++ record { ask = ask_of ask; answer = answer_of answer } ∷ [] }
         ensures due { self.new.due ≡ self.old.due }
         ensures places { self.new.places + 1 ≡ self.old.places }
     {
@@ -81,11 +75,7 @@ impl Log {
     /// Notes a spawn, and keeps a place for the kill of the child that it started.
     pub fn put_spawn(&mut self, ask: Ask, answer: Answer, spawned: Spawned)
         requires { 2 ≤ self.old.places }
-        ensures told { self.new.told ≡ self.old.told ++ record {
-          ask = ask_of ask;
-          answer = answer_of
-              answer;
-        } ∷ [] }
+        ensures told { self.new.told ≡ self.old.told ++ record { ask = ask_of ask; answer = answer_of answer } ∷ [] }
         ensures due { self.new.due ≡ self.old.due + due_by spawned }
     {
         self.put(ask, answer);
@@ -98,11 +88,7 @@ impl Log {
     /// Notes a kill at the place that was kept for it.
     pub fn put_kill(&mut self, ask: Ask, answer: Answer)
         requires { 0 < self.old.due }
-        ensures told { self.new.told ≡ self.old.told ++ record {
-          ask = ask_of ask;
-          answer = answer_of
-              answer;
-        } ∷ [] }
+        ensures told { self.new.told ≡ self.old.told ++ record { ask = ask_of ask; answer = answer_of answer } ∷ [] }
         ensures due { self.new.due + 1 ≡ self.old.due }
     {
         self.due -= 1;

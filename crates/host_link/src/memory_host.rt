@@ -1,12 +1,11 @@
 //! A host in memory, which plays its children from lists and tells its exchanges.
-ghost use Rattle.std.specs.Prelude.{◌≡◌, ◌+◌, ◌-◌, ◌<◌, ◌≤◌, ◌^◌, length, map, [], ◌∷◌, ◌++◌, false, true, Some, IfOk, if◌then◌else◌, nat_lt, drop, slice_get, slice_set, string_bytes, vec_len, vec_capacity};
-ghost use Rattle.std.specs.Option.{option_map};
+ghost use Rattle.std.specs.Prelude.{◌≡◌, ◌+◌, ◌-◌, ◌<◌, ◌≤◌, ◌^◌, length, map, [], ◌++◌, false, true, Some, IfOk, OnOk, OnErr, if◌then◌else◌, nat_lt, drop, slice_get, slice_set, string_bytes, vec_len, vec_capacity};
 ghost use Rattle.plain_machine.specs.Exchanges.{Spawn, Read, AskEnd, Send, Close, Kill, Closed, Started, Refused, Failed, Broken, Sent, Killed};
 ghost use Rattle.ek_types.specs.Io.{next_count};
 ghost use Rattle.ek_types.specs.MemoryIo.{fails_at};
-ghost use Rattle.host_link.specs.Meaning.{answer_of, exchanges_of};
+ghost use Rattle.host_link.specs.Meaning.{answer_of};
 ghost use Rattle.host_link.specs.Hosts.{Asked, Exchanged, Fits, IsNumbered, after_spawn, is_fault, spawned_answer, got_answer, ended_answer, send_answer, kill_answer};
-ghost use Rattle.host_link.specs.Played.{Plays, PlaysSpawn, host_state, next_read, after_read, next_end, read_reply, plays_after_read, end_reply, plays_after_end, send_reply, kill_reply, after_exchange};
+ghost use Rattle.host_link.specs.Played.{Plays, host_state, next_read, after_read, room_after, next_end, reply_to};
 ghost use Rattle.host_link.specs.Logged.{due_by};
 ghost use Rattle.host_link.specs.Cursors.{cursors_by, rest_of, whole_play};
 
@@ -19,7 +18,8 @@ use ek_types::Mem;
 use std::alloc::Global;
 use std::marker::Model;
 
-/// Starts a child for each of its plays, in their order, and fails at the calls that it was told.
+/// Starts a child for each of its plays, in their order, and refuses a spawn past the last one. It fails at the calls that
+/// it was told, and tells its exchanges.
 #[derive(Drop)]
 pub struct MemoryHost {
     plays: Vec<Play>,
@@ -45,17 +45,11 @@ impl Model for MemoryHost {
 }
 
 impl MemoryHost {
-    /// A host that has started no child. It fails at the calls whose numbers, from 0 over all calls but `told`, stand
-    /// in `fails`.
+    /// A host that has started no child, and takes its memory where `plays` takes it. The calls whose numbers, from 0 over
+    /// all calls but `told`, stand in `fails` answer `Refused`, `Failed` or `Broken` by their kind and use up no answer of
+    /// a play; a call of `close` can't fail. A call that answers `NoMemory` isn't counted.
     pub fn new(plays: Vec<Play>, fails: Vec<u32>) -> MemoryHost
-        ensures { result ≡ record {
-          plays = map whole_play plays.items;
-          kills = [];
-          fails = fails.items;
-          calls = 0;
-          faults = 0;
-          told = [];
-        } }
+        ensures { result ≡ record { plays = map whole_play plays.items; kills = []; fails = fails.items; calls = 0; faults = 0; told = [] } }
     {
         let alloc = *plays.allocator();
         MemoryHost {
@@ -136,6 +130,8 @@ fn read_or_fail(
     ensures fits { IfOk result (λ t. Fits (length into.old) t.reply) }
     ensures rest { IfOk result
         (λ t. rest_of play.now t.cursor ≡ (if fails then rest_of play.now cursor else record (rest_of play.now cursor) { reads = after_read (length into.old) (rest_of play.now cursor).reads })) }
+    ensures room { IfOk result (λ t. into.new ≡ room_after into.old (answer_of t.answer)) }
+    ensures room_kept { OnErr result (into.new ≡ into.old) }
 {
     if fails {
         return Ok(Turn {
@@ -188,12 +184,15 @@ fn kill_or_fail(fails: bool) -> KillAnswer
 impl Host for MemoryHost {
     ghost state = { host_state };
 
+    ghost made = { Plays };
+
     fn spawn(&mut self, program: &str, args: &[String]) -> Mem<Spawned>
         requires { length self.old.kills < 2 ^ 32 - 1 }
         ensures asked { Asked (host_state self.old) (host_state self.new) (after_spawn self.old.kills)
             (Spawn program.now (map string_bytes args.now)) spawned_answer result }
         ensures number { IfOk result (IsNumbered (length self.old.kills)) }
-        ensures exact { PlaysSpawn self.old self.new program.now (map string_bytes args.now) result }
+        ensures made { IfOk result (λ s. Plays self.old self.new (Spawn program.now (map string_bytes args.now)) 0 (spawned_answer s)) }
+        ensures unchanged { OnErr result (self.new ≡ self.old) }
     {
         let alloc = self.log.allocator();
         let program_bytes = list_of(alloc, program.as_bytes())?;
@@ -217,10 +216,10 @@ impl Host for MemoryHost {
         ensures asked { Asked (host_state self.old) (host_state self.new) (λ _. self.old.kills)
             (Read child) (got_answer into.new) result }
         ensures fits { IfOk result (Fits (length into.new)) }
-        ensures exact { Plays self.old self.new (got_answer into.new)
-            (read_reply self.old child (length into.old))
-            (after_exchange self.old (plays_after_read self.old child (length into.old)) self.old.kills (Read child) (read_reply self.old child (length into.old)))
-            result }
+        ensures made { IfOk result (λ got. Plays self.old self.new (Read child) (length into.old) (got_answer into.new got)) }
+        ensures room { OnOk result (into.new ≡ room_after into.old (reply_to self.old (Read child) (length into.old))) }
+        ensures unchanged { OnErr result (self.new ≡ self.old) }
+        ensures room_kept { OnErr result (into.new ≡ into.old) }
     {
         let number = child as usize;
         let alloc = self.log.allocator();
@@ -244,9 +243,8 @@ impl Host for MemoryHost {
         requires { child < length self.old.kills }
         ensures asked { Asked (host_state self.old) (host_state self.new) (λ _. self.old.kills)
             (AskEnd child) ended_answer result }
-        ensures exact { Plays self.old self.new ended_answer (end_reply self.old child)
-            (after_exchange self.old (plays_after_end self.old child) self.old.kills (AskEnd child) (end_reply self.old child))
-            result }
+        ensures made { IfOk result (λ ended. Plays self.old self.new (AskEnd child) 0 (ended_answer ended)) }
+        ensures unchanged { OnErr result (self.new ≡ self.old) }
     {
         let number = child as usize;
         self.log.reserve(1)?;
@@ -263,9 +261,8 @@ impl Host for MemoryHost {
         requires { child < length self.old.kills }
         ensures asked { Asked (host_state self.old) (host_state self.new) (λ _. self.old.kills)
             (Send child bytes.now) send_answer result }
-        ensures exact { Plays self.old self.new send_answer (send_reply self.old)
-            (after_exchange self.old self.old.plays self.old.kills (Send child bytes.now) (send_reply self.old))
-            result }
+        ensures made { IfOk result (λ sent. Plays self.old self.new (Send child bytes.now) 0 (send_answer sent)) }
+        ensures unchanged { OnErr result (self.new ≡ self.old) }
     {
         let sent_bytes = list_of(self.log.allocator(), bytes)?;
         self.log.reserve(1)?;
@@ -281,8 +278,8 @@ impl Host for MemoryHost {
         requires { child < length self.old.kills }
         ensures asked { Asked (host_state self.old) (host_state self.new) (λ _. self.old.kills)
             (Close child) (λ _. Closed) result }
-        ensures exact { Plays self.old self.new (λ _. Closed) Closed
-            (after_exchange self.old self.old.plays self.old.kills (Close child) Closed) result }
+        ensures made { OnOk result (Plays self.old self.new (Close child) 0 Closed) }
+        ensures unchanged { OnErr result (self.new ≡ self.old) }
     {
         self.log.reserve(1)?;
         self.calls = self.calls.saturating_add(1);
@@ -298,9 +295,7 @@ impl Host for MemoryHost {
         requires { slice_get self.old.kills child ≡ Some false }
         ensures asked { Exchanged (host_state self.old) (host_state self.new)
             (slice_set self.old.kills child true) (Kill child) (kill_answer result) }
-        ensures answer { kill_answer result ≡ kill_reply self.old }
-        ensures after { self.new ≡ after_exchange self.old self.old.plays
-            (slice_set self.old.kills child true) (Kill child) (kill_reply self.old) }
+        ensures made { Plays self.old self.new (Kill child) 0 (kill_answer result) }
     {
         let killed = kill_or_fail(is_failing(&self.fails, self.calls));
         let answer = answer_to_kill(killed);

@@ -1,10 +1,9 @@
 //! What a child of a host in memory answers, and how far it has come.
-ghost use Rattle.std.specs.Prelude.{◌≡◌, ◌+◌, ◌-◌, ◌^◌, ◌<◌, ◌≤◌, [], ◌∷◌, length, drop, true, IfOk, if◌then◌else◌};
-ghost use Rattle.ek_types.specs.Listing.{items_of};
+ghost use Rattle.std.specs.Prelude.{◌≡◌, ◌+◌, ◌-◌, ◌^◌, ◌<◌, [], ◌∷◌, length, drop, true, IfOk, OnErr, if◌then◌else◌};
 ghost use Rattle.host_link.specs.Hosts.{Fits, got_answer, ended_answer};
 ghost use Rattle.plain_machine.specs.Exchanges.{Bytes};
 ghost use Rattle.host_link.specs.Meaning.{answer_of};
-ghost use Rattle.host_link.specs.Played.{read_as, left_of, next_read, after_read, end_as, next_end};
+ghost use Rattle.host_link.specs.Played.{left_of, next_read, after_read, room_after, end_as, next_end};
 ghost use Rattle.host_link.specs.Cursors.{IsReadTurn, less, moved_by, rest_of};
 
 use crate::answering::answer_to_end;
@@ -14,7 +13,8 @@ use ek_types::Mem;
 use std::alloc::Global;
 
 /// The answers of one child, to reads and to the question how it ended. Past the last one a read answers `End`, and
-/// the child has ended with code 0.
+/// the child has ended with code 0. Bytes that the room of a read doesn't hold come next. No bytes count as `Nothing`, and
+/// so do answers of another kind; to the question how it ended these count as `Running`.
 #[derive(Drop)]
 pub struct Play {
     pub reads: Answers,
@@ -57,6 +57,8 @@ fn read_bytes(alloc: Global, bytes: &[u8], given: usize, into: &mut [u8]) -> Mem
     ensures turn { IfOk result (IsReadTurn (Bytes (drop given bytes.now)) (length into.old) into.new) }
     ensures left { IfOk result
         (λ t. left_of (length into.old) (Bytes (drop given bytes.now)) ≡ (if t.used then [] else Bytes (drop t.given bytes.now) ∷ [])) }
+    ensures room { IfOk result (λ t. into.new ≡ room_after into.old (answer_of t.answer)) }
+    ensures room_kept { OnErr result (into.new ≡ into.old) }
 {
     let from = given.min(bytes.len());
     let left = &bytes[from..];
@@ -80,6 +82,8 @@ fn read_answer(alloc: Global, answer: &Answer, given: usize, into: &mut [u8]) ->
     ensures turn { IfOk result (IsReadTurn (less given (answer_of answer.now)) (length into.old) into.new) }
     ensures left { IfOk result
         (λ t. left_of (length into.old) (less given (answer_of answer.now)) ≡ (if t.used then [] else less t.given (answer_of answer.now) ∷ [])) }
+    ensures room { IfOk result (λ t. into.new ≡ room_after into.old (answer_of t.answer)) }
+    ensures room_kept { OnErr result (into.new ≡ into.old) }
 {
     match answer {
         Answer::Bytes(bytes) => read_bytes(alloc, bytes.as_slice(), given, into),
@@ -141,6 +145,8 @@ pub(crate) fn read_play(
     ensures fits { IfOk result (λ t. Fits (length into.old) t.reply) }
     ensures rest { IfOk result
         (λ t. rest_of play.now t.cursor ≡ record (rest_of play.now cursor) { reads = after_read (length into.old) (rest_of play.now cursor).reads }) }
+    ensures room { IfOk result (λ t. into.new ≡ room_after into.old (answer_of t.answer)) }
+    ensures room_kept { OnErr result (into.new ≡ into.old) }
 {
     if cursor.reads >= play.reads.len() {
         return Ok(Turn {
@@ -161,10 +167,7 @@ pub(crate) fn read_play(
 pub(crate) fn end_play(play: &Play, cursor: Cursor) -> Turn<Ended>
     ensures told { ended_answer result.reply ≡ next_end (rest_of play.now cursor).ends }
     ensures same { answer_of result.answer ≡ ended_answer result.reply }
-    ensures rest { rest_of play.now result.cursor ≡ record (rest_of play.now cursor) {
-      ends = drop 1
-          (rest_of play.now cursor).ends;
-    } }
+    ensures rest { rest_of play.now result.cursor ≡ record (rest_of play.now cursor) { ends = drop 1 (rest_of play.now cursor).ends } }
 {
     if cursor.ends >= play.ends.len() {
         return Turn {

@@ -1,8 +1,6 @@
 //! A recorder: a host that hands each call to another host and keeps the exchanges.
-ghost use Rattle.std.specs.Prelude.{◌≡◌, ◌+◌, ◌-◌, ◌<◌, ◌≤◌, ◌^◌, length, map, [], false, true, Some, IfOk, slice_get, slice_set, string_bytes};
-ghost use Rattle.std.specs.Option.{option_map};
+ghost use Rattle.std.specs.Prelude.{◌≡◌, ◌-◌, ◌<◌, ◌^◌, length, map, [], false, true, Some, IfOk, OnOk, OnErr, slice_get, slice_set, string_bytes};
 ghost use Rattle.plain_machine.specs.Exchanges.{Spawn, Read, AskEnd, Send, Close, Kill, Closed};
-ghost use Rattle.host_link.specs.Meaning.{exchanges_of};
 ghost use Rattle.host_link.specs.Hosts.{Asked, Exchanged, Fits, IsNumbered, after_spawn, spawned_answer, got_answer, ended_answer, send_answer, kill_answer};
 ghost use Rattle.host_link.specs.Recorded.{recorded_state, Records, RecordsOnce};
 
@@ -16,7 +14,8 @@ use ek_types::{ListOf, Mem};
 use std::alloc::Global;
 use std::marker::Model;
 
-/// Keeps and tells the exchanges of another host.
+/// Keeps and tells the exchanges of another host. Each call but `told` is made once on that host, and its answer handed
+/// on; memory for keeping it is taken before that host is asked.
 #[derive(Drop)]
 pub struct Recorder<H: Host> {
     inner: H,
@@ -36,7 +35,7 @@ impl<H: Host> Model for Recorder<H> {
 }
 
 impl<H: Host> Recorder<H> {
-    /// A recorder over a host that has started no child yet.
+    /// A recorder, with no exchange yet, over a host that has started no child.
     pub fn new(alloc: Global, inner: H) -> Recorder<H>
         requires { (H.state inner).kills ≡ [] }
         ensures inner { result.inner ≡ inner }
@@ -52,6 +51,8 @@ impl<H: Host> Recorder<H> {
 impl<H: Host> Host for Recorder<H> {
     ghost state = { λ r. recorded_state (H.state r.inner) r.told };
 
+    ghost made = { λ r s ask room answer. H.made r.inner s.inner ask room answer };
+
     fn spawn(&mut self, program: &str, args: &[String]) -> Mem<Spawned>
         requires { length (H.state self.old.inner).kills < 2 ^ 32 - 1 }
         ensures asked { Asked (recorded_state (H.state self.old.inner) self.old.told)
@@ -62,6 +63,8 @@ impl<H: Host> Host for Recorder<H> {
         ensures inner { RecordsOnce (H.state self.old.inner) (H.state self.new.inner) self.old.told
             self.new.told (after_spawn (H.state self.old.inner).kills)
             (Spawn program.now (map string_bytes args.now)) spawned_answer result }
+        ensures made { IfOk result (λ s. H.made self.old.inner self.new.inner
+            (Spawn program.now (map string_bytes args.now)) 0 (spawned_answer s)) }
     {
         let alloc = self.log.allocator();
         let program_bytes = list_of(alloc, program.as_bytes())?;
@@ -81,6 +84,9 @@ impl<H: Host> Host for Recorder<H> {
         ensures fits { IfOk result (Fits (length into.new)) }
         ensures inner { RecordsOnce (H.state self.old.inner) (H.state self.new.inner) self.old.told
             self.new.told (λ _. (H.state self.old.inner).kills) (Read child) (got_answer into.new) result }
+        ensures made { IfOk result (λ got. H.made self.old.inner self.new.inner (Read child)
+            (length into.old) (got_answer into.new got)) }
+        ensures room_kept { OnErr result (into.new ≡ into.old) }
     {
         let alloc = self.log.allocator();
         let mut room = ListOf::new(alloc);
@@ -99,6 +105,8 @@ impl<H: Host> Host for Recorder<H> {
             (AskEnd child) ended_answer result }
         ensures inner { RecordsOnce (H.state self.old.inner) (H.state self.new.inner) self.old.told
             self.new.told (λ _. (H.state self.old.inner).kills) (AskEnd child) ended_answer result }
+        ensures made { IfOk result (λ ended. H.made self.old.inner self.new.inner (AskEnd child) 0
+            (ended_answer ended)) }
     {
         self.log.reserve(1)?;
         let ended = self.inner.end(child)?;
@@ -113,6 +121,8 @@ impl<H: Host> Host for Recorder<H> {
             (Send child bytes.now) send_answer result }
         ensures inner { RecordsOnce (H.state self.old.inner) (H.state self.new.inner) self.old.told
             self.new.told (λ _. (H.state self.old.inner).kills) (Send child bytes.now) send_answer result }
+        ensures made { IfOk result (λ sent. H.made self.old.inner self.new.inner (Send child bytes.now) 0
+            (send_answer sent)) }
     {
         let sent_bytes = list_of(self.log.allocator(), bytes)?;
         self.log.reserve(1)?;
@@ -129,6 +139,7 @@ impl<H: Host> Host for Recorder<H> {
             (Close child) (λ _. Closed) result }
         ensures inner { RecordsOnce (H.state self.old.inner) (H.state self.new.inner) self.old.told
             self.new.told (λ _. (H.state self.old.inner).kills) (Close child) (λ _. Closed) result }
+        ensures made { OnOk result (H.made self.old.inner self.new.inner (Close child) 0 Closed) }
     {
         self.log.reserve(1)?;
         self.inner.close(child)?;
@@ -148,6 +159,7 @@ impl<H: Host> Host for Recorder<H> {
         ensures inner { Records (H.state self.old.inner) (H.state self.new.inner) self.old.told
             self.new.told (slice_set (H.state self.old.inner).kills child true) (Kill child)
             (kill_answer result) }
+        ensures made { H.made self.old.inner self.new.inner (Kill child) 0 (kill_answer result) }
     {
         let killed = self.inner.kill(child);
         self.log.put_kill(Ask::Kill(child), answer_to_kill(killed));

@@ -50,10 +50,10 @@ fn push_answer(alloc: Global, text: &mut String, answer: &Answer) -> Result<(), 
     }
 }
 
-fn push_exchange(alloc: Global, text: &mut String, x: &Exchange) -> Result<(), AllocError> {
-    push_ask(alloc, text, &x.ask)?;
+fn push_exchange(alloc: Global, text: &mut String, exchange: &Exchange) -> Result<(), AllocError> {
+    push_ask(alloc, text, &exchange.ask)?;
     text.push_str(": ")?;
-    push_answer(alloc, text, &x.answer)?;
+    push_answer(alloc, text, &exchange.answer)?;
     text.push_str("\n")
 }
 

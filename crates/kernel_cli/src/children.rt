@@ -9,7 +9,7 @@ ghost use Rattle.plain_machine.specs.Exchanges.{Spawn, Read, AskEnd, Send, Close
 ghost use Rattle.host_link.specs.Hosts.{Asked, Exchanged, Fits, IsNumbered, after_spawn, spawned_answer, got_answer, ended_answer, send_answer, kill_answer};
 ghost use Rattle.kernel_cli.specs.Answers.{untold, faults_after, of_child, Gives, OutputGives, InputTakes, told_end};
 
-use ek_types::{Mem, NoMemory};
+use ek_types::Mem;
 use host_link::{Ended, Exchanges, Got, Host, KillAnswer, SendAnswer, Spawned};
 use std::alloc::{AllocError, Global};
 use std::io::{self, Read, Write};
@@ -132,9 +132,7 @@ impl<'a, R: Processes> Host for RealHost<'a, R> {
         ensures number { IfOk result (IsNumbered (length self.old.kills.items)) }
         ensures faults { IfOk result (λ answer. self.new.faults ≡ faults_after (spawned_answer answer) self.old.faults) }
     {
-        let Ok(mut command) = command_of(self.alloc, program, args) else {
-            return Err(NoMemory);
-        };
+        let mut command = command_of(self.alloc, program, args)?;
         self.children.reserve(1)?;
         self.kills.reserve(1)?;
         match command.spawn(self.rt) {
@@ -157,6 +155,7 @@ impl<'a, R: Processes> Host for RealHost<'a, R> {
         ensures asked { Asked (untold self.old.faults self.old.kills.items) (untold self.new.faults self.new.kills.items)
             (λ _. self.old.kills.items) (Read child) (got_answer into.new) result }
         ensures fits { IfOk result (Fits (length into.new)) }
+        ensures room_kept { OnErr result (into.new ≡ into.old) }
         ensures faults { IfOk result (λ got. self.new.faults ≡ faults_after (got_answer into.new got) self.old.faults) }
         ensures got { IfOk result (λ got. got ≢ Got.Failed → OutputGives R.Started.Stdout.remaining
             (of_child (λ c. c.stdout) self.old.children.items child) (of_child (λ c. c.stdout) self.new.children.items child) into.new got) }

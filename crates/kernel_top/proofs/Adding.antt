@@ -1,13 +1,13 @@
 -- A kernel with a process more.
-use Rattle.std.proofs.Common.{◌≡◌, ℕ, Bool, true, false, List, [], ◌∷◌, ◌++◌, length, Ok, Err, Result, refl, ap, sym, ◌∙◌, slice_set, subst, zero, suc}
-use Rattle.std.specs.Prelude.{Some, None, OnOk, IfSome, is_some}
+use Rattle.std.proofs.Common.{◌≡◌, ℕ, true, false, List, [], ◌∷◌, ◌++◌, length, Ok, Err, Result, refl, ap, ◌∙◌, slice_set}
+use Rattle.std.specs.Prelude.{Some, None, OnOk, is_some}
 use Rattle.std.specs.declared.option.Option.{Option}
 use Rattle.text_model.specs.Characters.{Ch}
 use Rattle.text_model.specs.Marks.{Marker, Spot}
 use Rattle.plain_machine.specs.State.{Process}
 use Rattle.process_table.specs.Table.{new_process}
 use Rattle.marker_set.specs.Numbered.{marker_at, nowhere}
-use Rattle.kernel_top.specs.Plain.{Content, Kernel, with_process, end_spot}
+use Rattle.kernel_top.specs.Plain.{Kernel, with_process, end_spot}
 
 pub on_ok : {T E P Q : Type 0} (r : Result T E) → (P → Q) → OnOk r P → OnOk r Q
 on_ok (Ok x) f h = f h

@@ -1,6 +1,6 @@
 -- What asking a process in a wait comes to, by the host's answer.
 use Rattle.std.proofs.Common.{◌≡◌, ℕ, suc, ◌≤◌, ◌<◌, ◌+◌, Bool, true, false, List, [], ◌∷◌, ◌++◌, length, refl, ap, sym, ◌∙◌, subst, slice_get, take, arith}
-use Rattle.std.specs.Prelude.{ℤ, Some, None, nat_le, nat_lt, ◌&&◌, All}
+use Rattle.std.specs.Prelude.{ℤ, Some, None, nat_lt, All}
 use Rattle.std.specs.List.{list_all}
 use Rattle.std.specs.declared.option.Option.{Option}
 use Rattle.std.proofs.lemmas.Bool.{le-leb, lt-ltb}
@@ -9,12 +9,13 @@ use Rattle.text_model.specs.Characters.{Ch}
 use Rattle.text_model.specs.Properties.{bare}
 use Rattle.text_model.specs.Decoding.{characters, all_characters}
 use Rattle.text_model.specs.Undo.{Undo}
+use Rattle.text_model.proofs.Lists.{All-slice_get}
 use Rattle.editor_model.specs.Values.{Str, TheProcess}
-use Rattle.plain_machine.specs.Exchanges.{Ask, Answer, Read, AskEnd, Bytes, End, Code, Signal, Running}
+use Rattle.plain_machine.specs.Exchanges.{Answer, Read, AskEnd, Bytes, End, Code, Signal, Running}
 use Rattle.plain_machine.specs.Exchanges as exchange
-use Rattle.plain_machine.specs.State.{State, Process, Status, Filter, Default, Exited, Signalled, Lost, Program, process, change_process}
+use Rattle.plain_machine.specs.State.{State, Process, Status, Default, Exited, Signalled, Lost, Program, process, change_process}
 use Rattle.plain_machine.specs.Lines.{OfFilter, OfSentinel}
-use Rattle.plain_machine.specs.Items.{Item, Enter, Wait, Waiting, Target, Config, Next, Step, Asks}
+use Rattle.plain_machine.specs.Items.{Item, Enter, Wait, Waiting, Target, Config, Next}
 use Rattle.plain_machine.specs.Waits.{entry_of, filter_handler, more_characters, is_room, ask_if, ask_next, hear, read_answer, end_answer}
 use Rattle.plain_machine.specs.Waits.{asked_more as asked_one}
 use Rattle.plain_machine.specs.Step.{step}
@@ -24,10 +25,9 @@ use Rattle.wait_loop.specs.Rounds.{AsksProcess}
 use Rattle.host_link.specs.Hosts.{HostState, Exchanged}
 use Rattle.ek_types.specs.Io.{SinkState}
 use Rattle.kernel_top.specs.Plain.{Kernel, asked_more, IsSound, IsOrdinary}
-use Rattle.kernel_top.specs.Outside.{deepest, Outside, outside, Goes}
+use Rattle.kernel_top.specs.Outside.{deepest, outside, Goes}
 use Rattle.kernel_top.specs.Standing.{stands_at, working}
 use Rattle.kernel_top.specs.Hearing.{filter_entry, told_of, IsAsked}
-use Rattle.kernel_top.proofs.Sound.{one_of_all}
 use Rattle.kernel_top.proofs.Journeys.{asked}
 use Rattle.kernel_top.proofs.Output.{Stood, stood}
 
@@ -51,7 +51,7 @@ module _ (program : Program) (k : Kernel) (sound : IsSound k) (u : Undo) (all : 
     drained_is = ap (λ (z : Process). z.drained) y.same ∙ may.output
 
     ordinary : IsOrdinary (length k.beside.markers) may.process
-    ordinary = one_of_all (IsOrdinary (length k.beside.markers)) k.beside.processes p may.process sound.ordinary may.made
+    ordinary = All-slice_get (IsOrdinary (length k.beside.markers)) k.beside.processes p may.process sound.ordinary may.made
 
     filter_is : y.one.filter ≡ Default
     filter_is = ap (λ (z : Process). z.filter) y.same ∙ ordinary.filter

@@ -1,8 +1,8 @@
 -- What each call of the first path comes to.
 use Rattle.std.proofs.Common.{◌≡◌, ℕ, ◌+◌, ◌≤◌, ◌<◌, Bool, true, false, List, [], ◌∷◌, length, map, refl, ap, sym, ◌∙◌, arith, subst}
-use Rattle.std.specs.Prelude.{ℤ, min, max, nat_le, ◌==◌, ◌||◌, ◌&&◌, if◌then◌else◌, Some, None}
+use Rattle.std.specs.Prelude.{ℤ, min, max, nat_le, ◌==◌, ◌||◌, if◌then◌else◌, Some, None}
 use Rattle.std.proofs.lemmas.List.{length-map}
-use Rattle.std.proofs.lemmas.Bool.{le-leb, lt-leb, leb-true, ne_eqb, eq-eqb}
+use Rattle.std.proofs.lemmas.Bool.{le-leb, lt-leb, leb-true, ne_eqb, eq-eqb, and_parts}
 use Rattle.std.proofs.lemmas.Grind.{common_steps}
 use Rattle.text_model.specs.Characters.{Ch}
 use Rattle.text_model.specs.Properties.{Cell, bare}
@@ -159,15 +159,7 @@ not_found c i h = by (is_within c i) h
     by true h = absurd (let some : Some (place_of i) ≡ None = h in cc)
     by false h = refl
 
-and_second : (a b : Bool) → (a && b) ≡ true → b ≡ true
-and_second true b h = h
-and_second false b h = absurd (let never : false ≡ true = h in cc)
-
--- an argument is one string alone
-pub same_string : (a : Arg) (p q : List Cell) → a ≡ Const (Str p) → a ≡ Const (Str q) → p ≡ q
-same_string a p q e k = let both : Const (Str p) ≡ Const (Str q) = sym e ∙ k in cc
-
 pub place_fits : (c : Content) (i : ℤ) → is_within c i ≡ true → place_of i ≤ length c.text
 place_fits c i h =
-    let front : nat_le (position_of (Some i)) (length c.text + 1) ≡ true = and_second (nat_le 1 (position_of (Some i))) (nat_le (position_of (Some i)) (length c.text + 1)) h in
+    let front : nat_le (position_of (Some i)) (length c.text + 1) ≡ true = (and_parts (nat_le 1 (position_of (Some i))) (nat_le (position_of (Some i)) (length c.text + 1)) h).1 in
     omega (arith, leb-true (position_of (Some i)) (length c.text + 1) front)

@@ -1,5 +1,5 @@
 -- How a default handler is entered and left.
-use Rattle.std.proofs.Common.{◌≡◌, ℕ, ◌<◌, arith, Bool, true, false, List, [], ◌∷◌, length, Ok, Err, Result, refl, ap, sym, ◌∙◌, slice_get, subst}
+use Rattle.std.proofs.Common.{◌≡◌, ℕ, ◌<◌, arith, Bool, true, false, List, [], ◌∷◌, length, Ok, Err, Result, refl, ap, sym, ◌∙◌, subst}
 use Rattle.std.specs.Prelude.{Some, None, ◌==◌}
 use Rattle.std.proofs.lemmas.Grind.{common_steps}
 use Rattle.std.specs.declared.option.Option.{Option}
@@ -9,10 +9,9 @@ use Rattle.text_model.specs.Undo.{Undo}
 use Rattle.editor_model.specs.Values.{Value, Str, TheProcess}
 use Rattle.editor_model.specs.Answers.{Prepared, Changes, Quiet, Nothing, Barred}
 use Rattle.editor_model.specs.TextCalls.{prepare_output}
-use Rattle.plain_machine.specs.State.{State, Process, Program, process, change_process}
+use Rattle.plain_machine.specs.State.{State, Process, Program, change_process}
 use Rattle.plain_machine.specs.Lines.{Kind, OfFilter, OfSentinel, Entered, Left, line}
-use Rattle.plain_machine.specs.Items.{Item, Enter, Exit, Wait, Waiting, Target, Config, Next}
-use Rattle.plain_machine.specs.Calls.{on}
+use Rattle.plain_machine.specs.Items.{Item, Enter, Exit, Wait, Waiting, Target, Config}
 use Rattle.plain_machine.specs.Forms.{current}
 use Rattle.plain_machine.specs.Handling.{put_output, put_in, output_in, process_buffer_of, mark_of_process, enter, exit, unlisted}
 use Rattle.plain_machine.specs.WholeRuns.{IsBetweenEntries}
@@ -23,13 +22,12 @@ use Rattle.ek_types.specs.Io.{SinkState, Writes}
 use Rattle.kernel_top.specs.Plain.{Kernel, with_table}
 use Rattle.kernel_top.specs.Outside.{Outside, outside, Goes, Breaks}
 use Rattle.kernel_top.specs.Standing.{stands_at, inside, working, Comes, GoesTo, BreaksAt, IsBeforeTheEnd}
-use Rattle.kernel_top.specs.Hearing.{filter_entry, words_of_sentinel}
+use Rattle.kernel_top.specs.Hearing.{filter_entry}
 use Rattle.kernel_top.specs.declared.answer.Stop.{Stop}
 use Rattle.kernel_top.specs.declared.answer.Stop.TheVariants as stop
-use Rattle.kernel_top.proofs.Handling.{filter_entered, sentinel_entered}
 use Rattle.kernel_top.proofs.Journeys.{goes_silently, goes_then, breaks_here, goes_breaks, says, says_front}
 use Rattle.kernel_top.proofs.Keeping.{only_processes}
-use Rattle.kernel_top.proofs.Output.{Stood, stood, breaks_at}
+use Rattle.kernel_top.proofs.Output.{breaks_at}
 
 -- WHERE OUTPUT IS PUT
 -- it is about to be put in, it was refused, or the handler is about to be left

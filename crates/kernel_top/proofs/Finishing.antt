@@ -1,10 +1,7 @@
 -- The end of a run: which children are left, and how the machine kills them.
-use Rattle.std.proofs.Common.{◌≡◌, ℕ, zero, suc, ◌+◌, ◌<◌, ◌≤◌, Bool, true, false, List, [], ◌∷◌, ◌++◌, map, filter, length, drop, All, slice_get, slice_set, refl, ap, sym, ◌∙◌, subst, Ok, Err, Result, arith, append-nil, append_assoc}
-use Rattle.std.specs.Prelude.{Some, None, if◌then◌else◌, nat_lt, ◌==◌}
-use Rattle.std.specs.declared.option.Option.{Option}
+use Rattle.std.proofs.Common.{◌≡◌, ℕ, zero, suc, ◌+◌, ◌<◌, Bool, true, false, List, [], ◌∷◌, ◌++◌, length, drop, All, slice_get, slice_set, refl, ap, sym, ◌∙◌, subst, arith, append-nil, append_assoc}
+use Rattle.std.specs.Prelude.{Some, if◌then◌else◌}
 use Rattle.std.proofs.lemmas.Bool.{lt-ltb, false≢true}
-use Rattle.std.proofs.lemmas.List.{drop_more}
-use Rattle.std.proofs.lemmas.Option.{slice_get_within, get_or_from_slice_get}
 use Rattle.text_model.specs.Properties.{insert_name}
 use Rattle.plain_machine.specs.Exchanges.{rising}
 use Rattle.plain_machine.specs.State.{Process}
@@ -21,6 +18,7 @@ use Rattle.plain_machine.specs.Run.{Reaches, stays, goes}
 use Rattle.plain_machine.specs.WholeRuns.{AreKills}
 use Rattle.text_model.specs.Undo.{Undo}
 use Rattle.std.proofs.lemmas.List.{drop-map}
+use Rattle.text_model.proofs.Lists.{drop_at}
 use Rattle.process_table.specs.Table.{StandsFor, kept}
 use Rattle.machine_laws.specs.Children.{to_kill}
 use Rattle.host_link.specs.Hosts.{HostState, Exchanged}
@@ -30,14 +28,10 @@ use Rattle.host_link.specs.declared.host.KillAnswer.TheVariants as killed
 use Rattle.ek_types.specs.Io.{SinkState}
 use Rattle.kernel_top.specs.Plain.{Kernel}
 use Rattle.kernel_top.specs.Outside.{deepest, Outside, outside, Breaks}
-use Rattle.kernel_top.specs.Standing.{stands_at, working, unmade, with_unmade, Hosted, children, running}
+use Rattle.kernel_top.specs.Standing.{stands_at, working, Hosted, children, running}
 use Rattle.kernel_top.specs.Ending.{Halts}
-use Rattle.kernel_top.specs.declared.answer.Stop.{Stop}
 use Rattle.kernel_top.proofs.Journeys.{tells_then}
 use Rattle.kernel_top.proofs.Output.{Stood, stood, running_alike}
-
-pub drop_at : {X : Type 0} (xs : List X) (i : ℕ) (x : X) → slice_get xs i ≡ Some x → drop i xs ≡ x ∷ drop (i + 1) xs
-drop_at xs i x h = drop_more xs i x (slice_get_within xs i x h) ∙ ap (λ y. y ∷ drop (i + 1) xs) (get_or_from_slice_get xs i x x h)
 
 -- CHILDREN BY RISING NUMBER
 abbrev Below : ℕ → List ℕ → Type 0
@@ -168,10 +162,6 @@ module _ (list : List Process) (p : ℕ) (x : Process) (made : slice_get list p 
 
   pub hosted_split : (kills : List Bool) → Hosted (drop p list ++ more) kills → Hosted (x ∷ (drop (p + 1) list ++ more)) kills
   hosted_split kills h = subst (λ l. Hosted l kills) split h
-
-pub split_unmade : {T : Type 0} (so_far : Result T Stop) (list : List Process) → (us : List Process) × (with_unmade so_far list ≡ list ++ us)
-split_unmade (Ok x) list = ([], sym (append-nil list))
-split_unmade (Err why) list = (unmade why, refl)
 
 -- THE MACHINE'S STEPS
 module _ (program : Program) (k : Kernel) (v : Undo) (all : List Process) (stands : StandsFor k.beside.processes all) (p : ℕ) (x : Process) (made : slice_get k.beside.processes p ≡ Some x) where

@@ -17,7 +17,7 @@ use Rattle.editor_model.specs.TextCalls.{place_in}
 use Rattle.plain_machine.specs.State.{State, Process, Program}
 use Rattle.plain_machine.specs.Lines.{OfFilter, OfSentinel}
 use Rattle.plain_machine.specs.Items.{Item, MakeChange, Refuse, Exit, Config}
-use Rattle.plain_machine.specs.Handling.{put_output, put_in, output_in, enter, plain_text, text_of, sentinel_words, where_live}
+use Rattle.plain_machine.specs.Handling.{put_output, put_in, output_in, enter, plain_text, sentinel_words, where_live}
 use Rattle.marker_set.specs.Numbered.{marker_at}
 use Rattle.kernel_top.specs.Plain.{Kernel, whole, buffer_with, plain_editor, plain_state, inserted_at, marked}
 use Rattle.kernel_top.specs.Standing.{stands_at, inside, working}
@@ -44,7 +44,7 @@ module _ (program : Program) (k : Kernel) (u : Undo) (all : List Process) (rest 
   words_put p y told e =
       let front : List Cell = bare (map Scalar (codes "\nProcess ")) in
       let blank : List Cell = bare (map Scalar (32 ∷ [])) in
-      ap (λ (o : Option Process). front ++ (text_of (elim o [ Some x ↦ x.name | None ↦ [] ]) ++ (blank ++ plain_text (bare told)))) e
+      ap (λ (o : Option Process). front ++ (bare (elim o [ Some x ↦ x.name | None ↦ [] ]) ++ (blank ++ plain_text (bare told)))) e
       ∙ ap (λ t. front ++ (bare y.name ++ (blank ++ bare t))) (text_alone told)
       ∙ ap (λ l. front ++ l) (sym (map-append {B = Cell} (λ c. (c, [])) y.name (map Scalar (32 ∷ []) ++ told)))
 

@@ -1,6 +1,6 @@
 -- The children of a run, with one more.
-use Rattle.std.proofs.Common.{◌≡◌, ℕ, ◌+◌, ◌<◌, Bool, true, false, List, [], ◌∷◌, ◌++◌, map, length, refl, ap, sym, ◌∙◌, arith, slice_get, subst, append-nil, length-append, zero, suc}
-use Rattle.std.specs.Prelude.{Some, All, ◌==◌, filter}
+use Rattle.std.proofs.Common.{◌≡◌, ℕ, ◌+◌, ◌<◌, Bool, false, List, [], ◌∷◌, ◌++◌, map, length, refl, ap, sym, ◌∙◌, arith, slice_get, subst, append-nil, length-append, zero, suc}
+use Rattle.std.specs.Prelude.{Some, ◌==◌}
 use Rattle.std.specs.List.{list_any}
 use Rattle.std.proofs.lemmas.Bool.{ne_eqb}
 use Rattle.std.proofs.lemmas.List.{map-append}
@@ -21,11 +21,6 @@ last_there (x ∷ xs) b = last_there xs b
 
 grown : (kills : List Bool) (n : ℕ) → n < length kills → n < length (kills ++ false ∷ [])
 grown kills n h = omega (arith, h, length-append kills (false ∷ []))
-
--- a child more, which has no process yet
-pub hosted_grown : (list : List Process) (kills : List Bool) → Hosted list kills → Hosted list (kills ++ false ∷ [])
-hosted_grown [] kills h = tt
-hosted_grown (x ∷ rest) kills h = (grown kills x.child h.0, λ r. front_stays kills (false ∷ []) x.child h.0 ∙ h.1 r, h.2, hosted_grown rest kills h.3)
 
 -- and with its process
 pub hosted_started : (list : List Process) (kills : List Bool) (x : Process) → x.child ≡ length kills → Hosted list kills → Hosted (list ++ x ∷ []) (kills ++ false ∷ [])

@@ -1,13 +1,14 @@
 -- A change of one process leaves the children as they are, or ends one.
-use Rattle.std.proofs.Common.{◌≡◌, ℕ, zero, suc, ◌<◌, Bool, true, false, List, [], ◌∷◌, map, length, All, slice_get, slice_set, refl, ap, sym, ◌∙◌, subst, Ok, Err, Result, append-nil, arith}
+use Rattle.std.proofs.Common.{◌≡◌, ℕ, zero, suc, ◌<◌, Bool, true, false, List, [], ◌∷◌, length, All, slice_get, slice_set, refl, ap, sym, ◌∙◌, subst, Ok, Err, Result, append-nil, arith}
 use Rattle.std.specs.Prelude.{Some, None, IfErr}
 use Rattle.std.specs.declared.option.Option.{Option}
 use Rattle.std.proofs.lemmas.List.{length-set}
-use Rattle.std.proofs.lemmas.List.Elements.{All-set, All-cons}
+use Rattle.std.proofs.lemmas.List.Elements.{All-set}
 use Rattle.text_model.specs.Undo.{Undo}
-use Rattle.plain_machine.specs.State.{State, Process, process, change_process}
+use Rattle.plain_machine.specs.State.{State, Process, change_process}
 use Rattle.plain_machine.specs.Arguments.{runs}
 use Rattle.std.proofs.lemmas.Bool.{false≢true}
+use Rattle.text_model.proofs.Lists.{All-slice_get}
 use Rattle.process_table.specs.Meaning.{status_of}
 use Rattle.process_table.specs.declared.process.Status as declared
 use Rattle.process_table.specs.declared.process.Status.TheVariants as written
@@ -17,7 +18,6 @@ use Rattle.plain_machine.specs.Waits.{asked_more as asked_one}
 use Rattle.kernel_top.specs.Plain.{Kernel, with_table, asked_more}
 use Rattle.kernel_top.specs.Standing.{stands_at, Hosted, StaysHosted, unmade}
 use Rattle.kernel_top.specs.declared.answer.Stop.{Stop}
-use Rattle.kernel_top.proofs.Sound.{one_of_all}
 
 hosted_set : (xs : List Process) (p : ℕ) (x y : Process) (kills : List Bool) → slice_get xs p ≡ Some x → y.child ≡ x.child → (runs y.status ≡ true → runs x.status ≡ true) → Hosted xs kills → Hosted (slice_set xs p y) kills
 hosted_set [] p x y kills e child ends h = tt
@@ -30,7 +30,7 @@ hosted_set (z ∷ xs) zero x y kills e child ends (small, lives, later, rest) =
       rest,
     )
 hosted_set (z ∷ xs) (suc p) x y kills e child ends (small, lives, later, rest) =
-    let one = one_of_all (λ (v : Process). z.child < v.child) xs p x later e in
+    let one = All-slice_get (λ (v : Process). z.child < v.child) xs p x later e in
     (small, lives, All-set (λ (v : Process). z.child < v.child) xs p y (subst (λ n. z.child < n) (sym child) one) later, hosted_set xs p x y kills e child ends rest)
 
 -- the list with one process changed, by what is found

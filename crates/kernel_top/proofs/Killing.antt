@@ -1,5 +1,5 @@
 -- One child more is dealt with at the end of a run.
-use Rattle.std.proofs.Common.{◌≡◌, ℕ, ◌+◌, ◌<◌, Bool, true, false, List, [], ◌∷◌, ◌++◌, length, drop, slice_get, slice_set, refl, ap, sym, ◌∙◌, subst, Ok, Err, Result, arith, append-nil}
+use Rattle.std.proofs.Common.{◌≡◌, ℕ, ◌+◌, Bool, true, false, List, [], ◌∷◌, ◌++◌, length, drop, slice_get, slice_set, refl, ap, sym, ◌∙◌, subst, Ok, Err, Result, arith, append-nil}
 use Rattle.std.specs.Prelude.{Some, None}
 use Rattle.std.proofs.lemmas.Option.{slice_get_past}
 use Rattle.std.proofs.lemmas.List.{length-map, drop_all}
@@ -15,6 +15,7 @@ use Rattle.plain_machine.specs.Step.{step}
 use Rattle.plain_machine.specs.Run.{goes, stays}
 use Rattle.plain_machine.specs.Lines.{line, KilledLast, Dumped}
 use Rattle.text_model.specs.Undo.{Undo}
+use Rattle.text_model.proofs.Lists.{drop_at}
 use Rattle.process_table.specs.Table.{StandsFor, kept}
 use Rattle.host_link.specs.Hosts.{HostState, Exchanged, kill_answer}
 use Rattle.host_link.specs.declared.host.KillAnswer.{KillAnswer}
@@ -26,7 +27,7 @@ use Rattle.kernel_top.specs.Ending.{IsAtEnd, Halts}
 use Rattle.kernel_top.specs.declared.answer.Stop.{Stop}
 use Rattle.kernel_top.specs.declared.answer.Stop.TheVariants as stop
 use Rattle.kernel_top.proofs.Journeys.{goes_silently, goes_then, goes_breaks, says, says_front, asked_says, asked_front}
-use Rattle.kernel_top.proofs.Finishing.{sorted_children, drop_at, hosted_split, hosted_killed, first_lives, halts_as, halts_of, halts_kill, left_skip, left_kill, left_behind, skips, kills_it, killing, kill_said, finishing, answered_kill}
+use Rattle.kernel_top.proofs.Finishing.{sorted_children, hosted_split, hosted_killed, first_lives, halts_as, halts_of, halts_kill, left_skip, left_kill, left_behind, skips, kills_it, killing, kill_said, finishing, answered_kill}
 
 tail_hosted : (x : Process) (list : List Process) (kills : List Bool) → Hosted (x ∷ list) kills → Hosted list kills
 tail_hosted x list kills (small, lives, later, rest) = rest
@@ -105,9 +106,6 @@ before_the_end c h = by c.work h
 
 none_after : (table all : List Process) → StandsFor table all → slice_get all (length table) ≡ None
 none_after table all stands = slice_get_past all (length table) (let same : length table ≡ length all = ap length stands ∙ length-map all kept in omega (arith, same))
-
-pub none_left : (list : List Process) → children (running (drop (length list) list ++ [])) ≡ []
-none_left list = ap (λ l. children (running (l ++ []))) (drop_all (length list) list (omega arith))
 
 pub one_left : (list : List Process) (child : ℕ) → children (running (drop (length list) list ++ unmade (stop.NoProcess child))) ≡ child ∷ []
 one_left list child = ap (λ l. children (running (l ++ unmade (stop.NoProcess child)))) (drop_all (length list) list (omega arith))

@@ -1,5 +1,5 @@
 -- What the machine does at a start.
-use Rattle.std.proofs.Common.{◌≡◌, ◌⊎◌, ℕ, ◌+◌, ◌<◌, ◌≤◌, Bool, true, false, List, [], ◌∷◌, ◌++◌, map, length, drop, refl, ap, sym, ◌∙◌, arith, subst, Ok, Err, Result, append-nil, inl, inr}
+use Rattle.std.proofs.Common.{◌≡◌, ℕ, ◌+◌, Bool, true, false, List, [], ◌∷◌, ◌++◌, map, length, drop, refl, ap, sym, ◌∙◌, arith, subst, inl, inr}
 use Rattle.std.specs.Prelude.{Some, None, ◌&&◌, ◌||◌, not, ◌==◌, if◌then◌else◌, nat_lt, nat_le}
 use Rattle.std.specs.List.{list_all, list_any}
 use Rattle.std.specs.declared.option.Option.{Option}
@@ -9,8 +9,8 @@ use Rattle.std.proofs.lemmas.List.Folds.{list_all-map}
 use Rattle.text_model.specs.Characters.{Ch}
 use Rattle.text_model.specs.Properties.{Cell, bare}
 use Rattle.text_model.specs.Undo.{Undo}
-use Rattle.editor_model.specs.Values.{Value, Nil, plain, Prim, StartProcess, Fault, WrongType, TooMany, ExchangesSpent, SpawnFailed, Answered, Refused, TheProcess, Arg, Const, Forms, Then}
-use Rattle.editor_model.specs.Editor.{Name, scratch}
+use Rattle.editor_model.specs.Values.{Value, plain, StartProcess, Fault, WrongType, TooMany, ExchangesSpent, SpawnFailed, Answered, Refused, TheProcess, Arg, Const, Forms, Then}
+use Rattle.editor_model.specs.Editor.{Name}
 use Rattle.editor_model.specs.Limits.{longest_name, most_markers}
 use Rattle.editor_model.specs.Arguments.{string_of}
 use Rattle.editor_model.specs.Answers.{Test, refuse, first_fault}
@@ -18,7 +18,7 @@ use Rattle.plain_machine.specs.State.{State, Process, Program}
 use Rattle.plain_machine.specs.Arguments.{is_word, encoded, process_name}
 use Rattle.plain_machine.specs.Exchanges.{Ask, Spawn, Started, Answer}
 use Rattle.plain_machine.specs.Exchanges as model
-use Rattle.plain_machine.specs.Items.{Item, Top, MakeCall, GiveAnswer, Refuse, Nowhere, Config, Next, Step, Asks}
+use Rattle.plain_machine.specs.Items.{Item, Top, MakeCall, GiveAnswer, Refuse, Nowhere, Config, Next, Step}
 use Rattle.plain_machine.specs.Forms.{evaluate, call_with}
 use Rattle.plain_machine.specs.Refusals.{process_tests, must_be_word, most_processes, most_exchanges}
 use Rattle.plain_machine.specs.Calls.{unless_fault, process_effect, spawned, spawned_child, started, is_new_child, silent}
@@ -31,13 +31,12 @@ use Rattle.ek_types.specs.Io.{SinkState}
 use Rattle.kernel_top.specs.Plain.{Kernel, characters, with_process, asked_more, reply_item}
 use Rattle.kernel_top.specs.Answers.{called}
 use Rattle.kernel_top.specs.Outside.{deepest, Outside, outside, Goes}
-use Rattle.kernel_top.specs.Standing.{stands_at, working, Hosted, GoesTo, BreaksAt, children, running, unmade}
+use Rattle.kernel_top.specs.Standing.{stands_at, working, Hosted}
 use Rattle.kernel_top.specs.Calls.{AreOfStart}
-use Rattle.kernel_top.specs.Starting.{text_of, is_word_argument, are_words, buffer_of, start_refused}
+use Rattle.kernel_top.specs.Starting.{is_word_argument, are_words, buffer_of, start_refused}
 use Rattle.kernel_top.specs.declared.answer.Stop.TheVariants as stop
-use Rattle.kernel_top.proofs.Journeys.{goes_silently, goes_then, breaks_here, goes_breaks, asked}
-use Rattle.kernel_top.proofs.Output.{running_alike}
-use Rattle.kernel_top.proofs.HostedLemmas.{next_is_new, children_then}
+use Rattle.kernel_top.proofs.Journeys.{goes_silently, goes_then, asked}
+use Rattle.kernel_top.proofs.HostedLemmas.{next_is_new}
 
 -- ARGUMENTS
 evaluated : (s : State) (values : List Value) → evaluate s (map Const values) ≡ Some values

@@ -1,6 +1,6 @@
 -- What follows from the outcome of a run.
-use Rattle.std.proofs.Common.{◌≡◌, ℕ, ◌≤◌, ◌<◌, List, [], ◌∷◌, ◌++◌, length, Some, None, inl, inr, refl, ap, ◌∙◌, arith, append-nil, length-append}
-use Rattle.std.specs.Prelude.{◌⊎◌, codes}
+use Rattle.std.proofs.Common.{◌≡◌, ℕ, ◌≤◌, ◌<◌, List, ◌++◌, length, Some, None, inl, inr, refl, ap, ◌∙◌, arith, append-nil, length-append}
+use Rattle.std.specs.Prelude.{◌⊎◌}
 use Rattle.std.specs.declared.option.Option.{Option}
 use Rattle.std.specs.Io.KnownBytes.{Consumes, IsAtEnd}
 use Rattle.editor_model.specs.Values.{Script}
@@ -11,21 +11,6 @@ use Rattle.ek_types.specs.Io.{SinkState}
 use Rattle.kernel_top.specs.Outcomes.{IsRun, Outcome, HasEnded}
 use Rattle.kernel_top.specs.declared.status.Status.{Status}
 use Rattle.kernel_top.specs.declared.status.Status.TheVariants as status
-
--- more bytes than a script may have are none
-pub too_long : (bytes : List ℕ) → longest_script < length bytes → IsNoScript bytes
-too_long bytes h script is = omega (arith, h, is.of_machine.short)
-
--- the outcome on the bytes of a source that has ended, for the words that were given
-pub of_bytes : (answer : Status) (words : List (List ℕ)) (read written : List ℕ) (exchanges : List Exchange) (ended : Type 0) (before now : SinkState) → IsRun words → ended →
-    Outcome answer (codes "run" ∷ []) read written exchanges (Unit {0}) before now → Outcome answer words read written exchanges ended before now
-of_bytes status.Done words read written exchanges ended before now run end (first, second, of_script) = (run, end, of_script)
-of_bytes status.Usage words read written exchanges ended before now run end (never, none, nothing, alone, kept) = absurd (never refl)
-of_bytes (status.Script line) words read written exchanges ended before now run end (first, second, none, zero_line, nothing, alone, kept) = (run, inl end, none, zero_line, nothing, alone, kept)
-of_bytes status.ReadFault words read written exchanges ended before now run end (first, nothing, alone, kept) = (run, nothing, alone, kept)
-of_bytes status.WriteFault words read written exchanges ended before now run end (first, second, of_script) = (run, end, of_script)
-of_bytes status.NoMemory words read written exchanges ended before now run end (first, inl early) = (run, inl early)
-of_bytes status.NoMemory words read written exchanges ended before now run end (first, inr (second, of_script)) = (run, inr (end, of_script))
 
 -- what was read of a source whose end was met is all that it told
 pub all_read : (bytes read : List ℕ) (now : Option (List ℕ)) → Consumes (Some bytes) now read → IsAtEnd now → bytes ≡ read

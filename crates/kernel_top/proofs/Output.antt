@@ -1,6 +1,6 @@
 -- What the default handlers come to, in front of the work behind them.
-use Rattle.std.proofs.Common.{◌≡◌, ℕ, ◌+◌, ◌≤◌, ◌<◌, Bool, true, false, List, [], ◌∷◌, ◌++◌, map, filter, length, Ok, Err, Result, refl, ap, sym, ◌∙◌, arith, slice_get, subst, option_map, append-nil, get_or}
-use Rattle.std.specs.Prelude.{Some, None, IfSome, IsErr, IsErrAnd, ◌==◌, if◌then◌else◌, flat_map}
+use Rattle.std.proofs.Common.{◌≡◌, ℕ, ◌+◌, ◌≤◌, ◌<◌, Bool, true, false, List, [], ◌∷◌, ◌++◌, map, length, Ok, Err, Result, refl, ap, sym, ◌∙◌, arith, slice_get, subst, option_map, append-nil, get_or}
+use Rattle.std.specs.Prelude.{Some, None, IfSome, IsErr, IsErrAnd, ◌==◌, if◌then◌else◌}
 use Rattle.std.specs.declared.option.Option.{Option}
 use Rattle.std.proofs.lemmas.Option.{slice_get-map, slice_get-get_or}
 use Rattle.std.proofs.lemmas.Bool.{false≢true}
@@ -8,36 +8,36 @@ use Rattle.text_model.specs.Characters.{Ch}
 use Rattle.text_model.specs.Properties.{bare}
 use Rattle.text_model.specs.Undo.{Undo}
 use Rattle.editor_model.specs.Limits.{longest_text}
-use Rattle.editor_model.specs.Values.{BufferFull, Refused, Str, TheProcess}
-use Rattle.plain_machine.specs.State.{State, Process, Program, process}
+use Rattle.editor_model.specs.Values.{BufferFull, Refused}
+use Rattle.plain_machine.specs.State.{Process, Program}
 use Rattle.plain_machine.specs.Arguments.{runs}
-use Rattle.plain_machine.specs.Lines.{Kind, OfFilter, OfSentinel, Entered, Left, Replied, line}
-use Rattle.plain_machine.specs.Items.{Item, MakeChange, Refuse, Enter, Exit, Config, Next}
+use Rattle.plain_machine.specs.Lines.{Kind, Replied, line}
+use Rattle.plain_machine.specs.Items.{Item, MakeChange, Refuse, Exit, Config, Next}
 use Rattle.plain_machine.specs.Forms.{refused}
-use Rattle.plain_machine.specs.Handling.{put_output, enter, exit, ended_handler, left_state}
+use Rattle.plain_machine.specs.Handling.{put_output}
 use Rattle.plain_machine.specs.Run.{Reaches, stays}
 use Rattle.process_table.specs.Table.{StandsFor, kept, new_process}
 use Rattle.host_link.specs.Hosts.{HostState}
-use Rattle.ek_types.specs.Io.{SinkState, Writes, HasCause, Rose}
+use Rattle.ek_types.specs.Io.{SinkState, Writes, HasCause}
 use Rattle.text_model.specs.Commit.{Buffer}
 use Rattle.text_model.specs.Marks.{Spot}
 use Rattle.editor_model.specs.TextCalls.{place_in}
 use Rattle.marker_set.specs.Numbered.{marker_at, nowhere}
 use Rattle.std.proofs.lemmas.Option.{unwrap_or-slice_get}
 use Rattle.std.proofs.lemmas.List.Elements.{All-get_or}
-use Rattle.kernel_top.proofs.Sound.{one_of_all}
-use Rattle.kernel_top.specs.Plain.{Kernel, whole, buffer_with, plain_state, inserted_at, changed_kernel, marked, with_output, mark_of, output_place, place_at, IsSound, IsOrdinary, IsWithin}
+use Rattle.text_model.proofs.Lists.{All-slice_get}
+use Rattle.kernel_top.specs.Plain.{Kernel, whole, buffer_with, plain_state, inserted_at, marked, with_output, output_place, place_at, IsSound, IsOrdinary, IsWithin}
 use Rattle.kernel_top.specs.Outside.{deepest, Outside, outside, Goes, Breaks}
 use Rattle.kernel_top.specs.Standing.{stands_at, inside, working, GoesTo, BreaksAt, children, running, unmade, IsBeforeTheEnd}
 use Rattle.kernel_top.specs.declared.answer.Stop.{Stop}
 use Rattle.kernel_top.specs.declared.answer.Stop.TheVariants as stop
 use Rattle.kernel_top.proofs.Calls.{change, put, change_made, committed_state}
 use Rattle.kernel_top.proofs.Coming.{bare_length}
-use Rattle.kernel_top.proofs.Handling.{nowhere_put, full_put, room_put, room_at_commit, output_at, output_content, output_pops, filter_entered, sentinel_entered}
-use Rattle.kernel_top.proofs.Journeys.{goes_silently, goes_then, breaks_here, goes_breaks, says, says_front}
+use Rattle.kernel_top.proofs.Handling.{nowhere_put, full_put, room_put, room_at_commit, output_at, output_content, output_pops}
+use Rattle.kernel_top.proofs.Journeys.{goes_silently, breaks_here, says, says_front}
 
 -- an error that a conversion made
-pub stopped_by : {T : Type 0} (r : Result T Stop) (why : Stop) → IsErr r × IsErrAnd r (λ e. e ≡ why) → r ≡ Err why
+pub stopped_by : {T E : Type 0} (r : Result T E) (why : E) → IsErr r × IsErrAnd r (λ e. e ≡ why) → r ≡ Err why
 stopped_by (Ok x) why h = absurd (false≢true h.0)
 stopped_by (Err e) why h = ap Err h.1
 
@@ -124,7 +124,7 @@ module _ (program : Program) (host : HostState) (k : Kernel) (u : Undo) (all : L
 
   module _ (at : ℕ) (some : output_place k p ≡ Some at) where
     ordinary : IsOrdinary (length k.beside.markers) x
-    ordinary = one_of_all (IsOrdinary (length k.beside.markers)) k.beside.processes p x sound.ordinary made
+    ordinary = All-slice_get (IsOrdinary (length k.beside.markers)) k.beside.processes p x sound.ordinary made
 
     home : Home x.buffer at (place_at (length k.content.text) (marker_at k.beside.markers x.mark).spot)
     home = buffer_some (place_at (length k.content.text) (marker_at k.beside.markers x.mark).spot) at x.buffer ordinary.buffer (sym place_is ∙ some)

@@ -3,7 +3,7 @@ use Rattle.std.proofs.Common.{◌≡◌, ℕ, List, [], ◌∷◌, ◌++◌, ref
 use Rattle.std.specs.Prelude.{codes, Some, None}
 use Rattle.text_model.specs.Characters.{Ch}
 use Rattle.text_model.specs.Properties.{bare}
-use Rattle.editor_model.specs.Values.{Answered, Refused, Fault, TheProcess, Str}
+use Rattle.editor_model.specs.Values.{Refused, Fault, TheProcess, Str}
 use Rattle.editor_model.specs.Editor.{Name}
 use Rattle.plain_machine.specs.State.{State, Process, process}
 use Rattle.plain_machine.specs.Lines.{Replied, Entered, KilledLast, OfFilter, OfSentinel, line, fault_words, shown_text, quoted, shown_process}
@@ -14,9 +14,6 @@ pub process_shown : (s : State) (p : ℕ) (x : Process) (name : Name) → proces
 process_shown s p x name e k = ap process_words (sym k) ∙ ap words_of (sym e)
 
 module _ (symbols : List (List ℕ)) (s : State) (p : ℕ) (x : Process) (name : Name) (e : process s p ≡ Some x) (k : x.name ≡ name) where
-  pub process_replied : codes "= " ++ (process_words name ++ codes "\n") ≡ line symbols s (Replied 0 (Answered (TheProcess p)))
-  process_replied = ap (λ l. codes "= " ++ (l ++ codes "\n")) (process_shown s p x name e k)
-
   pub process_killed : codes "kill " ++ (process_words name ++ codes "\n") ≡ line symbols s (KilledLast p)
   process_killed = ap (λ l. codes "kill " ++ (l ++ codes "\n")) (process_shown s p x name e k)
 

@@ -1,9 +1,8 @@
 -- What the arguments of a start are, one by one, and what a start that isn't refused has.
-use Rattle.std.proofs.Common.{◌≡◌, ℕ, ◌+◌, ◌-◌, take, ◌<◌, ◌≤◌, Bool, true, false, List, [], ◌∷◌, map, length, drop, refl, ap, sym, ◌∙◌, arith, subst, slice_get, option_map}
-use Rattle.std.specs.Prelude.{Some, None, ◌&&◌, ◌||◌, not, ◌==◌, if◌then◌else◌, nat_lt, nat_le}
-use Rattle.std.specs.List.{list_all}
+use Rattle.std.proofs.Common.{◌≡◌, ℕ, ◌-◌, take, ◌≤◌, Bool, true, false, List, [], ◌∷◌, map, length, drop, refl, ap, sym, ◌∙◌, arith, slice_get, option_map}
+use Rattle.std.specs.Prelude.{Some, None, ◌||◌, not, ◌==◌, if◌then◌else◌, nat_lt, nat_le}
 use Rattle.std.specs.declared.option.Option.{Option}
-use Rattle.std.proofs.lemmas.Bool.{ltb-true}
+use Rattle.std.proofs.lemmas.Bool.{and_parts}
 use Rattle.std.proofs.lemmas.List.{length-map, drop-map, length-drop}
 use Rattle.std.proofs.lemmas.Option.{slice_get-map}
 use Rattle.std.proofs.Math.Seq.{take-length}
@@ -48,12 +47,8 @@ module _ (items : List Given) (r : AreOfStart (map arg_of items)) where
   pub others_are : map arg_of (drop 3 items) ≡ map Const (map plain r.arguments)
   others_are = sym (drop-map arg_of 3 items) ∙ ap (drop 3) r.are
 
-  both : (a b : Bool) → (a && b) ≡ true → (a ≡ true) × (b ≡ true)
-  both true b e = (refl, e)
-  both false b e = absurd (let never : false ≡ true = e in cc)
-
   all_words : are_words (drop 2 (map arg_of items)) ≡ true → (is_word_argument (Const (plain r.program)) ≡ true) × (are_words (map Const (map plain r.arguments)) ≡ true)
-  all_words w = both (is_word_argument (Const (plain r.program))) (are_words (map Const (map plain r.arguments))) (sym (ap are_words words_are) ∙ w)
+  all_words w = and_parts (is_word_argument (Const (plain r.program))) (are_words (map Const (map plain r.arguments))) (sym (ap are_words words_are) ∙ w)
 
   pub word_of_program : (a : Given) → slice_get items 2 ≡ Some a → are_words (drop 2 (map arg_of items)) ≡ true → is_word_argument (arg_of a) ≡ true
   word_of_program a e w = ap is_word_argument (third_is a e) ∙ (all_words w).0
@@ -104,6 +99,3 @@ AllowedFor k words = Allowed (are_words words) (nat_lt (length k.beside.processe
 pub is_allowed_for : (k : Kernel) (name program : List Cell) (words : List Arg) → start_refused k name program words ≡ None → AllowedFor k words
 is_allowed_for k name program words e =
     allowed (length name == 0) (length program == 0) (are_words words) (nat_le (length name) longest_name) (nat_lt (length k.beside.processes) most_processes) (nat_lt (length k.beside.markers) most_markers) (nat_lt k.beside.asked most_exchanges) e
-
-pub below : (n m : ℕ) → nat_lt n m ≡ true → n < m
-below n m e = ltb-true n m e

@@ -1,5 +1,5 @@
 -- A reply at top level is told.
-use Rattle.std.proofs.Common.{◌≡◌, ℕ, List, [], ◌∷◌, Ok, Err, Result, refl}
+use Rattle.std.proofs.Common.{◌≡◌, List, [], ◌∷◌, Ok, Err, refl}
 use Rattle.text_model.specs.Undo.{Undo}
 use Rattle.editor_model.specs.Values.{Forms, Reply, Answered, Refused}
 use Rattle.plain_machine.specs.State.{State, Process, Program}

@@ -1,12 +1,12 @@
 -- The rounds that a wait is given.
-use Rattle.std.proofs.Common.{◌≡◌, ℕ, zero, suc, ◌<◌, ◌≤◌, Bool, true, false, List, [], ◌∷◌, map, length, refl, ap, sym, ◌∙◌, slice_get, inl, inr, arith}
+use Rattle.std.proofs.Common.{◌≡◌, zero, suc, ◌<◌, ◌≤◌, Bool, true, false, List, map, length, refl, ap, sym, ◌∙◌, slice_get, inl, inr, arith}
 use Rattle.std.specs.Prelude.{ℤ, pos, negsuc, Some, nat_le, ◌&&◌, option_map}
 use Rattle.std.specs.Int.Signed.{lt_z}
 use Rattle.std.proofs.Math.IntN.{nat_abs}
 use Rattle.std.proofs.lemmas.Bool.{le-leb, lt-leb, ltb-true, ltb-false, false≢true}
 use Rattle.std.proofs.lemmas.List.{length-map}
 use Rattle.std.proofs.lemmas.Option.{slice_get-map}
-use Rattle.editor_model.specs.Values.{Int, Nil, Const}
+use Rattle.editor_model.specs.Values.{Int, Const}
 use Rattle.plain_machine.specs.Refusals.{rounds_of}
 use Rattle.ek_call.specs.Meaning.{arg_of}
 use Rattle.ek_call.specs.declared.call.Arg.{Arg}

@@ -1,8 +1,9 @@
 -- A script, form by form, and its end.
-use Rattle.std.proofs.Common.{◌≡◌, ℕ, ◌+◌, ◌≤◌, List, [], ◌∷◌, ◌++◌, map, drop, length, slice_get, Ok, Err, Result, refl, ap, sym, ◌∙◌, subst, append-nil}
-use Rattle.std.specs.Prelude.{Some, Bool, OnOk, OnErr}
+use Rattle.std.proofs.Common.{◌≡◌, ℕ, ◌+◌, ◌≤◌, List, ◌++◌, map, drop, length, slice_get, Ok, Err, Result, refl, ap, sym, ◌∙◌, subst, append-nil}
+use Rattle.std.specs.Prelude.{Some, OnOk, OnErr}
 use Rattle.std.specs.Io.KnownBytes.{Appends}
 use Rattle.std.proofs.lemmas.List.{length-map, drop_all}
+use Rattle.text_model.proofs.Lists.{drop_at, mapped_at}
 use Rattle.editor_model.specs.Values.{Script, NoForms, Then}
 use Rattle.plain_machine.specs.Exchanges.{Exchange, living}
 use Rattle.plain_machine.specs.Items.{Said, Config}
@@ -12,14 +13,10 @@ use Rattle.machine_laws.specs.Children.{KillsLeft}
 use Rattle.machine_laws.specs.Entries.{RanEntries, BrokenEntries, Sentinels}
 use Rattle.ek_call.specs.declared.form.Form.{Form}
 use Rattle.ek_call.specs.Meaning.{form_of, joined}
-use Rattle.kernel_top.specs.Plain.{Kernel}
 use Rattle.kernel_top.specs.Outside.{deepest, Outside, Tells}
-use Rattle.kernel_top.specs.Standing.{Hosted, StaysHosted, with_unmade}
 use Rattle.kernel_top.specs.Ending.{IsOver}
 use Rattle.kernel_top.specs.Outcomes.{program_for, SentinelsComeLast, RanScript, StoppedScript}
 use Rattle.kernel_top.specs.declared.answer.Stop.{Stop}
-use Rattle.kernel_top.proofs.Finishing.{drop_at}
-use Rattle.kernel_top.proofs.SoFar.{mapped_at}
 
 -- the forms that are left
 pub next_form : (forms : List Form) (i : ℕ) (f : Form) → slice_get forms i ≡ Some f → joined (drop i (map form_of forms)) ≡ Then (form_of f) (joined (drop (i + 1) (map form_of forms)))
@@ -27,10 +24,6 @@ next_form forms i f h = ap joined (drop_at (map form_of forms) i (form_of f) (ma
 
 pub no_form : (forms : List Form) (i : ℕ) → length forms ≤ i → joined (drop i (map form_of forms)) ≡ NoForms
 no_form forms i h = ap joined (drop_all i (map form_of forms) (rw length-map h))
-
-pub still_hosted : {T : Type 0} (r : Result T Stop) (old : Kernel) (old_kills : List Bool) (new : Kernel) (kills : List Bool) → StaysHosted r old old_kills new kills → Hosted (with_unmade r new.beside.processes) kills
-still_hosted (Ok x) old old_kills new kills h = h.0
-still_hosted (Err why) old old_kills new kills h = h
 
 module _ (script : Script) (o n : Outside) where
   -- the entries of sentinels among what was said

@@ -1,14 +1,13 @@
 -- The calls and forms of the grammar so far.
 use Rattle.std.proofs.Common.{◌≡◌, ℕ, zero, suc, List, [], ◌∷◌, map, Some, slice_get, option_map, inl, inr, ap, sym, ◌∙◌}
 use Rattle.std.specs.Prelude.{ℤ}
-use Rattle.std.proofs.lemmas.Option.{slice_get-map}
+use Rattle.std.proofs.lemmas.Option.{slice_get-map, same_Some}
 use Rattle.text_model.specs.Characters.{Ch}
 use Rattle.text_model.specs.Properties.{bare}
-use Rattle.editor_model.specs.Values.{Prim, Insert, GotoChar, DeleteRegion, StartProcess, AcceptProcessOutput, Nil, Int, Str, plain, Const, Forms, Do}
+use Rattle.editor_model.specs.Values.{Insert, GotoChar, DeleteRegion, StartProcess, AcceptProcessOutput, Nil, Int, Str, plain, Const, Do}
 use Rattle.editor_model.specs.Values as model
 use Rattle.ek_types.specs.Listing.{items_of}
-use Rattle.plain_machine.specs.Grammar.{Top, Run, Handler, forms_of}
-use Rattle.script_read.specs.GrammarSoFar.{IsCallSoFar, inserts, goes, deletes, starts, waits, waits_for, call_on, AreTopsSoFar, IsScriptSoFar}
+use Rattle.script_read.specs.GrammarSoFar.{IsCallSoFar, inserts, goes, deletes, starts, waits, waits_for, call_on}
 use Rattle.ek_call.specs.Meaning.{arg_of, call_of, form_of, joined}
 use Rattle.ek_call.specs.Primitives.{prim_of}
 use Rattle.ek_call.specs.declared.call.Arg.{Arg}
@@ -22,9 +21,6 @@ use Rattle.kernel_top.specs.Forms.{IsFormSoFar, AreFormsSoFar}
 -- an argument of a call whose arguments are known
 arg_at : (call : Call) (i : ℕ) (arg : Arg) → slice_get (items_of call.args) i ≡ Some arg → slice_get (call_of call).args i ≡ Some (arg_of arg)
 arg_at call i arg h = slice_get-map arg_of (items_of call.args) i ∙ ap (option_map arg_of) h
-
-same_some : {X : Type 0} (x y : X) → Some x ≡ Some y → x ≡ y
-same_some x y e = cc
 
 module _ (call : Call) where
   pub record OnString (arg : Arg) : Type 0 where
@@ -45,7 +41,7 @@ module _ (call : Call) where
 
   pub on_string : (arg : Arg) → IsCallSoFar (call_of call) → call.prim ≡ written.Insert → slice_get (items_of call.args) 0 ≡ Some arg → OnString arg
   on_string arg (inserts text e) p h =
-      let is : arg_of arg ≡ Const (Str (bare text)) = same_some (arg_of arg) (Const (Str (bare text))) (sym (arg_at call 0 arg h) ∙ ap (λ c. slice_get c.args 0) e) in
+      let is : arg_of arg ≡ Const (Str (bare text)) = same_Some (arg_of arg) (Const (Str (bare text))) (sym (arg_at call 0 arg h) ∙ ap (λ c. slice_get c.args 0) e) in
       record { text = (text, is); whole = ap Do e ∙ ap (λ a. called Insert (a ∷ [])) (sym is) }
   on_string arg (goes i e) p h = absurd (let no = prim_is written.Insert (call_on GotoChar (Int i ∷ [])) p e in cc)
   on_string arg (deletes i j e) p h = absurd (let no = prim_is written.Insert (call_on DeleteRegion (Int i ∷ Int j ∷ [])) p e in cc)
@@ -56,7 +52,7 @@ module _ (call : Call) where
   pub on_integer : (arg : Arg) → IsCallSoFar (call_of call) → call.prim ≡ written.GotoChar → slice_get (items_of call.args) 0 ≡ Some arg → OnInteger arg
   on_integer arg (inserts text e) p h = absurd (let no = prim_is written.GotoChar (call_on Insert (plain text ∷ [])) p e in cc)
   on_integer arg (goes i e) p h =
-      let is : arg_of arg ≡ Const (Int i) = same_some (arg_of arg) (Const (Int i)) (sym (arg_at call 0 arg h) ∙ ap (λ c. slice_get c.args 0) e) in
+      let is : arg_of arg ≡ Const (Int i) = same_Some (arg_of arg) (Const (Int i)) (sym (arg_at call 0 arg h) ∙ ap (λ c. slice_get c.args 0) e) in
       record { integer = (i, is); whole = ap Do e ∙ ap (λ a. called GotoChar (a ∷ [])) (sym is) }
   on_integer arg (deletes i j e) p h = absurd (let no = prim_is written.GotoChar (call_on DeleteRegion (Int i ∷ Int j ∷ [])) p e in cc)
   on_integer arg (starts name buffer program arguments home e) p h = absurd (let no = prim_is written.GotoChar (call_on StartProcess (plain name ∷ buffer ∷ plain program ∷ map plain arguments)) p e in cc)
@@ -67,8 +63,8 @@ module _ (call : Call) where
   on_region first second (inserts text e) p h k = absurd (let no = prim_is written.DeleteRegion (call_on Insert (plain text ∷ [])) p e in cc)
   on_region first second (goes i e) p h k = absurd (let no = prim_is written.DeleteRegion (call_on GotoChar (Int i ∷ [])) p e in cc)
   on_region first second (deletes i j e) p h k =
-      let is : arg_of first ≡ Const (Int i) = same_some (arg_of first) (Const (Int i)) (sym (arg_at call 0 first h) ∙ ap (λ c. slice_get c.args 0) e) in
-      let too : arg_of second ≡ Const (Int j) = same_some (arg_of second) (Const (Int j)) (sym (arg_at call 1 second k) ∙ ap (λ c. slice_get c.args 1) e) in
+      let is : arg_of first ≡ Const (Int i) = same_Some (arg_of first) (Const (Int i)) (sym (arg_at call 0 first h) ∙ ap (λ c. slice_get c.args 0) e) in
+      let too : arg_of second ≡ Const (Int j) = same_Some (arg_of second) (Const (Int j)) (sym (arg_at call 1 second k) ∙ ap (λ c. slice_get c.args 1) e) in
       record { from = (i, is); to = (j, too); whole = ap Do e ∙ ap (λ a. called DeleteRegion (a ∷ Const (Int j) ∷ [])) (sym is) ∙ ap (λ a. called DeleteRegion (arg_of first ∷ a ∷ [])) (sym too) }
   on_region first second (starts name buffer program arguments home e) p h k = absurd (let no = prim_is written.DeleteRegion (call_on StartProcess (plain name ∷ buffer ∷ plain program ∷ map plain arguments)) p e in cc)
   on_region first second (waits e) p h k = absurd (let no = prim_is written.DeleteRegion (call_on AcceptProcessOutput []) p e in cc)
@@ -97,15 +93,3 @@ pub form_at : (forms : List Form) (i : ℕ) (f : Form) → AreFormsSoFar (joined
 form_at [] i f are h = cc
 form_at (x ∷ forms) zero f are h = let same : x ≡ f = cc in rw (← same) are.0
 form_at (x ∷ forms) (suc i) f are h = form_at forms i f are.1 h
-
-pub mapped_at : {X Y : Type 0} (f : X → Y) (xs : List X) (i : ℕ) (x : X) → slice_get xs i ≡ Some x → slice_get (map f xs) i ≡ Some (f x)
-mapped_at f xs i x h = slice_get-map f xs i ∙ ap (option_map f) h
-
--- the forms of a script of the grammar so far
-tops_are_forms : (tops : List Top) → AreTopsSoFar tops → AreFormsSoFar (forms_of tops)
-tops_are_forms [] are = tt
-tops_are_forms (Run f ∷ tops) are = (are.0, tops_are_forms tops are.1)
-tops_are_forms (Handler d ∷ tops) are = absurd are.0
-
-pub forms_so_far : (bytes : List ℕ) (script : model.Script) → IsScriptSoFar bytes script → AreFormsSoFar script.forms
-forms_so_far bytes script is = rw is.of_machine.forms_are (tops_are_forms is.of_machine.tops is.calls_so_far)

@@ -1,19 +1,20 @@
 -- A kernel stays sound as its text changes.
-use Rattle.std.proofs.Common.{◌≡◌, ℕ, ◌+◌, ◌-◌, ◌≤◌, ◌<◌, Bool, true, false, List, [], ◌∷◌, ◌++◌, length, map, take, drop, All, slice_get, slice_set, refl, ap, sym, ◌∙◌, subst, arith, length-append}
-use Rattle.std.specs.Prelude.{IfSome, option_map, nat_lt, nat_le, ◌==◌, ◌||◌, if◌then◌else◌}
+use Rattle.std.proofs.Common.{◌≡◌, ℕ, ◌+◌, ◌-◌, ◌≤◌, ◌<◌, Bool, true, false, List, ◌++◌, length, map, take, drop, All, slice_get, slice_set, refl, ap, sym, ◌∙◌, subst, arith, length-append}
+use Rattle.std.specs.Prelude.{IfSome, option_map, nat_lt, ◌==◌, ◌||◌, if◌then◌else◌}
 use Rattle.std.specs.declared.option.Option.{Option}
 use Rattle.std.specs.Prelude.{Some, None}
 use Rattle.std.proofs.lemmas.List.{length-map, length-take, length-drop, length-set}
 use Rattle.std.proofs.lemmas.List.Elements.{All-map, All-set, All-get_or}
-use Rattle.std.proofs.lemmas.Option.{unwrap_or-slice_get, get_or_from_slice_get, slice_get_within}
+use Rattle.std.proofs.lemmas.Option.{unwrap_or-slice_get}
 use Rattle.marker_set.specs.Numbered.{marker_at, nowhere}
 use Rattle.text_model.specs.Characters.{Ch}
 use Rattle.text_model.specs.Places.{after_insert, after_delete}
 use Rattle.text_model.specs.Marks.{Marker, Spot, Move, move_marker, insertion, deletion}
+use Rattle.text_model.proofs.Lists.{All-slice_get}
 use Rattle.plain_machine.specs.State.{State, Process}
 use Rattle.process_table.specs.Table.{changed}
 use Rattle.process_table.specs.Table.{with_table as with_processes}
-use Rattle.kernel_top.specs.Plain.{with_table, Content, Beside, Kernel, IsSound, IsWithin, IsOrdinary, inserted, inserted_at, deleted}
+use Rattle.kernel_top.specs.Plain.{with_table, Content, Kernel, IsSound, IsWithin, IsOrdinary}
 use Rattle.kernel_top.proofs.Contents.{inserted_size}
 
 -- PLACES
@@ -81,10 +82,6 @@ deletion_sound k from to c markers sound order within e m =
     let moved = markers_moved false (deletion from to) (length text) (length c.text) k.beside.markers (λ b p h. let most = delete_within from to (length text) p order within h in omega (arith, most, size)) sound.within in
     with_text k c markers sound (subst (All (IsWithin (length c.text))) (sym m) moved) (ap length m ∙ length-map k.beside.markers (move_marker 0 false (deletion from to)))
 
--- what holds of all holds of one
-pub one_of_all : {X : Type 0} (P : X → Type 0) (xs : List X) (i : ℕ) (x : X) → All P xs → slice_get xs i ≡ Some x → P x
-one_of_all P xs i x all e = subst P (get_or_from_slice_get xs i x x e) (All-get_or P xs i x (slice_get_within xs i x e) all)
-
 -- a change of the process of a number, by what is found there
 abbrev changed_by : Kernel → (p : ℕ) → (Process → Process) → Option Process → State
 changed_by k p change o = elim o [ None ↦ with_processes k.beside.processes | Some x ↦ record (with_processes k.beside.processes) { processes = slice_set k.beside.processes p (change x) } ]
@@ -97,6 +94,6 @@ change_sound k p change sound keeps = by (slice_get k.beside.processes p) refl
     by None e = sound
     by (Some x) e = record {
       within = sound.within;
-      ordinary = All-set (IsOrdinary (length k.beside.markers)) k.beside.processes p (change x) (keeps x (one_of_all (IsOrdinary (length k.beside.markers)) k.beside.processes p x sound.ordinary e)) sound.ordinary;
+      ordinary = All-set (IsOrdinary (length k.beside.markers)) k.beside.processes p (change x) (keeps x (All-slice_get (IsOrdinary (length k.beside.markers)) k.beside.processes p x sound.ordinary e)) sound.ordinary;
       asked = sound.asked;
     }

@@ -1,13 +1,13 @@
 -- The characters and words of a start.
-use Rattle.std.proofs.Common.{◌≡◌, ℕ, ◌+◌, Bool, true, false, List, [], ◌∷◌, ◌++◌, take, map, length, refl, ap, sym, ◌∙◌, slice_get, option_map, flat_map, append-nil}
-use Rattle.std.specs.Prelude.{Some, None, ◌&&◌, not, ◌==◌}
+use Rattle.std.proofs.Common.{◌≡◌, ℕ, ◌+◌, Bool, true, false, List, [], ◌∷◌, ◌++◌, take, map, length, refl, ap, sym, ◌∙◌, slice_get, option_map, append-nil}
+use Rattle.std.specs.Prelude.{Some, None}
 use Rattle.std.specs.List.{list_all}
 use Rattle.std.specs.declared.option.Option.{Option}
 use Rattle.std.proofs.lemmas.Grind.{flat_map-append}
 use Rattle.std.proofs.lemmas.List.{map-append, take_more}
 use Rattle.std.proofs.lemmas.List.Folds.{list_all-append, list_all_at, list_all-map, list_all_more}
 use Rattle.std.proofs.lemmas.Option.{slice_get_within, get_or_from_slice_get}
-use Rattle.text_model.specs.Characters.{Ch, Scalar, Raw}
+use Rattle.text_model.specs.Characters.{Ch}
 use Rattle.text_model.specs.Characters as Characters
 use Rattle.text_model.specs.Properties.{Cell}
 use Rattle.plain_machine.specs.Arguments.{is_plain, encoded}
@@ -17,7 +17,7 @@ use Rattle.ek_call.specs.Meaning.{arg_of}
 use Rattle.kernel_top.specs.Starting.{is_word_argument, are_words, text_of}
 use Rattle.std.proofs.Math.Seq.{take-length}
 use Rattle.std.proofs.Common.{String, Global, string_bytes, get_or, ◌<◌, ◌≤◌, arith}
-use Rattle.ek_types.proofs.Listed.{take_one_more}
+use Rattle.text_model.proofs.Lists.{take_one_more}
 use Rattle.kernel_top.specs.Plain.{characters}
 
 -- the cell of a character

@@ -1,21 +1,19 @@
 -- The machine's steps of a wait, up to the process that it asks, and how a wait begins.
 use Rattle.std.proofs.Common.{◌≡◌, ℕ, Bool, true, false, List, [], ◌∷◌, refl, ap, sym, ◌∙◌, slice_get, inl, inr}
-use Rattle.std.specs.Prelude.{ℤ, Some, None, ◌⊎◌, ◌&&◌, nat_lt}
-use Rattle.std.specs.declared.option.Option.{Option}
+use Rattle.std.specs.Prelude.{Some, None, ◌⊎◌, ◌&&◌}
 use Rattle.text_model.specs.Undo.{Undo}
-use Rattle.editor_model.specs.Values.{Value, T, Nil, Int, Const, Arg, Forms, Then, AcceptProcessOutput, ArgsOutOfRange, ExchangesSpent}
+use Rattle.editor_model.specs.Values.{Value, Nil, Int, Arg, Forms, Then, AcceptProcessOutput, ArgsOutOfRange, ExchangesSpent}
 use Rattle.editor_model.specs.Answers.{first_fault, refuse}
 use Rattle.plain_machine.specs.State.{State, Process, Program}
 use Rattle.plain_machine.specs.Arguments.{runs}
-use Rattle.plain_machine.specs.Items.{Item, Top, MakeCall, GiveAnswer, Refuse, Wait, Waiting, Nowhere, Config, Step}
-use Rattle.plain_machine.specs.Calls.{on, unless_fault, process_effect}
+use Rattle.plain_machine.specs.Items.{Item, Top, GiveAnswer, Refuse, Wait, Waiting, Nowhere, Config, Step}
+use Rattle.plain_machine.specs.Calls.{unless_fault, process_effect}
 use Rattle.plain_machine.specs.Refusals.{rounds_of, may_ask, must_nest}
 use Rattle.plain_machine.specs.Waits.{is_eligible, is_eligible_one, ask_if}
-use Rattle.plain_machine.specs.Step.{step}
 use Rattle.plain_machine.specs.Run.{Reaches, stays, goes}
 use Rattle.process_table.specs.Table.{with_table}
 use Rattle.wait_loop.specs.KeptWaits.{new_waiting}
-use Rattle.wait_loop.specs.Rounds.{Answers, GoesOn, AsksProcess, Leads}
+use Rattle.wait_loop.specs.Rounds.{Answers, GoesOn, AsksProcess}
 use Rattle.kernel_top.specs.Plain.{Kernel}
 use Rattle.kernel_top.specs.Answers.{called}
 use Rattle.kernel_top.specs.Calls.{AreRounds, rounds_given, is_allowed}

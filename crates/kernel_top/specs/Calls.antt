@@ -1,5 +1,5 @@
 -- The calls on processes, and what each call comes to.
-use Rattle.std.specs.Prelude.{◌≡◌, ◌⊎◌, ℕ, ℤ, ◌≤◌, Bool, ◌&&◌, true, false, nat_le, List, [], ◌∷◌, map, length, drop, Option, Some, None, Result}
+use Rattle.std.specs.Prelude.{◌≡◌, ◌⊎◌, ℕ, ℤ, Bool, ◌&&◌, true, false, nat_le, List, [], ◌∷◌, map, Option, Some, None, Result}
 use Rattle.text_model.specs.Characters.{Ch}
 use Rattle.text_model.specs.Undo.{Undo}
 use Rattle.editor_model.specs.Values.{Value, Nil, Int, plain, Prim, Arg, Const, Forms, Then}

@@ -1,5 +1,5 @@
 -- The default filter and sentinel of a process, and what asking it comes to.
-use Rattle.std.specs.Prelude.{◌≡◌, ℕ, Bool, true, false, nat_lt, List, [], ◌∷◌, ◌++◌, map, slice_get, codes, Result, MatchResult, Some, None}
+use Rattle.std.specs.Prelude.{◌≡◌, ℕ, Bool, true, nat_lt, List, [], ◌∷◌, ◌++◌, map, slice_get, codes, Result, MatchResult, Some, None}
 use Rattle.text_model.specs.Characters.{Ch, Scalar}
 use Rattle.text_model.specs.Properties.{bare}
 use Rattle.editor_model.specs.Values.{Str, TheProcess}

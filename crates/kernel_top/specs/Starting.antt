@@ -1,5 +1,5 @@
 -- What a start is refused for, and the words of its command.
-use Rattle.std.specs.Prelude.{◌≡◌, ℕ, Bool, true, false, ◌&&◌, ◌||◌, not, ◌==◌, nat_lt, nat_le, List, [], ◌∷◌, length, map, if◌then◌else◌, Option, Some, None}
+use Rattle.std.specs.Prelude.{ℕ, Bool, false, ◌||◌, not, ◌==◌, nat_lt, nat_le, List, [], length, if◌then◌else◌, Option, Some, None}
 use Rattle.std.specs.List.{list_all}
 use Rattle.text_model.specs.Properties.{Cell}
 use Rattle.editor_model.specs.Values.{Arg, Const, Name, Nil, Fault, WrongType, TooMany, ExchangesSpent}

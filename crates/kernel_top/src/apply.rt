@@ -1,9 +1,8 @@
 //! The calls on the buffer.
-ghost use Rattle.std.specs.Prelude.{◌≡◌, ◌≤◌, ◌+◌, ℤ, List, [], ◌∷◌, length, IfSome, IfNone, IfOk, OnErr};
+ghost use Rattle.std.specs.Prelude.{◌≡◌, ◌≤◌, ℤ, List, [], ◌∷◌, length, IfSome, IfNone, IfOk, OnErr};
 ghost use Rattle.text_model.specs.Characters.{Ch as Character};
 ghost use Rattle.text_model.specs.Properties.{Cell, bare};
 ghost use Rattle.text_model.specs.Places.{clip};
-ghost use Rattle.editor_model.specs.Limits.{longest_text};
 ghost use Rattle.editor_model.specs.Values.{Const, Int as number, Str as string, Insert, GotoChar, DeleteRegion};
 ghost use Rattle.ek_call.specs.Meaning.{arg_of};
 ghost use Rattle.kernel_top.specs.Answers.{called, ComesTo, place_of, place_within};

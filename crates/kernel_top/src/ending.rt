@@ -1,5 +1,5 @@
 //! The end of a run: the children that still run are killed.
-ghost use Rattle.std.specs.Prelude.{◌≡◌, ℕ, ◌+◌, ◌<◌, [], ◌∷◌, ◌++◌, drop, length, Err};
+ghost use Rattle.std.specs.Prelude.{◌≡◌, ℕ, ◌+◌, ◌<◌, [], ◌∷◌, drop, length, Err};
 ghost use Rattle.editor_model.specs.Values.{NoForms};
 ghost use Rattle.plain_machine.specs.State.{Program};
 ghost use Rattle.plain_machine.specs.Arguments.{runs};

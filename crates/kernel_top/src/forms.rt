@@ -10,7 +10,7 @@ ghost use Rattle.process_table.specs.Table.{StandsFor};
 ghost use Rattle.script_read.specs.GrammarSoFar.{IsCallSoFar};
 ghost use Rattle.ek_types.specs.Io.{HasCause};
 ghost use Rattle.ek_types.specs.Listing.{items_of};
-ghost use Rattle.ek_call.specs.Meaning.{arg_of, call_of, form_of, joined, script_of};
+ghost use Rattle.ek_call.specs.Meaning.{arg_of, call_of, form_of, script_of};
 ghost use Rattle.ek_call.specs.Primitives.{prim_of};
 ghost use Rattle.kernel_top.specs.Forms.{IsFormSoFar, AreFormsSoFar};
 ghost use Rattle.kernel_top.specs.Outside.{outside, Tells};
@@ -105,6 +105,7 @@ fn run_forms<K: Sink, H: Host>(
     ensures hosted { StaysHosted result kernel.old (H.state host.old).kills kernel.new (H.state host.new).kills }
 {
     for i in 0..script.forms.len() {
+        // Read for what it ensures: there are at most 256 processes.
         let _few = kernel.processes.count();
         run_form(alloc, kernel, host, sink, script.forms.at(i))?;
     }

@@ -1,14 +1,13 @@
 //! The default filter and the default sentinel (GNU Emacs Lisp Reference Manual, Filter Functions and Sentinels).
-ghost use Rattle.std.specs.Prelude.{◌≡◌, ◌+◌, ◌<◌, ◌++◌, List, [], ◌∷◌, Bool, false, length, map, IfOk, IfErr, OnOk, OnErr, Err, Some, None, codes};
-ghost use Rattle.text_model.specs.Characters.{Ch as Character, Scalar};
+ghost use Rattle.std.specs.Prelude.{◌≡◌, ◌+◌, ◌<◌, ◌++◌, List, [], ◌∷◌, Bool, false, length, IfOk, IfErr, OnOk, Err, Some, None};
 ghost use Rattle.text_model.specs.Properties.{bare};
 ghost use Rattle.text_model.specs.Undo.{Undo};
 ghost use Rattle.editor_model.specs.Values.{Str, TheProcess};
-ghost use Rattle.plain_machine.specs.State.{State, Process, Program};
+ghost use Rattle.plain_machine.specs.State.{Process, Program};
 ghost use Rattle.plain_machine.specs.Lines.{Kind, OfSentinel};
 ghost use Rattle.plain_machine.specs.Items.{Item, Enter, Exit, Wait, Waiting, Target};
-ghost use Rattle.plain_machine.specs.Handling.{put_output as output, unlisted};
-ghost use Rattle.process_table.specs.Table.{StandsFor, changed};
+ghost use Rattle.plain_machine.specs.Handling.{put_output as output};
+ghost use Rattle.process_table.specs.Table.{StandsFor};
 ghost use Rattle.host_link.specs.Hosts.{HostState};
 ghost use Rattle.ek_types.specs.Io.{HasCause};
 ghost use Rattle.kernel_top.specs.Outside.{outside};

@@ -1,5 +1,5 @@
 //! Asking a process for its output and for its end.
-ghost use Rattle.std.specs.Prelude.{◌≡◌, ◌≢◌, All, Bool, None, [], ◌++◌, pos, map, ◌+◌, ◌<◌, ◌≤◌, List, ◌∷◌, length, IfOk, IfErr, OnOk, OnErr, Err, Some, true, false, slice_get, nat_lt};
+ghost use Rattle.std.specs.Prelude.{◌≡◌, ◌≢◌, All, Bool, None, [], ◌++◌, pos, map, ◌+◌, ◌<◌, ◌≤◌, List, ◌∷◌, length, IfOk, IfErr, OnOk, Err, Some, true, false, slice_get};
 ghost use Rattle.text_model.specs.Undo.{Undo};
 ghost use Rattle.text_model.specs.Properties.{bare};
 ghost use Rattle.text_model.specs.Decoding.{characters, all_characters};
@@ -9,9 +9,7 @@ ghost use Rattle.plain_machine.specs.Lines.{OfSentinel};
 ghost use Rattle.plain_machine.specs.Waits.{more_characters};
 ghost use Rattle.plain_machine.specs.Waits.{asked_more as asked_one};
 ghost use Rattle.host_link.specs.Hosts.{HostState};
-ghost use Rattle.plain_machine.specs.Arguments.{runs};
 ghost use Rattle.plain_machine.specs.Items.{Item, Enter, Wait, Target, Waiting};
-ghost use Rattle.plain_machine.specs.Refusals.{most_exchanges};
 ghost use Rattle.process_table.specs.Table.{StandsFor, with_status};
 ghost use Rattle.process_table.specs.Meaning.{status_of};
 ghost use Rattle.wait_loop.specs.KeptWaits.{noted};

@@ -1,5 +1,5 @@
 //! What a run keeps.
-ghost use Rattle.std.specs.Prelude.{◌≡◌, ◌+◌, ◌<◌, ◌≤◌, length, map, OnOk, OnErr, IfOk, IfSome, Some, Err, IsTrue, false, true, slice_get, slice_set, nat_lt};
+ghost use Rattle.std.specs.Prelude.{◌≡◌, ◌+◌, ◌<◌, ◌≤◌, length, map, OnOk, OnErr, IfOk, IfSome, Some, false, true, nat_lt};
 ghost use Rattle.text_model.specs.Marks.{insertion, deletion, move_marker};
 ghost use Rattle.editor_model.specs.Limits.{longest_text, most_markers};
 ghost use Rattle.plain_machine.specs.Refusals.{most_exchanges};
@@ -187,6 +187,7 @@ impl Kernel {
         ensures heard { (s : State) (x : Meant) → StandsFor self.old.beside.processes s.processes → process s p ≡ Some x → x.drained ≡ false →
             out.new.items ≡ out.old.items ++ more_characters (characters_of_bytes x.bytes) (characters_of_bytes (x.bytes ++ bytes.now)) }
     {
+        // Read for what it ensures: at most 3 bytes are held.
         let _held = self.processes.get(p).held();
         self.processes.feed(p, bytes, out);
     }
@@ -201,6 +202,7 @@ impl Kernel {
         ensures heard { (s : State) (x : Meant) → StandsFor self.old.beside.processes s.processes → process s p ≡ Some x → x.drained ≡ false →
             out.new.items ≡ out.old.items ++ more_characters (characters_of_bytes x.bytes) (all_characters x.bytes) }
     {
+        // Read for what it ensures: at most 3 bytes are held.
         let _held = self.processes.get(p).held();
         self.processes.drain(p, out);
     }

@@ -1,17 +1,14 @@
 //! The lines of a run. After a failure nothing more is written.
-ghost use Rattle.std.specs.Prelude.{◌≡◌, ℕ, ◌+◌, ◌<◌, length, ◌≤◌, List, [], ◌∷◌, ◌++◌, codes, decimal, if◌then◌else◌, Some, None, IfSome, OnErr, false, slice_get};
+ghost use Rattle.std.specs.Prelude.{◌≡◌, ℕ, ◌+◌, ◌<◌, length, ◌≤◌, List, [], ◌∷◌, ◌++◌, codes, if◌then◌else◌, Some, None, IfSome, OnErr};
 ghost use Rattle.text_model.specs.Properties.{bare};
 ghost use Rattle.text_model.specs.Undo.{Undo};
-ghost use Rattle.text_model.specs.Marks.{Marker};
-ghost use Rattle.editor_model.specs.Values.{Answered, Refused, T, TheProcess, Str};
-ghost use Rattle.editor_model.specs.Editor.{Editor, scratch};
+ghost use Rattle.editor_model.specs.Values.{Refused, TheProcess, Str};
 ghost use Rattle.editor_model.specs.Limits.{longest_text};
 ghost use Rattle.plain_machine.specs.State.{State, process};
 ghost use Rattle.plain_machine.specs.State.{Process as Meant};
-ghost use Rattle.plain_machine.specs.Lines.{Replied, Entered, Left, KilledLast, OfFilter, OfSentinel, line, fault_words, shown_name, shown_marker, quoted, shown_status, buffer_name, dump as dump_of};
+ghost use Rattle.plain_machine.specs.Lines.{Replied, Entered, Left, KilledLast, OfFilter, OfSentinel, line, fault_words, shown_name, quoted, shown_status, dump as dump_of};
 ghost use Rattle.ek_types.specs.Io.{Continues, Rose, Writes};
 ghost use Rattle.ek_call.specs.Faults.{fault_of};
-ghost use Rattle.kernel_top.specs.Plain.{plain_state, buffer_with};
 ghost use Rattle.kernel_top.specs.Answers.{replied, answer_words};
 ghost use Rattle.kernel_top.specs.Standing.{stands_at};
 ghost use Rattle.kernel_top.specs.Printed.{place_words, spot_of, buffer_words, marker_line, marker_lines, process_line, process_lines};
@@ -141,15 +138,15 @@ fn put_flag<K: Sink>(so_far: SoFar, sink: &mut K, flag: bool) -> SoFar
 fn put_buffer<K: Sink>(so_far: SoFar, sink: &mut K, core: &CoreText) -> SoFar
     ensures { Continues so_far result (K.state sink.old) (K.state sink.new) (buffer_words core.now) }
 {
-    let a = put(so_far, sink, b"buffer *scratch* point ");
-    let b = put_count(a, sink, core.point() + 1);
-    let c = put(b, sink, b" min 1 max ");
-    let d = put_count(c, sink, core.len() + 1);
-    let e = put(d, sink, b" modified ");
-    let f = put_flag(e, sink, core.is_modified());
-    let g = put(f, sink, b" current\ntext ");
-    let h = put_quoted(g, sink, core);
-    put(h, sink, b"\n")
+    let begun = put(so_far, sink, b"buffer *scratch* point ");
+    let point = put_count(begun, sink, core.point() + 1);
+    let least = put(point, sink, b" min 1 max ");
+    let most = put_count(least, sink, core.len() + 1);
+    let asked = put(most, sink, b" modified ");
+    let flag = put_flag(asked, sink, core.is_modified());
+    let opened = put(flag, sink, b" current\ntext ");
+    let quoted = put_quoted(opened, sink, core);
+    put(quoted, sink, b"\n")
 }
 
 /// Writes where a marker points: to a place of the one buffer, or nowhere.

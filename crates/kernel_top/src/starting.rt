@@ -1,10 +1,8 @@
 //! Starting a child as a process (GNU Emacs Lisp Reference Manual, Asynchronous Processes).
-ghost use Rattle.std.specs.Prelude.{◌≡◌, ℕ, ◌+◌, ◌-◌, Ok, ◌<◌, ◌≤◌, ◌^◌, List, [], ◌∷◌, length, map, drop, IfOk, IfSome, Err, Some, None, Bool, true, false, option_map, string_bytes};
+ghost use Rattle.std.specs.Prelude.{◌≡◌, ℕ, ◌-◌, Ok, ◌<◌, ◌^◌, List, [], length, map, drop, IfOk, Err, Some, None, true, false, option_map, string_bytes};
 ghost use Rattle.std.specs.List.{list_all};
-ghost use Rattle.text_model.specs.Characters.{Ch as Character};
-ghost use Rattle.text_model.specs.Properties.{Cell, bare};
-ghost use Rattle.editor_model.specs.Answers.{first_fault};
-ghost use Rattle.editor_model.specs.Values.{Const, Nil as nil, Str as string_value, plain, StartProcess};
+ghost use Rattle.text_model.specs.Properties.{bare};
+ghost use Rattle.editor_model.specs.Values.{Const, plain, StartProcess};
 ghost use Rattle.plain_machine.specs.State.{Process};
 ghost use Rattle.plain_machine.specs.Arguments.{encoded, is_plain, find_process, process_name};
 ghost use Rattle.editor_model.specs.Arguments.{string_of};
@@ -32,7 +30,7 @@ use std::alloc::Global;
 const LONGEST_NAME: usize = 256;
 
 /// The most processes that are ever made.
-const MOST_PROCESSES: u32 = 256;
+pub const MOST_PROCESSES: u32 = 256;
 
 /// The most markers that are ever made.
 const MOST_MARKERS: u32 = 65_536;

@@ -15,7 +15,7 @@ use crate::status::Status;
 use ek_types::{Sink, Source, Took};
 use host_link::Host;
 use script_read::{LONGEST_SCRIPT, ScriptFault, read};
-use std::alloc::Global;
+use std::alloc::{AllocError, Global};
 
 /// Why the bytes of the source weren't had.
 #[derive(Clone, Copy, Debug, PartialEq, Eq)]
@@ -25,6 +25,17 @@ enum Refused {
     NoMemory,
 }
 
+impl From<AllocError> for Refused {
+    ghost use Rattle.kernel_top.specs.declared.top.Refused.TheVariants as refused;
+
+    ghost from_gives = { λ _ r. r ≡ refused.NoMemory };
+
+    fn from(_: AllocError) -> Refused {
+        Refused::NoMemory
+    }
+}
+
+/// The most bytes that the source is asked for at once.
 const PIECE: usize = 4096;
 
 fn is_run(words: &[String]) -> bool
@@ -50,11 +61,7 @@ fn read_all<S: Source>(alloc: Global, source: &mut S) -> Result<Vec<u8>, Refused
     while all.len() <= LONGEST_SCRIPT {
         let room = PIECE.min(LONGEST_SCRIPT + 1 - all.len());
         match source.read(&mut piece[..room]) {
-            Took::Bytes(n) => {
-                let Ok(()) = all.extend_from_slice(&piece[..n]) else {
-                    return Err(Refused::NoMemory);
-                };
-            }
+            Took::Bytes(n) => all.extend_from_slice(&piece[..n])?,
             Took::End => return Ok(all),
             Took::Failed => return Err(Refused::Failed),
         }

@@ -1,10 +1,10 @@
 //! Waiting for the output of processes (GNU Emacs Lisp Reference Manual, Accepting Output).
-ghost use Rattle.std.specs.Prelude.{◌≡◌, ◌⊎◌, ℕ, ℤ, ◌+◌, ◌<◌, ◌≤◌, List, [], ◌∷◌, length, map, IfSome, IfNone, IfOk, OnOk, Err, false, MatchOption};
+ghost use Rattle.std.specs.Prelude.{◌≡◌, ◌+◌, ◌<◌, ◌≤◌, List, [], ◌∷◌, map, IfSome, IfNone, IfOk, OnOk, Err, false};
 ghost use Rattle.text_model.specs.Undo.{Undo};
-ghost use Rattle.editor_model.specs.Values.{Const, Nil as nil, Int as number, Forms, AcceptProcessOutput};
+ghost use Rattle.editor_model.specs.Values.{Forms, AcceptProcessOutput};
 ghost use Rattle.plain_machine.specs.State.{Process, Program};
-ghost use Rattle.plain_machine.specs.Items.{Item, Top, Wait as Waits, Target, Waiting, Nowhere, MakeCall};
-ghost use Rattle.plain_machine.specs.Refusals.{rounds_of, most_exchanges};
+ghost use Rattle.plain_machine.specs.Items.{Item, Top, Wait as Waits, Target, Waiting, Nowhere};
+ghost use Rattle.plain_machine.specs.Refusals.{most_exchanges};
 ghost use Rattle.process_table.specs.Table.{StandsFor};
 ghost use Rattle.wait_loop.specs.Rounds.{AsksProcess};
 ghost use Rattle.ek_types.specs.Io.{HasCause};
@@ -21,6 +21,7 @@ use crate::answer::{Answer, Stop};
 use crate::apply::integer;
 use crate::hearing::{end, read};
 use crate::kernel::Kernel;
+use crate::starting::MOST_PROCESSES;
 use ek_call::{Args, Fault};
 use ek_types::Sink;
 use host_link::Host;
@@ -29,9 +30,6 @@ use wait_loop::{Step, Wait};
 
 /// The most rounds of a wait, and how many it has where none is given.
 const MOST_ROUNDS: i64 = 1000;
-
-/// For how many processes a wait has places.
-const ROOM: u32 = 256;
 
 /// The rounds that a wait is asked for.
 fn rounds(args: &Args) -> Option<u32>
@@ -73,6 +71,7 @@ fn turn<K: Sink, H: Host>(
     ensures answer { IfOk result (λ answer. IfSome answer IsPlain) }
     ensures asked { IfOk result (λ answer. IfNone answer ((kernel.new.beside.asked ≡ kernel.old.beside.asked + 1) × (kernel.new.beside.asked ≤ most_exchanges))) }
 {
+    // Read for what it ensures: there are at most as many processes as the wait has places for.
     let _few = kernel.processes.count();
     match wait.next(&kernel.processes) {
         Step::Done(true) => Ok(Some(Answer::True)),
@@ -131,7 +130,7 @@ pub fn accept_process_output<K: Sink, H: Host>(
     let Some(rounds) = rounds(args) else {
         return Ok(Answer::Fault(Fault::ArgsOutOfRange));
     };
-    let mut wait = Wait::new(alloc, None, rounds, false, ROOM)?;
+    let mut wait = Wait::new(alloc, None, rounds, false, MOST_PROCESSES)?;
     take_turns(alloc, kernel, host, sink, &mut wait)
 }
 

@@ -1,5 +1,5 @@
 //! What is printed of characters and numbers. After a failure nothing more is written.
-ghost use Rattle.std.specs.Prelude.{◌≡◌, ℕ, ◌+◌, ◌<◌, ◌≤◌, List, length, [], ◌∷◌, decimal, take, drop, flat_map, slice_get, Some};
+ghost use Rattle.std.specs.Prelude.{◌≡◌, ◌+◌, ◌<◌, ◌≤◌, List, length, [], ◌∷◌, decimal, take, drop, flat_map, slice_get, Some};
 ghost use Rattle.text_model.specs.Characters.{Ch as Character};
 ghost use Rattle.plain_machine.specs.Lines.{octal, shown_ch, shown_int, quoted};
 ghost use Rattle.ek_types.specs.Io.{Continues};
@@ -81,13 +81,8 @@ fn show(c: Ch, out: &mut [u8; 4]) -> usize
         Ch::Scalar('\\') => show_escaped(b'\\', out),
         Ch::Scalar('\n') => show_escaped(b'n', out),
         Ch::Scalar('\t') => show_escaped(b't', out),
-        Ch::Scalar(scalar) => {
-            if scalar.is_ascii_control() {
-                show_octal(u32::from(scalar) as u8, out)
-            } else {
-                c.encode(out)
-            }
-        }
+        Ch::Scalar(scalar) if scalar.is_ascii_control() => show_octal(u32::from(scalar) as u8, out),
+        Ch::Scalar(_) => c.encode(out),
         Ch::Raw(byte) => show_octal(byte, out),
     }
 }

@@ -1,24 +1,24 @@
 -- What the functions on the editor keep.
 use Rattle.std.proofs.Common.{◌≡◌, ℕ, zero, suc, ◌+◌, ◌≤◌, ◌<◌, Bool, true, false, List, [], ◌∷◌, length, map, refl, ap, sym, subst, ◌∙◌, arith, ◌⊎◌, inl, inr}
 use Rattle.std.specs.Prelude.{if◌then◌else◌, ◌==◌, nat_lt, slice_get, slice_set, Option, Some, None, unwrap_or}
-use Rattle.std.proofs.lemmas.Option.{slice_get_past, slice_get_within}
+use Rattle.std.proofs.lemmas.Option.{slice_get_past, slice_get_within, same_Some, none-some}
 use Rattle.std.proofs.lemmas.Bool.{ltb-true, ltb-false, cases_order, cases_eq}
 use Rattle.std.proofs.lemmas.List.{length-append}
 use Rattle.text_model.specs.Marks.{Marks, Marker, Spot, leave_buffer, marker_left}
 use Rattle.text_model.specs.Commit.{Site}
-use Rattle.machine_laws.specs.Good.{Passes}
-use Rattle.machine_laws.specs.Fits.{SpotFits, MarkersFit, MarksFit, GoodSite, shapes}
-use Rattle.text_model.proofs.Sets.{by_test}
+use Rattle.text_model.proofs.Cases.{by_test}
+use Rattle.text_model.proofs.Lists.{set_same, set_other, get_front}
+use Rattle.machine_laws.proofs.Fits.{SpotFits, MarkersFit, MarksFit, GoodSite, shapes}
 use Rattle.machine_laws.proofs.OneBuffer.{passes_self}
 use Rattle.machine_laws.proofs.Sites.{SiteStep, site_after}
-use Rattle.editor_model.specs.Editor.{Editor, Live, live, is_live, buffer_at, empty_buffer, change_site, change_buffer, with_buffer, renamed, named_as, with_marker, change_marker, marker_of, set_marker_spot, killed, after_kill, live_from, Name}
-use Rattle.machine_laws.specs.GoodEditor.{GoodEditor, Advances}
-use Rattle.machine_laws.proofs.Basics.{get_front, get_new, none_some, set_length, set_other, set_same, some_same}
+use Rattle.editor_model.specs.Editor.{Editor, Live, live, buffer_at, empty_buffer, change_site, with_buffer, renamed, named_as, killed, live_from, Name}
+use Rattle.machine_laws.proofs.GoodEditor.{GoodEditor, Advances, Passes}
+use Rattle.machine_laws.proofs.Basics.{get_new, set_length}
 
 -- LISTS
 some_none_at : {A : Type 0} (xs : List A) (k : ℕ) → k < length xs → slice_get xs k ≡ None → ⊥
 some_none_at [] k h e = omega arith
-some_none_at (x ∷ xs) zero h e = none_some x (sym e)
+some_none_at (x ∷ xs) zero h e = none-some x (sym e)
 some_none_at (x ∷ xs) (suc k) h e = some_none_at xs k (omega arith) e
 
 -- LIVE BUFFERS
@@ -26,7 +26,7 @@ pub live_within : (e : Editor) (id : ℕ) (l : Live) → live e id ≡ Some l �
 live_within e id l h = go (slice_get e.buffers id) refl h
   where
     go : (o : Option (Option Live)) → slice_get e.buffers id ≡ o → unwrap_or o None ≡ Some l → slice_get e.buffers id ≡ Some (Some l)
-    go None q k = absurd (none_some l k)
+    go None q k = absurd (none-some l k)
     go (Some v) q k = q ∙ ap Some k
 
 pub live_below : (e : Editor) (id : ℕ) (l : Live) → live e id ≡ Some l → id < length e.buffers
@@ -51,7 +51,7 @@ advances_self e g = record {
   good = g;
   longer = omega arith;
   dead = λ id h k. k;
-  passes = λ id l m h k. let q : l ≡ m = some_same l m (sym h ∙ k) in subst (λ x. Passes l.buffer x.buffer) q (passes_self l.buffer (g.each id l h).good);
+  passes = λ id l m h k. let q : l ≡ m = same_Some l m (sym h ∙ k) in subst (λ x. Passes l.buffer x.buffer) q (passes_self l.buffer (g.each id l h).good);
 }
 
 -- where the list of buffers is as it was
@@ -60,7 +60,7 @@ marks_only e new g q f = record {
   good = record { each = each; unborn = unborn };
   longer = rw q (omega arith);
   dead = λ id h k. same id ∙ k;
-  passes = λ id l m h k. let r : l ≡ m = some_same l m (sym h ∙ sym (same id) ∙ k) in subst (λ x. Passes l.buffer x.buffer) r (passes_self l.buffer (g.each id l h).good);
+  passes = λ id l m h k. let r : l ≡ m = same_Some l m (sym h ∙ sym (same id) ∙ k) in subst (λ x. Passes l.buffer x.buffer) r (passes_self l.buffer (g.each id l h).good);
 }
   where
     same : (id : ℕ) → live new id ≡ live e id
@@ -92,7 +92,7 @@ pub one_advances : (e new : Editor) (id : ℕ) (l n : Live) → GoodEditor e →
 one_advances e new id l n g h q s p others = record {
   good = record { each = λ j m k. each j m k (cases_eq j id); unborn = unborn };
   longer = let x : length new.buffers ≡ length e.buffers = ap length q ∙ set_length e.buffers id (Some n) in omega arith;
-  dead = λ j m k. let d : j ≡ id → ⊥ = (λ r. none_some l (sym k ∙ ap (live e) r ∙ h)) in live_set_other e new id j (Some n) q d ∙ k;
+  dead = λ j m k. let d : j ≡ id → ⊥ = (λ r. none-some l (sym k ∙ ap (live e) r ∙ h)) in live_set_other e new id j (Some n) q d ∙ k;
   passes = λ j m k x y. passes j m k x y (cases_eq j id);
 }
   where
@@ -101,7 +101,7 @@ one_advances e new id l n g h q s p others = record {
 
     each : (j : ℕ) (m : Live) → live new j ≡ Some m → (j ≡ id) ⊎ (j ≡ id → ⊥) → GoodSite j (record { buffer = m.buffer; marks = new.marks })
     each j m k (inl r) =
-        let x : n ≡ m = some_same n m (sym same ∙ ap (live new) (sym r) ∙ k) in
+        let x : n ≡ m = same_Some n m (sym same ∙ ap (live new) (sym r) ∙ k) in
         subst (λ i. GoodSite i (record { buffer = m.buffer; marks = new.marks })) (sym r) (subst (λ y. GoodSite id (record { buffer = y.buffer; marks = new.marks })) x s)
     each j m k (inr d) =
         let old : GoodSite j (record { buffer = m.buffer; marks = e.marks }) = g.each j m (sym (live_set_other e new id j (Some n) q d) ∙ k) in
@@ -115,11 +115,11 @@ one_advances e new id l n g h q s p others = record {
 
     passes : (j : ℕ) (m k : Live) → live e j ≡ Some m → live new j ≡ Some k → (j ≡ id) ⊎ (j ≡ id → ⊥) → Passes m.buffer k.buffer
     passes j m k x y (inl r) =
-        let a : l ≡ m = some_same l m (sym h ∙ ap (live e) (sym r) ∙ x) in
-        let b : n ≡ k = some_same n k (sym same ∙ ap (live new) (sym r) ∙ y) in
+        let a : l ≡ m = same_Some l m (sym h ∙ ap (live e) (sym r) ∙ x) in
+        let b : n ≡ k = same_Some n k (sym same ∙ ap (live new) (sym r) ∙ y) in
         subst (λ z. Passes m.buffer z.buffer) b (subst (λ z. Passes z.buffer n.buffer) a p)
     passes j m k x y (inr d) =
-        let a : m ≡ k = some_same m k (sym x ∙ sym (live_set_other e new id j (Some n) q d) ∙ y) in
+        let a : m ≡ k = same_Some m k (sym x ∙ sym (live_set_other e new id j (Some n) q d) ∙ y) in
         subst (λ z. Passes m.buffer z.buffer) a (passes_self m.buffer (g.each j m x).good)
 
 pub site_advances : (id : ℕ) (f : Site → Site) (e : Editor) → GoodEditor e → ((l : Live) → live e id ≡ Some l → SiteStep id (record { buffer = l.buffer; marks = e.marks }) (f (record { buffer = l.buffer; marks = e.marks }))) →
@@ -150,9 +150,9 @@ site_live id f e l h = go (live e id) refl h
           let site : Site = f (record { buffer = m.buffer; marks = e.marks }) in
           record e { buffers = slice_set e.buffers id (Some (record m { buffer = site.buffer })); marks = site.marks }
     ] in live new id ≡ Some (record l { buffer = (f (record { buffer = l.buffer; marks = e.marks })).buffer })
-    go None q r = absurd (none_some l r)
+    go None q r = absurd (none-some l r)
     go (Some m) q r =
-        let x : m ≡ l = some_same m l r in
+        let x : m ≡ l = same_Some m l r in
         let site : Site = f (record { buffer = m.buffer; marks = e.marks }) in
         let n : Live = record m { buffer = site.buffer } in
         let new : Editor = record e { buffers = slice_set e.buffers id (Some n); marks = site.marks } in
@@ -168,9 +168,9 @@ size_after id f e l h = go (live e id) refl h
           let site : Site = f (record { buffer = m.buffer; marks = e.marks }) in
           record e { buffers = slice_set e.buffers id (Some (record m { buffer = site.buffer })); marks = site.marks }
     ] in size_of new id ≡ length (f (record { buffer = l.buffer; marks = e.marks })).buffer.text
-    go None q r = absurd (none_some l r)
+    go None q r = absurd (none-some l r)
     go (Some m) q r =
-        let x : m ≡ l = some_same m l r in
+        let x : m ≡ l = same_Some m l r in
         let site : Site = f (record { buffer = m.buffer; marks = e.marks }) in
         let n : Live = record m { buffer = site.buffer } in
         let new : Editor = record e { buffers = slice_set e.buffers id (Some n); marks = site.marks } in
@@ -215,7 +215,7 @@ set_none_advances e new id g q f = record {
     other j d = live_set_other e new id j None q d
 
     each : (j : ℕ) (m : Live) → live new j ≡ Some m → (j ≡ id) ⊎ (j ≡ id → ⊥) → GoodSite j (record { buffer = m.buffer; marks = new.marks })
-    each j m k (inl r) = absurd (none_some m (sym none ∙ ap (live new) (sym r) ∙ k))
+    each j m k (inl r) = absurd (none-some m (sym none ∙ ap (live new) (sym r) ∙ k))
     each j m k (inr d) =
         let old : GoodSite j (record { buffer = m.buffer; marks = e.marks }) = g.each j m (sym (other j d) ∙ k) in
         record { good = old.good; fits = record { begin_fits = old.fits.begin_fits; end_fits = old.fits.end_fits; point_fits = old.fits.point_fits; marks_fit = f j (length m.buffer.text) old.fits.marks_fit } }
@@ -225,9 +225,9 @@ set_none_advances e new id g q f = record {
     dead j k (inr d) = other j d ∙ k
 
     passes : (j : ℕ) (m k : Live) → live e j ≡ Some m → live new j ≡ Some k → (j ≡ id) ⊎ (j ≡ id → ⊥) → Passes m.buffer k.buffer
-    passes j m k x y (inl r) = absurd (none_some k (sym none ∙ ap (live new) (sym r) ∙ y))
+    passes j m k x y (inl r) = absurd (none-some k (sym none ∙ ap (live new) (sym r) ∙ y))
     passes j m k x y (inr d) =
-        let a : m ≡ k = some_same m k (sym x ∙ sym (other j d) ∙ y) in
+        let a : m ≡ k = same_Some m k (sym x ∙ sym (other j d) ∙ y) in
         subst (λ z. Passes m.buffer z.buffer) a (passes_self m.buffer (g.each j m x).good)
 
 gone_advances : (e new : Editor) (id : ℕ) → GoodEditor e → live e id ≡ None → new.buffers ≡ slice_set e.buffers id None → new.marks ≡ e.marks → Advances e new
@@ -266,12 +266,12 @@ with_buffer_good name e g = record {
   where
     each : (id : ℕ) (l : Live) → live (with_buffer name e) id ≡ Some l → (id ≡ length e.buffers) ⊎ ((id < length e.buffers) ⊎ (length e.buffers < id)) → GoodSite id (record { buffer = l.buffer; marks = e.marks })
     each id l h (inl q) =
-        let x : record { name = name; buffer = empty_buffer } ≡ l = some_same _ l (sym (with_buffer_new name e) ∙ ap (live (with_buffer name e)) (sym q) ∙ h) in
+        let x : record { name = name; buffer = empty_buffer } ≡ l = same_Some _ l (sym (with_buffer_new name e) ∙ ap (live (with_buffer name e)) (sym q) ∙ h) in
         subst (λ y. GoodSite id (record { buffer = y.buffer; marks = e.marks })) x (empty_good id e.marks (g.unborn id (omega arith)))
     each id l h (inr (inl q)) = g.each id l (sym (with_buffer_old name e id q) ∙ h)
     each id l h (inr (inr q)) =
         let x : length (with_buffer name e).buffers ≡ length e.buffers + 1 = with_buffer_longer name e in
-        absurd (none_some l (sym (live_past (with_buffer name e) id (omega arith)) ∙ h))
+        absurd (none-some l (sym (live_past (with_buffer name e) id (omega arith)) ∙ h))
 
 pub with_buffer_advances : (name : Name) (e : Editor) → GoodEditor e → Advances e (with_buffer name e)
 with_buffer_advances name e g = advances_more e e (with_buffer name e) (advances_self e g) (with_buffer_good name e g) (let x : length (with_buffer name e).buffers ≡ length e.buffers + 1 = with_buffer_longer name e in omega arith) (with_buffer_old name e)

@@ -4,6 +4,8 @@ use Rattle.std.proofs.lemmas.List.{append-nil, map-append, length-map}
 use Rattle.std.proofs.lemmas.List.Folds.{list_any-append}
 use Rattle.std.proofs.lemmas.Grind.{flat_map-append}
 use Rattle.std.specs.Prelude.{Option, Some, ◌==◌, not, ◌||◌, nat_lt, drop, filter, slice_get, slice_set, if◌then◌else◌}
+use Rattle.std.proofs.lemmas.Option.{slice_get_within}
+use Rattle.std.proofs.lemmas.Bool.{ltb-true}
 use Rattle.text_model.specs.Properties.{insert_name}
 use Rattle.editor_model.specs.Values.{Script}
 use Rattle.plain_machine.specs.Exchanges.{Ask, Read, Answer, Started, End, Failed, Exchange, goes_by, gone, started_by, children_started, rising}
@@ -22,7 +24,7 @@ use Rattle.machine_laws.proofs.Moves.{Coming, Phase, Working, Killing, Over, pha
 use Rattle.machine_laws.proofs.Steps.{Made, goes_moves, asks_moves}
 use Rattle.machine_laws.proofs.Traced.{Stands, within, behind, stands, Traced, Placed, here, away, placed, still_new}
 use Rattle.machine_laws.proofs.Heard.{entries, Carried, carried_more, carried_asking, carried_start}
-use Rattle.machine_laws.proofs.Basics.{get_below, get_more, is_same, none_above, or_nil, or_right, other_is, same_is}
+use Rattle.machine_laws.proofs.Basics.{get_more, is_same, none_above, or_nil, or_right, other_is, same_is}
 
 -- up to which process the kills are made
 abbrev pub upto : Phase → List Core → ℕ
@@ -190,7 +192,7 @@ moves_alive xs ys said more cs ds e f g h t a (passes p x _ b d n q k dead r s) 
     at q y l false m = ap (λ b. not y.live || b) (sym (next_same q p (λ j. let o : true ≡ false = sym (is_same q p j) ∙ m in cc)))
 moves_alive xs ys said more cs ds e f g h t a (kills p x _ b d i q k live u r s) = rw (d, s) (kill_alive xs ys said cs e p x t (rw r at a) k u)
 moves_alive xs ys said more cs ds e f g h t a (Moves.ends p _ b d n q k r s) = rw (d, s) (with_none xs ys cs Over n (phase_alive xs cs (Killing p) Over (rw r at a) (λ q y l.
-    let u : q < length cs = get_below cs q y l in
+    let u : q < length cs = slice_get_within cs q y l in
     let v : length cs ≤ p = none_above cs p k in
     ap (λ b. not y.live || b) (is_below q p (omega arith) ∙ sym (is_below q (length cs) u)))))
 moves_alive xs ys said more cs ds e f g h t a (dumps _ b d n q r s) = rw (d, s) (with_none xs ys cs Over n (rw r at a))
@@ -203,9 +205,6 @@ Above n (m ∷ l) = (n < m) × Above n l
 abbrev Rises : List ℕ → Type 0
 Rises [] = Unit {0}
 Rises (m ∷ l) = Above m l × Rises l
-
-below_is : (n m : ℕ) → nat_lt n m ≡ true → n < m
-below_is n m h = grind arith
 
 not_below_is : (n m : ℕ) → nat_lt n m ≡ false → m ≤ n
 not_below_is n m h = grind arith
@@ -234,7 +233,7 @@ rises_insert n [] r = (tt, tt)
 rises_insert n (m ∷ l) r = go (nat_lt n m) refl (n == m) refl (rises_insert n l r.1)
   where
     go : (v : Bool) → nat_lt n m ≡ v → (w : Bool) → (n == m) ≡ w → Rises (insert_name n l) → Rises (if v then n ∷ m ∷ l else (if w then m ∷ l else m ∷ insert_name n l))
-    go true e w k b = let h : n < m = below_is n m e in ((h, above_less n m l h r.0), r)
+    go true e w k b = let h : n < m = ltb-true n m e in ((h, above_less n m l h r.0), r)
     go false e true k b = r
     go false e false k b = (above_insert m n l (greater n m e k) r.0, b)
 
@@ -260,7 +259,7 @@ filter_insert f n (m ∷ l) r = go (nat_lt n m) refl (n == m) refl (f n) refl (f
   where
     go : (v : Bool) → nat_lt n m ≡ v → (w : Bool) → (n == m) ≡ w → (b : Bool) → f n ≡ b → (c : Bool) → f m ≡ c → filter f (insert_name n l) ≡ (if f n then insert_name n (filter f l) else filter f l) →
         filter f (if v then n ∷ m ∷ l else (if w then m ∷ l else m ∷ insert_name n l)) ≡ (if b then insert_name n (filter f (m ∷ l)) else filter f (m ∷ l))
-    go true e w k true p c q ih = let h : n < m = below_is n m e in rw p (sym (insert_front n (filter f (m ∷ l)) (above_filter f n (m ∷ l) (h, above_less n m l h r.0))))
+    go true e w k true p c q ih = let h : n < m = ltb-true n m e in rw p (sym (insert_front n (filter f (m ∷ l)) (above_filter f n (m ∷ l) (h, above_less n m l h r.0))))
     go true e w k false p c q ih = rw p refl
     go false e true k true p c q ih = let s : f m ≡ true = ap f (sym (same_is n m k)) ∙ p in rw s (rw (e, k) refl)
     go false e true k false p c q ih = refl

@@ -7,8 +7,8 @@ use Rattle.text_model.specs.Places.{clip}
 use Rattle.text_model.specs.Marks.{Marks, Marker, Spot, Overlay}
 use Rattle.text_model.specs.Undo.{Undo, with_boundary, started, disabled, enabled}
 use Rattle.text_model.specs.Commit.{Buffer}
-use Rattle.machine_laws.specs.Good.{Good, Passes}
-use Rattle.machine_laws.specs.Fits.{SpotFits, MarkersFit, MarksFit, GoodSite}
+use Rattle.machine_laws.specs.Good.{Good}
+use Rattle.machine_laws.proofs.Fits.{SpotFits, MarkersFit, MarksFit, GoodSite}
 use Rattle.machine_laws.proofs.OneBuffer.{passes_same, boundary_passes, started_passes, disabled_passes, enabled_passes}
 use Rattle.machine_laws.proofs.Fitting.{markers_set, marker_fits, clip_fits}
 use Rattle.machine_laws.proofs.Sites.{same_step}
@@ -21,7 +21,7 @@ use Rattle.editor_model.specs.TextCalls.{point_at, narrowed, widened, narrow_to_
 use Rattle.editor_model.specs.MarkerCalls.{new_marker, spot_in, copy_marker, set_marker}
 use Rattle.editor_model.specs.UndoCalls.{with_undo}
 use Rattle.editor_model.specs.Table.{apply}
-use Rattle.machine_laws.specs.GoodEditor.{GoodEditor, Steady}
+use Rattle.machine_laws.proofs.GoodEditor.{GoodEditor, Steady, Passes}
 use Rattle.machine_laws.proofs.Advancing.{advances_self, marks_only, site_advances, site_shapes, with_buffer_advances, renamed_advances, buffer_live, size_of}
 use Rattle.machine_laws.proofs.Tests.{refuse_ok, no_fault}
 

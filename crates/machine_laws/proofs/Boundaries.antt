@@ -5,9 +5,10 @@ use Rattle.std.specs.Prelude.{nat_lt}
 use Rattle.text_model.specs.Undo.{boundary_at, newer_than, with_boundary}
 use Rattle.text_model.specs.Commit.{Buffer}
 use Rattle.editor_model.specs.Editor.{empty_buffer}
-use Rattle.machine_laws.specs.Good.{Good, Passes}
+use Rattle.machine_laws.specs.Good.{Good}
 use Rattle.machine_laws.specs.Boundaries.{KeepsBoundaries, ReplacingKeeps, ResettingKeeps, UndoingKeeps, BoundaryKeeps, RecordingKeeps}
 use Rattle.machine_laws.proofs.OneBuffer.{same_text, passes_from_follows, replaced_follows, reset_follows, undone_passes, boundary_passes, started_passes, disabled_passes, enabled_passes}
+use Rattle.machine_laws.proofs.GoodEditor.{Passes}
 
 keeps : (b c : Buffer) → Good b → Passes b c → KeepsBoundaries b c
 keeps b c g p = record { good = p.good; same_text = λ serial h k. same_text b c serial g p h k }

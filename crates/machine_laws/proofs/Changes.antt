@@ -9,8 +9,9 @@ use Rattle.text_model.specs.Ordered.{IsOrdered, AreOrdered, GivesOrdered}
 use Rattle.text_model.specs.Undo.{Rec, Point, Inserted, Deleted, Prop, First, Moved, Undo, undo_in_text, pushed, pushed_all}
 use Rattle.text_model.specs.Commit.{Buffer, Site, recorded, inserted, deleted, deletion_records, adjustment, fresh_group, with_properties, property_records}
 use Rattle.machine_laws.specs.Good.{Falling, OffIsEmpty}
-use Rattle.text_model.proofs.Sets.{by_test, ordered-edited}
-use Rattle.machine_laws.proofs.Undoing.{deleted-back}
+use Rattle.text_model.proofs.Sets.{ordered-edited}
+use Rattle.text_model.proofs.Cases.{by_test}
+use Rattle.machine_laws.proofs.Undoing.{deleted_back}
 use Rattle.machine_laws.proofs.Stretches.{undo_records, AreProps, props-records, property_undone}
 use Rattle.machine_laws.proofs.Records.{ArePlain, Moves, moves_then, moves_stay, pushed_moves, inserted_moves, pushed_all_moves}
 
@@ -167,7 +168,7 @@ deleted_outcome id from to site h k r f o = record {
     rest_moves = moves-append point markers (by_test (λ l. AreMoves l) (fresh_group u.entries && not (site.buffer.point == from)) (Point site.buffer.point ∷ []) [] (λ h. tt) (λ h. tt)) (marker_moves id from to (enumerate_from 0 site.marks.markers))
 
     back : undo_records (deletion_records id from to site) (splice from to [] t) ≡ t
-    back = undo_records-append (point ++ markers) (Deleted (part from to t) from ∷ []) (splice from to [] t) ∙ moves_nothing (point ++ markers) _ rest_moves ∙ deleted-back from to t h k
+    back = undo_records-append (point ++ markers) (Deleted (part from to t) from ∷ []) (splice from to [] t) ∙ moves_nothing (point ++ markers) _ rest_moves ∙ deleted_back from to t h k
 
     plain : ArePlain (deletion_records id from to site)
     plain = plain-append (point ++ markers) (Deleted (part from to t) from ∷ []) (plain-moves (point ++ markers) rest_moves) (tt, (ordered-part from to t r, tt))

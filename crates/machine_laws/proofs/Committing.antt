@@ -2,14 +2,16 @@
 use Rattle.std.proofs.Common.{◌≡◌, ℕ, zero, suc, ◌+◌, ◌-◌, ◌≤◌, Bool, true, false, List, [], ◌∷◌, length, drop, refl, ap, sym, subst, ◌∙◌, arith}
 use Rattle.std.specs.Prelude.{if◌then◌else◌, ◌==◌, ◌&&◌, not, nat_lt, nat_le, slice_get, filter, Option, Some, None, is_some, option_map, min, max}
 use Rattle.std.proofs.lemmas.Bool.{eqb-true, false≢true}
+use Rattle.std.proofs.lemmas.Option.{same_Some}
 use Rattle.text_model.specs.Properties.{Cell, PropSet, PropVal, PropEdit, Add, Remove, Replace, part, splice}
 use Rattle.text_model.specs.Ordered.{Rising, IsOrdered, AreOrdered, GivesOrdered}
 use Rattle.text_model.specs.Marks.{Spot}
 use Rattle.text_model.specs.Sticky.{offered_by_before, offered_by_after}
 use Rattle.text_model.specs.Undo.{Rec, Entry, trial, undone, passed}
 use Rattle.text_model.specs.Commit.{Buffer, Site, replaced, reset, undone_groups, property_records}
-use Rattle.machine_laws.specs.Fits.{SpotFits, MarksFit, GoodSite}
-use Rattle.text_model.proofs.Sets.{by_test, ordered-put, ordered-put_all, rising_less}
+use Rattle.machine_laws.proofs.Fits.{SpotFits, MarksFit, GoodSite}
+use Rattle.text_model.proofs.Sets.{ordered-put, ordered-put_all, rising_less}
+use Rattle.text_model.proofs.Cases.{by_test}
 use Rattle.machine_laws.proofs.Changes.{ordered-part, length-splice}
 use Rattle.machine_laws.proofs.OneBuffer.{passes_same, passes_from, passes_like}
 use Rattle.machine_laws.proofs.Fitting.{fitting_then}
@@ -23,11 +25,10 @@ use Rattle.editor_model.specs.PropertyCalls.{property_tests, list_tests, change_
 use Rattle.editor_model.specs.UndoCalls.{undo_change, undo_more, undo_tests}
 use Rattle.editor_model.specs.Commits.{commit_tests, first_widened, point_to, put_site, mark_to, changed, commit_of, commit}
 use Rattle.editor_model.specs.Table.{prepare}
-use Rattle.machine_laws.specs.GoodEditor.{GoodEditor, Steady, FineWhat, FineChange}
+use Rattle.machine_laws.proofs.GoodEditor.{GoodEditor, Steady, FineWhat, FineChange}
 use Rattle.machine_laws.proofs.Advancing.{site_live, size_after, site_advances, site_shapes, buffer_live, size_of}
 use Rattle.machine_laws.proofs.Applying.{steady_self, lies, clip_lies, region_order, region_high, marker_of_fits, change_marker_steady}
 use Rattle.machine_laws.proofs.Tests.{refuse_ok, no_fault}
-use Rattle.machine_laws.proofs.Basics.{some_same}
 
 -- PIECES IN ORDER
 pub inherited_pieces : (set : PropSet) (piece : List Cell) → IsOrdered set → AreOrdered (with_inherited set piece)
@@ -43,10 +44,6 @@ rising-filter low p (q ∷ set) r = by_test (λ s. Rising low s) (p q) (q ∷ fi
 abbrev OrderedIfAny : Option PropSet → Type 0
 OrderedIfAny None = Unit {0}
 OrderedIfAny (Some set) = IsOrdered set
-
-before_ordered : (o : Option PropSet) → OrderedIfAny o → IsOrdered (offered_by_before o)
-before_ordered None h = tt
-before_ordered (Some set) h = rising-filter 0 _ set h
 
 after_ordered : (o : Option PropSet) → OrderedIfAny o → IsOrdered (offered_by_after o)
 after_ordered None h = tt
@@ -324,5 +321,5 @@ groups_committed e k id n l m p q t h j =
     ap (λ i. (commit_of (first_fault (commit_tests e i k.what)) e (changed e i k.from k.to k.what) k).editor) p ∙
     ap (λ w. (commit_of (first_fault (commit_tests e id w)) e (changed e id k.from k.to w) k).editor) q ∙
     ap (λ o. (commit_of o e (changed e id k.from k.to (UndoGroups n)) k).editor) t in
-    let b : record l { buffer = (f (record { buffer = l.buffer; marks = e.marks })).buffer } ≡ m = some_same _ m (sym (site_live id f e l h) ∙ ap (λ x. live x id) (sym a) ∙ j) in
+    let b : record l { buffer = (f (record { buffer = l.buffer; marks = e.marks })).buffer } ≡ m = same_Some _ m (sym (site_live id f e l h) ∙ ap (λ x. live x id) (sym a) ∙ j) in
     ap (λ x. x.buffer) (sym b) ∙ ap (λ x. (undone_groups id (passed n x.undo) (record { buffer = l.buffer; marks = e.marks })).buffer) (buffer_live e id l h)

@@ -1,6 +1,7 @@
 -- How deep handlers nest: one level more than the bound, by hook functions.
 use Rattle.std.proofs.Common.{◌≡◌, ℕ, zero, suc, ◌+◌, ◌-◌, ◌<◌, ◌≤◌, Bool, true, false, List, [], ◌∷◌, ◌++◌, length, map, refl, sym, ◌∙◌, subst, arith}
 use Rattle.std.specs.Prelude.{pos, Option, Some, None, ◌&&◌, ◌||◌, nat_lt, nat_le, drop, codes, slice_set}
+use Rattle.std.proofs.lemmas.Bool.{ltb-true}
 use Rattle.text_model.specs.Characters.{Ch}
 use Rattle.text_model.specs.Decoding.{characters, all_characters}
 use Rattle.text_model.specs.Marks.{Saved, Excursion, Restriction, Pending}
@@ -63,11 +64,8 @@ last_passes : (front : List Test) (t : Test) → first_fault (front ++ t ∷ [])
 last_passes [] t h = (no_fault t [] h).0
 last_passes (x ∷ front) t h = last_passes front t (no_fault x (front ++ t ∷ []) h).1
 
-is_less : (d b : ℕ) → nat_lt d b ≡ true → d < b
-is_less d b h = grind arith
-
 nests : (bound : ℕ) (s : State) → must_nest bound s ≡ None → s.depth < bound
-nests bound s h = is_less s.depth bound (refuse_ok Nesting (nat_lt s.depth bound) h)
+nests bound s h = ltb-true s.depth bound (refuse_ok Nesting (nat_lt s.depth bound) h)
 
 only_nests : (w : Bool) (bound : ℕ) (s : State) → only_where w (must_nest bound s) ≡ None → w ≡ true → s.depth < bound
 only_nests true bound s h e = nests bound s h

@@ -5,6 +5,7 @@ use Rattle.std.proofs.lemmas.List.Sums.{length-filter, count_by-le-length}
 use Rattle.std.proofs.lemmas.List.FromFn.{length-enumerate_from}
 use Rattle.std.specs.Prelude.{pos, Option, Some, None, ◌==◌, ◌&&◌, nat_lt, nat_le, drop, filter, unwrap_or, slice_set}
 use Rattle.std.specs.List.{enumerate_from}
+use Rattle.std.proofs.lemmas.Option.{slice_get_within}
 use Rattle.text_model.specs.Marks.{Saved, Excursion, Restriction, Pending}
 use Rattle.text_model.specs.Properties.{Cell}
 use Rattle.editor_model.specs.Values.{Value, Nil, T, Int, ExchangesSpent, VoidVariable, ArgsOutOfRange, WrongType, at_place, Reply, Answered, Fault, Prim, StartProcess, KillBuffer, SetProcessFilter, SetProcessSentinel, SetProcessBuffer, ProcessSendString, ProcessSendEof, DeleteProcess, AcceptProcessOutput, Form, Forms, NoForms, Then, Do, Setq, In, WhenEq, Block, SaveExcursion, SaveRestriction, SaveCurrentBuffer, InhibitHooks, HandlerDef, equal}
@@ -26,7 +27,7 @@ use Rattle.plain_machine.specs.Waits.{ask_process, target_is_eligible, from_elig
 use Rattle.plain_machine.specs.Step.{item_step}
 use Rattle.machine_laws.proofs.Weights.{Below, first, AtMost, both, at_most_same, at_most_trans, below_at_most, forms_weight, bodies_weight, call_weight, enter_weight, item_weight, behind, IsSteady, Steady, weight, total, under, calmer, lighter}
 use Rattle.machine_laws.proofs.Tests.{refuse_ok, no_fault}
-use Rattle.machine_laws.proofs.Basics.{and_right, get_below}
+use Rattle.machine_laws.proofs.Basics.{and_right}
 
 -- INHIBITION, WHERE IT STAYS
 pub live_same : (s : State) (b : ℕ) (t : State) → t.inhibited ≡ s.inhibited → (if_live s b t).inhibited ≡ s.inhibited
@@ -414,7 +415,7 @@ module _ (program : Program) (n : ℕ) where
       by_status : (x : Process) → process s p ≡ Some x → (k : Status) → Falls s.inhibited (Finish p) rest (finish_running program k s p x)
       by_status x e Runs = tt
       by_status x e _ =
-          let l : p < length s.processes = get_below s.processes p x e in
+          let l : p < length s.processes = slice_get_within s.processes p x e in
           alone s.inhibited (Finish p) (Finish (p + 1) ∷ []) rest tt (tt, tt) (omega arith)
 
       go : (o : Option Process) → process s p ≡ o → Falls s.inhibited (Finish p) rest (finish_one program s p o)

@@ -6,15 +6,15 @@ use Rattle.text_model.specs.Places.{after_insert, after_delete, clip}
 use Rattle.text_model.specs.Properties.{Cell, splice}
 use Rattle.text_model.specs.Marks.{Spot, Marker, Saved, Excursion, Restriction, Pending, Marks, Move, insertion, deletion, move_marker, move_saved, move_marks}
 use Rattle.text_model.specs.Commit.{Buffer, Site, inserted, deleted, with_properties, set_point, undo_one, undo_each, moved_back, less, spot_less, marker_less, place_of, stands_at, moves_behind}
-use Rattle.machine_laws.specs.Fits.{SpotFits, MarkersFit, KeptFits, SavedFits, MarksFit, SiteFits, shape, shapes}
+use Rattle.machine_laws.proofs.Fits.{SpotFits, MarkersFit, KeptFits, SavedFits, MarksFit, SiteFits, shape, shapes}
 use Rattle.text_model.specs.Undo.{Rec, Boundary, Point, Inserted, Deleted, Prop, First, Moved, Entry, undo_in_text, trial, max_after}
 use Rattle.text_model.specs.Properties.{PropEdit, Add, Remove, with_sets, edited}
 use Rattle.text_model.specs.Commit.{property_records}
 use Rattle.text_model.specs.Ordered.{AreOrdered}
+use Rattle.text_model.proofs.Cases.{by_test}
 use Rattle.machine_laws.specs.Good.{Falling, OffIsEmpty}
 use Rattle.machine_laws.proofs.Changes.{length-splice, length-with_sets, Outcome}
 use Rattle.machine_laws.proofs.Groups.{Within, trial_more, within_after, one_record}
-use Rattle.text_model.proofs.Sets.{by_test}
 
 -- PLACES
 pub after_insert_fits : (q n : ℕ) (advances : Bool) (p size : ℕ) → q ≤ size → p ≤ size → after_insert q n advances p ≤ size + n

@@ -2,13 +2,14 @@
 use Rattle.std.proofs.Common.{◌≡◌, ℕ, zero, suc, ◌+◌, ◌-◌, ◌≤◌, ◌<◌, Bool, true, false, List, [], ◌∷◌, ◌++◌, length, refl, ap, sym, subst, ◌∙◌, arith, ◌⊎◌, inl, inr}
 use Rattle.std.specs.Prelude.{if◌then◌else◌, ◌==◌, not, nat_lt, nat_le, filter, Option, Some, None, ℤ}
 use Rattle.std.proofs.lemmas.Bool.{eqb-true, ne_eqb, ltb-true, ltb-false, lt-ltb, le-ltb, leb-true, and_parts, false≢true}
+use Rattle.std.proofs.lemmas.Option.{none-some}
 use Rattle.text_model.specs.Properties.{Add, Remove, Cell, splice, with_sets, put}
 use Rattle.text_model.specs.Ordered.{AreOrdered}
 use Rattle.text_model.specs.Undo.{Rec, Boundary, Point, Inserted, Deleted, Prop, First, Moved, Entry, Undo, is_boundary, newer_than, rewind, undo_in_text, lies_inside, max_after, trial, pending, groups, passed, undone, oldest, pass}
 use Rattle.text_model.specs.Commit.{Buffer, Site, set_point, undo_one, undo_each, moves_behind, undone_groups}
 use Rattle.text_model.specs.Undo.{boundary_at, ends_with}
 use Rattle.machine_laws.specs.Good.{IsFine, Falling, OffIsEmpty, PendingAgrees, Good}
-use Rattle.text_model.proofs.Sets.{by_test, if_true, if_false}
+use Rattle.text_model.proofs.Cases.{by_test, if_true, if_false}
 use Rattle.machine_laws.proofs.Records.{falling_less, Steps, older, HeadAbove, moves_then, moves_stay}
 use Rattle.machine_laws.proofs.Changes.{Outcome, inserted_outcome, deleted_outcome, properties_outcome, text-with_properties, length-splice, length-with_sets}
 
@@ -27,9 +28,6 @@ Within (Prop name old from to) size = (from ≤ to) × (to ≤ size)
 Within (Point place) size = place ≤ size
 Within _ size = Unit {0}
 
-some_is_none : {A : Type 0} (x : A) → Some x ≡ None → ⊥
-some_is_none x h = cc
-
 inside_within : (min max size : ℕ) (w : Rec) → IsFine w → max ≤ size → lies_inside min max w ≡ true → Within w size
 inside_within min max size (Inserted from to) f h t = let x : (nat_le min from ≡ true) × (nat_le to max ≡ true) = and_parts _ _ t in let l : to ≤ max = leb-true to max x.1 in (f, omega arith)
 inside_within min max size (Deleted piece place) f h t = let x : (nat_le min place ≡ true) × (nat_le place max ≡ true) = and_parts _ _ t in let l : place ≤ max = leb-true place max x.1 in (omega arith, f)
@@ -45,7 +43,7 @@ trial_more min max size e es f h t = go (lies_inside min max e.what) refl t
   where
     go : (v : Bool) → lies_inside min max e.what ≡ v → Tried (elim v [ true ↦ trial min (max_after max e.what) es | false ↦ Some e ]) → Within e.what size × (trial min (max_after max e.what) es ≡ None)
     go true q k = (inside_within min max size e.what f h q, k)
-    go false q k = absurd (some_is_none e k)
+    go false q k = absurd (none-some e (sym k))
 
 -- boundaries don't count in it
 pub trial-undone : (min max : ℕ) (es : List Entry) → trial min max (filter (λ e. not (is_boundary e.what)) es) ≡ trial min max es

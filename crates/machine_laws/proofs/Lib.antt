@@ -1,3 +1,6 @@
+pub mod Fits
+pub mod GoodEditor
+pub mod GoodConfig
 pub mod Undoing
 pub mod Stretches
 pub mod Records

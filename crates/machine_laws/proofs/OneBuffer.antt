@@ -7,12 +7,13 @@ use Rattle.text_model.specs.Ordered.{AreOrdered, GivesOrdered}
 use Rattle.text_model.specs.Undo.{Rec, Boundary, Entry, Undo, is_boundary, newer_than, rewind, in_front, cut, pushed, with_boundary, started, disabled, enabled, without_pending, undone, passed, trial}
 use Rattle.text_model.specs.Commit.{Buffer, Site, inserted, deleted, with_properties, property_records, no_pending, replaced, reset, undone_groups}
 use Rattle.text_model.specs.Undo.{boundary_at}
-use Rattle.machine_laws.specs.Good.{Falling, OffIsEmpty, PendingAgrees, Good, Passes}
-use Rattle.text_model.proofs.Sets.{by_test, if_true, if_false}
+use Rattle.machine_laws.specs.Good.{Falling, OffIsEmpty, PendingAgrees, Good}
+use Rattle.text_model.proofs.Cases.{by_test, if_true, if_false}
 use Rattle.machine_laws.proofs.Records.{Steps, steps_stay, not_above, older, boundary_stands, Shorter, shorter-cut, falling-shorter, boundary-shorter}
 use Rattle.machine_laws.proofs.Changes.{Outcome, inserted_outcome, deleted_outcome, properties_outcome}
 use Rattle.machine_laws.proofs.Groups.{Follows, groups_undone, older_all, newer_than-older}
 use Rattle.machine_laws.proofs.Undoing.{newer_than-cut}
+use Rattle.machine_laws.proofs.GoodEditor.{Passes}
 
 -- CHANGES
 pub passes_from_steps : (b c : Buffer) → Good c → Steps b.undo.next b.undo.entries b.text c.undo.next c.undo.entries c.text → Passes b c

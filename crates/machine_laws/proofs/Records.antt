@@ -3,12 +3,12 @@ use Rattle.std.proofs.Common.{◌≡◌, ℕ, zero, suc, ◌+◌, ◌≤◌, ◌
 use Rattle.std.specs.Prelude.{if◌then◌else◌, ◌==◌, nat_lt, filter}
 use Rattle.std.proofs.lemmas.Bool.{eqb-true, ne_eqb, ltb-true, ltb-false, le-ltb, false≢true}
 use Rattle.text_model.specs.Properties.{Cell, splice}
-use Rattle.text_model.specs.Undo.{Rec, Boundary, Point, Inserted, Deleted, Prop, First, Moved, Entry, Undo, is_boundary, newer_than, stands, rewind, undo_in_text, in_front, extends, ends_at, cut, without_oldest_group, has_boundary, fits, pushed, pushed_all}
+use Rattle.text_model.specs.Undo.{Rec, Boundary, Point, Inserted, Deleted, Prop, First, Moved, Entry, Undo, is_boundary, newer_than, rewind, undo_in_text, in_front, extends, ends_at, cut, without_oldest_group, has_boundary, fits, pushed, pushed_all}
 use Rattle.text_model.specs.Undo.{boundary_at}
 use Rattle.machine_laws.specs.Good.{IsFine, Falling, OffIsEmpty}
-use Rattle.text_model.proofs.Sets.{by_test, if_false}
+use Rattle.text_model.proofs.Cases.{by_test, if_false}
 use Rattle.machine_laws.proofs.Stretches.{undo_records}
-use Rattle.machine_laws.proofs.Undoing.{newer_than-cut, out-again, inserted-out}
+use Rattle.machine_laws.proofs.Undoing.{newer_than-cut, out-again, inserted_out, stands}
 
 -- the records below a serial number
 abbrev pub older : ℕ → List Entry → List Entry
@@ -200,7 +200,7 @@ steps_inserted : (n at : ℕ) (es : List Entry) (piece t : List Cell) → at ≤
 steps_inserted n at es piece t inside f = by_list es f
   where
     own : (es : List Entry) → Falling n es → Steps n es t (n + 1) (record { what = Inserted at (at + length piece); serial = n } ∷ es) (splice at at piece t)
-    own es f = subst (λ x. Steps n es x (n + 1) (record { what = Inserted at (at + length piece); serial = n } ∷ es) (splice at at piece t)) (inserted-out at piece t inside) (steps_front (Inserted at (at + length piece)) n es (splice at at piece t) refl (omega arith) f)
+    own es f = subst (λ x. Steps n es x (n + 1) (record { what = Inserted at (at + length piece); serial = n } ∷ es) (splice at at piece t)) (inserted_out at piece t inside) (steps_front (Inserted at (at + length piece)) n es (splice at at piece t) refl (omega arith) f)
 
     by_test_of : (b p k : ℕ) (es : List Entry) → Falling n (record { what = Inserted b p; serial = k } ∷ es) → (v : Bool) → (p == at) ≡ v →
         Steps n (record { what = Inserted b p; serial = k } ∷ es) t (if v then n else n + 1)

@@ -1,6 +1,7 @@
 -- A call that is refused leaves the state as it was: where a call stands, step by step, until it is refused or answered.
 use Rattle.std.proofs.Common.{◌≡◌, ℕ, zero, suc, Bool, true, false, List, [], ◌∷◌, ◌++◌, map, refl, ap, sym, ◌∙◌, subst}
 use Rattle.std.specs.Prelude.{Option, Some, None, slice_get, slice_set}
+use Rattle.std.proofs.lemmas.Option.{same_Some, none-some}
 use Rattle.text_model.specs.Characters.{Ch}
 use Rattle.text_model.specs.Marks.{Pending}
 use Rattle.editor_model.specs.Values.{Value, Nil, Int, Str, TheMarker, TheBuffer, Fault, VoidVariable, ExchangesSpent, BrokenPipe, SpawnFailed, at_place, Reply, Answered, Prim, Do, Setq, SetBuffer, GetBufferCreate, GenerateNewBuffer, RenameBuffer, SetBufferModifiedP, GotoChar, NarrowToRegion, Widen, MakeMarker, PointMarker, CopyMarker, SetMarker, SetMarkerInsertionType, MakeOverlay, OverlayPut, MoveOverlay, DeleteOverlay, UndoBoundary, UndoStart, BufferDisableUndo, BufferEnableUndo, StartProcess, KillBuffer, ProcessSendString, ProcessSendEof, AcceptProcessOutput}
@@ -24,7 +25,7 @@ use Rattle.plain_machine.specs.Step.{step, item_step}
 use Rattle.plain_machine.specs.Run.{Reaches, stays, goes, asks}
 use Rattle.machine_laws.specs.Refusals.{without_output, but_for_exchanges, SameButForExchanges, AnswersNext, IsOfCall, without_ends, RefusalsLeave}
 use Rattle.machine_laws.proofs.Steps.{first_fit}
-use Rattle.machine_laws.proofs.Basics.{none_first, none_some, some_same}
+use Rattle.machine_laws.proofs.Basics.{none_first}
 
 -- WHERE A CALL STANDS
 -- an item that is a call, or waits, or kills
@@ -63,8 +64,8 @@ AnswerStands s None = Unit {0}
 AnswerStands s (Some n) = StandsAfter s n
 
 taken_stands : (s : State) (o : Option Next) (n : Next) → AnswerStands s o → o ≡ Some n → StandsAfter s n
-taken_stands s None n h e = absurd (none_some n e)
-taken_stands s (Some m) n h e = subst (λ (n : Next). StandsAfter s n) (some_same m n e) h
+taken_stands s None n h e = absurd (none-some n e)
+taken_stands s (Some m) n h e = subst (λ (n : Next). StandsAfter s n) (same_Some m n e) h
 
 -- STATES
 -- a change of one process that leaves all but its output
@@ -201,9 +202,6 @@ module _ (s : State) where
   form_stands t rest (Some args) prim target h = λ e. calls (MakeCall prim args target) rest tt refl h
 
   -- WAITS
-  entry_stands : (t : State) (p : ℕ) (x : Process) (text : List Ch) (w : Waiting) (target : Target) (rest : List Item) → SameButForExchanges s t → Stands s (record { state = t; work = entry_of t p x text (Wait w target ∷ rest) })
-  entry_stands t p x [] w target rest h = calls (Wait w target) rest tt refl h
-  entry_stands t p x (c ∷ text) w target rest h = answers tt
 
   -- the work of an entry is the same in any state
   heard_stands : (t u : State) (p : ℕ) (x : Process) (text : List Ch) (w : Waiting) (target : Target) (rest : List Item) → SameButForExchanges s u → Stands s (record { state = u; work = entry_of t p x text (Wait w target ∷ rest) })

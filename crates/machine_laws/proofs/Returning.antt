@@ -2,18 +2,18 @@
 use Rattle.std.proofs.Common.{◌≡◌, ℕ, zero, suc, ◌≤◌, ◌<◌, Bool, true, false, List, [], ◌∷◌, length, refl, ap, sym, subst, ◌∙◌, arith, ◌⊎◌, inl, inr}
 use Rattle.std.specs.Prelude.{nat_lt, Option, Some, None}
 use Rattle.std.proofs.lemmas.Bool.{ltb-true, ltb-false, false≢true}
+use Rattle.std.proofs.lemmas.Option.{same_Some, none-some}
 use Rattle.text_model.specs.Properties.{Cell}
 use Rattle.text_model.specs.Undo.{Entry, newer_than, rewind, passed, trial}
 use Rattle.text_model.specs.Commit.{Buffer, undone_groups}
 use Rattle.text_model.specs.Undo.{boundary_at, ends_with}
-use Rattle.machine_laws.specs.Good.{Passes}
 use Rattle.machine_laws.proofs.Records.{not_above}
 use Rattle.editor_model.specs.Values.{Script}
 use Rattle.editor_model.specs.Editor.{Editor, Live, live, buffer_at, new_editor}
 use Rattle.editor_model.specs.Table.{prepare}
-use Rattle.machine_laws.specs.GoodEditor.{GoodEditor}
+use Rattle.machine_laws.proofs.GoodEditor.{GoodEditor, Passes}
 use Rattle.machine_laws.proofs.Advancing.{live_below, buffer_live}
-use Rattle.machine_laws.specs.Fits.{GoodSite}
+use Rattle.machine_laws.proofs.Fits.{GoodSite}
 use Rattle.plain_machine.specs.Exchanges.{Exchange, Ask, Answer}
 use Rattle.plain_machine.specs.State.{State, Program}
 use Rattle.plain_machine.specs.Items.{Said, Config, Next, Step, Goes, Asks}
@@ -28,11 +28,10 @@ use Rattle.plain_machine.specs.Items.{Item, Ended}
 use Rattle.plain_machine.specs.Forms.{commit_change, at_kept, saved_of, after_commit}
 use Rattle.plain_machine.specs.Calls.{change_call}
 use Rattle.plain_machine.specs.Run.{Reaches, start}
-use Rattle.machine_laws.specs.GoodConfig.{GoodConfig, Well}
+use Rattle.machine_laws.proofs.GoodConfig.{GoodConfig, Well}
 use Rattle.machine_laws.specs.UndoneRuns.{Commits, PassesQuietly, Undoes, UndoReturns}
 use Rattle.plain_machine.proofs.Composed.{over_runs}
 use Rattle.machine_laws.proofs.Stepping.{StepWell, AnswerWell, step_well}
-use Rattle.machine_laws.proofs.Basics.{none_some, some_same}
 
 -- GOOD CONFIGURATIONS
 well_good : (e : Editor) (d : Config) → Well e d → GoodConfig d
@@ -70,11 +69,11 @@ module _ (program : Program) (bound : ℕ) where
   }
     where
       pushed : (l : Live) → live d.state.editor b ≡ Some l → (o : Option Live) → live c.state.editor b ≡ o → serial < l.buffer.undo.next
-      pushed l h None q = absurd (none_some l (sym (w.advances.dead b m.made q) ∙ h))
+      pushed l h None q = absurd (none-some l (sym (w.advances.dead b m.made q) ∙ h))
       pushed l h (Some k) q = let x : serial < k.buffer.undo.next = m.pushed k q in let y : k.buffer.undo.next ≤ l.buffer.undo.next = (w.advances.passes b k l q h).grows in omega arith
 
       back : (l : Live) → live d.state.editor b ≡ Some l → boundary_at serial l.buffer.undo.entries ≡ true → (o : Option Live) → live c.state.editor b ≡ o → rewind (newer_than serial l.buffer.undo.entries) l.buffer.text ≡ text
-      back l h k None q = absurd (none_some l (sym (w.advances.dead b m.made q) ∙ h))
+      back l h k None q = absurd (none-some l (sym (w.advances.dead b m.made q) ∙ h))
       back l h k (Some j) q =
           let p : Passes j.buffer l.buffer = w.advances.passes b j l q h in
           p.back serial (m.pushed j q) k ∙ m.back j q (p.stood serial (m.pushed j q) k)
@@ -180,8 +179,8 @@ undo_returns program bound from start_good first second said more c d n n' b gro
     at_first = record {
       good = well_good c.state.editor n.config w;
       made = live_below n.config.state.editor b l' live_l';
-      pushed = λ k h. subst (λ z. serial < z.buffer.undo.next) (some_same l' k (sym live_l' ∙ h)) (is_below (nat_lt serial l'.buffer.undo.next) refl);
-      back = λ k h q. subst (λ z. rewind (newer_than serial z.buffer.undo.entries) z.buffer.text ≡ x'.text) (some_same l' k (sym live_l' ∙ h))
+      pushed = λ k h. subst (λ z. serial < z.buffer.undo.next) (same_Some l' k (sym live_l' ∙ h)) (is_below (nat_lt serial l'.buffer.undo.next) refl);
+      back = λ k h q. subst (λ z. rewind (newer_than serial z.buffer.undo.entries) z.buffer.text ≡ x'.text) (same_Some l' k (sym live_l' ∙ h))
           (ap (λ es. rewind es l'.buffer.text) (p.pushed serial (is_new (nat_lt serial l.buffer.undo.next) refl) stands_l) ∙ ap (λ z. z.text) is_x');
     }
 
@@ -208,12 +207,12 @@ new_good : GoodEditor new_editor
 new_good = record { each = λ id l h. each id l h; unborn = λ id h. record { markers = tt; saved = tt } }
   where
     each : (id : ℕ) (l : Live) → live new_editor id ≡ Some l → GoodSite id (record { buffer = l.buffer; marks = new_editor.marks })
-    each zero l h = subst (λ z. GoodSite zero (record { buffer = z.buffer; marks = new_editor.marks })) (some_same _ l h)
+    each zero l h = subst (λ z. GoodSite zero (record { buffer = z.buffer; marks = new_editor.marks })) (same_Some _ l h)
         (record {
           good = record { ordered = tt; falling = tt; off = λ q. refl; below = omega arith; agrees = λ s a q. absurd (omega arith) };
           fits = record { begin_fits = omega arith; end_fits = omega arith; point_fits = omega arith; marks_fit = record { markers = tt; saved = tt } };
         })
-    each (suc id) l h = absurd (none_some l h)
+    each (suc id) l h = absurd (none-some l h)
 
 pub start_good : (script : Script) → GoodConfig (start script)
 start_good script = record { editor = new_good; work = (tt, tt); stack = tt }

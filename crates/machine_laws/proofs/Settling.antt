@@ -2,16 +2,15 @@
 use Rattle.std.proofs.Common.{◌≡◌, ℕ, ◌≤◌, ◌<◌, Bool, List, [], ◌∷◌, length, refl, ap, sym, ◌∙◌, arith, ◌⊎◌, inl, inr}
 use Rattle.std.specs.Prelude.{if◌then◌else◌, ◌==◌, slice_get, slice_set, Option, Some, None, unwrap_or}
 use Rattle.std.proofs.lemmas.Bool.{cases_eq}
+use Rattle.std.proofs.lemmas.Option.{same_Some, none-some}
 use Rattle.text_model.specs.Marks.{Marks}
 use Rattle.text_model.specs.Commit.{Site}
-use Rattle.machine_laws.specs.Good.{Passes}
-use Rattle.machine_laws.specs.Fits.{MarksFit, shapes}
-use Rattle.text_model.proofs.Sets.{by_test}
+use Rattle.text_model.proofs.Cases.{by_test}
+use Rattle.machine_laws.proofs.Fits.{MarksFit, shapes}
 use Rattle.machine_laws.proofs.OneBuffer.{passes_like}
 use Rattle.editor_model.specs.Editor.{Editor, Live, live, live_from, change_site, killed, scratch, with_buffer}
-use Rattle.machine_laws.specs.GoodEditor.{GoodEditor, Advances, Steady}
+use Rattle.machine_laws.proofs.GoodEditor.{GoodEditor, Advances, Steady, Passes}
 use Rattle.machine_laws.proofs.Advancing.{advances_self, marks_only, size_of, live_below, live_within, live_set_same, live_set_other, killed_advances}
-use Rattle.machine_laws.proofs.Basics.{none_some, some_same}
 
 -- a step that leaves the text and the records of each buffer
 pub record Settles (e new : Editor) : Type 0 where
@@ -21,7 +20,7 @@ pub record Settles (e new : Editor) : Type 0 where
   pub same : (id : ℕ) (l m : Live) → live e id ≡ Some l → live new id ≡ Some m → (m.buffer.text ≡ l.buffer.text) × (m.buffer.undo ≡ l.buffer.undo)
 
 pub settles_self : (e : Editor) → GoodEditor e → Settles e e
-settles_self e g = record { good = g; longer = omega arith; dead = λ id h k. k; same = λ id l m h k. let q : l ≡ m = some_same l m (sym h ∙ k) in (ap (λ x. x.buffer.text) (sym q), ap (λ x. x.buffer.undo) (sym q)) }
+settles_self e g = record { good = g; longer = omega arith; dead = λ id h k. k; same = λ id l m h k. let q : l ≡ m = same_Some l m (sym h ∙ k) in (ap (λ x. x.buffer.text) (sym q), ap (λ x. x.buffer.undo) (sym q)) }
 
 -- a step, and one behind it that leaves texts and records
 pub advances_settles : (e mid new : Editor) → Advances e mid → Settles mid new → Advances e new
@@ -33,7 +32,7 @@ advances_settles e mid new a s = record {
 }
   where
     passes : (id : ℕ) (l m : Live) → live e id ≡ Some l → live new id ≡ Some m → (o : Option Live) → live mid id ≡ o → Passes l.buffer m.buffer
-    passes id l m h k None q = let x : length e.buffers ≤ length mid.buffers = a.longer in let y : id < length e.buffers = live_below e id l h in absurd (none_some m (sym (s.dead id (omega arith) q) ∙ k))
+    passes id l m h k None q = let x : length e.buffers ≤ length mid.buffers = a.longer in let y : id < length e.buffers = live_below e id l h in absurd (none-some m (sym (s.dead id (omega arith) q) ∙ k))
     passes id l m h k (Some n) q = let t : (m.buffer.text ≡ n.buffer.text) × (m.buffer.undo ≡ n.buffer.undo) = s.same id n m q k in passes_like l.buffer n.buffer m.buffer (a.passes id l n h q) t.0 t.1
 
 pub settles_then : (e mid new : Editor) → Settles e mid → Settles mid new → Settles e new
@@ -45,7 +44,7 @@ settles_then e mid new a s = record {
 }
   where
     same : (id : ℕ) (l m : Live) → live e id ≡ Some l → live new id ≡ Some m → (o : Option Live) → live mid id ≡ o → (m.buffer.text ≡ l.buffer.text) × (m.buffer.undo ≡ l.buffer.undo)
-    same id l m h k None q = let x : length e.buffers ≤ length mid.buffers = a.longer in let y : id < length e.buffers = live_below e id l h in absurd (none_some m (sym (s.dead id (omega arith) q) ∙ k))
+    same id l m h k None q = let x : length e.buffers ≤ length mid.buffers = a.longer in let y : id < length e.buffers = live_below e id l h in absurd (none-some m (sym (s.dead id (omega arith) q) ∙ k))
     same id l m h k (Some n) q =
         let t : (m.buffer.text ≡ n.buffer.text) × (m.buffer.undo ≡ n.buffer.undo) = s.same id n m q k in
         let u : (n.buffer.text ≡ l.buffer.text) × (n.buffer.undo ≡ l.buffer.undo) = a.same id l n h q in
@@ -62,7 +61,7 @@ marks_settle e new g q f =
       good = a.good;
       longer = a.longer;
       dead = a.dead;
-      same = λ id l m h k. let r : l ≡ m = some_same l m (sym h ∙ sym (ap (λ bs. unwrap_or (slice_get bs id) None) q) ∙ k) in (ap (λ x. x.buffer.text) (sym r), ap (λ x. x.buffer.undo) (sym r));
+      same = λ id l m h k. let r : l ≡ m = same_Some l m (sym h ∙ sym (ap (λ bs. unwrap_or (slice_get bs id) None) q) ∙ k) in (ap (λ x. x.buffer.text) (sym r), ap (λ x. x.buffer.undo) (sym r));
     }
 
 abbrev Lives : Editor → ℕ → Live → Type 0
@@ -79,7 +78,7 @@ site_settles id f e a h = record { good = a.good; longer = a.longer; dead = a.de
           let site : Site = f (record { buffer = n.buffer; marks = e.marks }) in
           record e { buffers = slice_set e.buffers id (Some (record n { buffer = site.buffer })); marks = site.marks }
     ]) j m → (m.buffer.text ≡ l.buffer.text) × (m.buffer.undo ≡ l.buffer.undo)
-    go None q j l m x y = let r : l ≡ m = some_same l m (sym x ∙ y) in (ap (λ z. z.buffer.text) (sym r), ap (λ z. z.buffer.undo) (sym r))
+    go None q j l m x y = let r : l ≡ m = same_Some l m (sym x ∙ y) in (ap (λ z. z.buffer.text) (sym r), ap (λ z. z.buffer.undo) (sym r))
     go (Some n) q j l m x y = by_id (cases_eq j id)
       where
         site : Site
@@ -90,12 +89,12 @@ site_settles id f e a h = record { good = a.good; longer = a.longer; dead = a.de
 
         by_id : (j ≡ id) ⊎ (j ≡ id → ⊥) → (m.buffer.text ≡ l.buffer.text) × (m.buffer.undo ≡ l.buffer.undo)
         by_id (inl r) =
-            let p : n ≡ l = some_same n l (sym q ∙ ap (live e) (sym r) ∙ x) in
-            let s : record n { buffer = site.buffer } ≡ m = some_same _ m (sym (live_set_same e new id (Some (record n { buffer = site.buffer })) (Some n) refl (live_within e id n q)) ∙ ap (live new) (sym r) ∙ y) in
+            let p : n ≡ l = same_Some n l (sym q ∙ ap (live e) (sym r) ∙ x) in
+            let s : record n { buffer = site.buffer } ≡ m = same_Some _ m (sym (live_set_same e new id (Some (record n { buffer = site.buffer })) (Some n) refl (live_within e id n q)) ∙ ap (live new) (sym r) ∙ y) in
             let t : (site.buffer.text ≡ n.buffer.text) × (site.buffer.undo ≡ n.buffer.undo) = h n q in
             (ap (λ z. z.buffer.text) (sym s) ∙ t.0 ∙ ap (λ z. z.buffer.text) p, ap (λ z. z.buffer.undo) (sym s) ∙ t.1 ∙ ap (λ z. z.buffer.undo) p)
         by_id (inr d) =
-            let r : l ≡ m = some_same l m (sym x ∙ sym (live_set_other e new id j (Some (record n { buffer = site.buffer })) refl d) ∙ y) in
+            let r : l ≡ m = same_Some l m (sym x ∙ sym (live_set_other e new id j (Some (record n { buffer = site.buffer })) refl d) ∙ y) in
             (ap (λ z. z.buffer.text) (sym r), ap (λ z. z.buffer.undo) (sym r))
 
 -- a buffer killed

@@ -4,20 +4,20 @@ use Rattle.std.specs.Prelude.{◌-◌, ◌==◌, ◌&&◌, ◌||◌, pos, nat_lt
 use Rattle.std.proofs.lemmas.Bool.{eqb-true, eq-eqb}
 use Rattle.text_model.specs.Characters.{Ch, Scalar}
 use Rattle.text_model.specs.Decoding.{characters, all_characters}
-use Rattle.text_model.specs.Properties.{Cell}
+use Rattle.text_model.specs.Properties.{Cell, bare}
 use Rattle.text_model.specs.Ordered.{AreOrdered}
 use Rattle.text_model.specs.Marks.{Spot, Saved, Excursion, Restriction, Pending}
-use Rattle.machine_laws.specs.Fits.{KeptFits, SavedFits, shape, shapes}
-use Rattle.text_model.proofs.Sets.{by_test}
+use Rattle.text_model.proofs.Cases.{by_test}
+use Rattle.machine_laws.proofs.Fits.{KeptFits, SavedFits, shape, shapes}
 use Rattle.machine_laws.proofs.Changes.{ordered-append}
 use Rattle.editor_model.specs.Values.{Value, Nil, T, Int, ExchangesSpent, at_place, Reply, Answered, Fault, Prim, AddHook, RemoveHook, KillBuffer, StartProcess, SetProcessFilter, SetProcessSentinel, SetProcessBuffer, ProcessSendString, ProcessSendEof, DeleteProcess, AcceptProcessOutput, Form, Forms, NoForms, Then, Do, Setq, In, WhenEq, Block, SaveExcursion, SaveRestriction, SaveCurrentBuffer, InhibitHooks, HandlerDef, equal}
 use Rattle.editor_model.specs.Editor.{Editor, Live, live, is_live, here, killed, register, with_register, with_buffer, with_marker}
-use Rattle.editor_model.specs.Answers.{Test, first_fault, Change, Applied, Prepared, Changes, Quiet, Nothing, Barred, Commit, Done, Failed}
+use Rattle.editor_model.specs.Answers.{Test, first_fault, Change, Prepared, Changes, Quiet, Nothing, Barred, Commit, Done, Failed}
 use Rattle.editor_model.specs.Arguments.{arg, string_of, name_of, buffer_of}
 use Rattle.editor_model.specs.TextCalls.{prepare_output}
 use Rattle.editor_model.specs.Table.{query, apply, prepare, commit}
 use Rattle.editor_model.specs.Prims.{OnlyAsks, SetsState, ChangesText, ConcernsHandlers, manner_of}
-use Rattle.machine_laws.specs.GoodEditor.{GoodEditor, Steady, FineWhat, FineChange}
+use Rattle.machine_laws.proofs.GoodEditor.{GoodEditor, Steady, FineWhat, FineChange}
 use Rattle.machine_laws.proofs.Advancing.{advances_self, buffer_live, size_of, with_buffer_advances}
 use Rattle.machine_laws.proofs.Applying.{Lies, lies, apply_steady, markers_append, SpotLies, spot_fits}
 use Rattle.machine_laws.proofs.Committing.{FinePrepared, prepare_fine, output_fine, commit_steady, some_of}
@@ -30,10 +30,10 @@ use Rattle.plain_machine.specs.Refusals.{process_tests, may_ask, must_be_replace
 use Rattle.plain_machine.specs.Arguments.{process_of, filter_of, sentinel_of, child_of, is_closed, encoded, handler_def, native_from, running_in, is_new_name}
 use Rattle.plain_machine.specs.Calls.{on, answered, unless, call, process_effect, with_filter, with_sentinel, of_buffer, process_buffer, with_process_buffer, is_new_child, started, spawned, send, sent_answer, send_eof, closed_answer, with_input_closed, change_call, with_editor, call_by, end_of, spawned_child, unless_fault}
 use Rattle.plain_machine.specs.Forms.{says, with_saved, saved_of, if_live, current, restored, evaluate, do_form, block, bounds_kept, assigned, scope_of, kept_reply, give, make_change, commit_change, at_kept, popped, bracket, after_commit, when_eq, call_with}
-use Rattle.plain_machine.specs.Handling.{text_of, plain_text, second, sentinel_words, bound_params, unlisted, body_of, default_handler, put_in, output_in, put_output, process_buffer_of, mark_of_process, native, native_call, left_state, ended_handler, without_hooks_item, named_body, native_next, where_live}
+use Rattle.plain_machine.specs.Handling.{plain_text, second, sentinel_words, bound_params, unlisted, body_of, default_handler, put_in, output_in, put_output, process_buffer_of, mark_of_process, native, native_call, left_state, ended_handler, without_hooks_item, named_body, native_next, where_live}
 use Rattle.plain_machine.specs.Waits.{ask_process, read_answer, end_answer, drain, entry_of, asked_more, more_characters, is_room, counts, target_is_eligible, from_eligible, eligible, delete, kill_answer, ends, exit_text, kill_at_end, finish, wait, ask_if, ask_next, delete_one, delete_running, finish_one, finish_running, kill_live, wait_case, hear}
 use Rattle.plain_machine.specs.Step.{step, item_step}
-use Rattle.machine_laws.specs.GoodConfig.{ItemFine, AllFine, WorkFine, IsPendingIn, Stacked, GoodConfig, Well}
+use Rattle.machine_laws.proofs.GoodConfig.{ItemFine, AllFine, WorkFine, IsPendingIn, Stacked, GoodConfig, Well}
 use Rattle.machine_laws.proofs.Working.{kinds, Ready, all_work, well_same, well_settled, change_editor, Rests, popped_rests, left_kinds, restored_rests, leave_stacked, dropped_well}
 
 abbrev Same : ℕ × ℕ → ℕ × ℕ → Type 0
@@ -50,10 +50,6 @@ abbrev pub StepWell : State → Step → Type 0
 StepWell s (Goes n) = Well s.editor n.config
 StepWell s (Asks ask next) = (answer : Answer) → AnswerWell s (next answer)
 StepWell s Ended = Unit {0}
-
--- items in front that keep nothing
-front : (s t : State) (item : Item) (rest work : List Item) → Ready s rest → t.editor ≡ s.editor → AllFine work → Stacked work (kinds s) → Well s.editor (record { state = t; work = work })
-front s t item rest work r q f k = well_same s t work r.editor q f k
 
 -- CALLS
 answered_well : (s t : State) (target : Target) (y : Reply) (rest : List Item) → Ready s rest → Steady s.editor t.editor → StepWell s (answered t target y rest)
@@ -299,7 +295,7 @@ commit_well s c rest g w f p k = go (commit s.editor (at_kept c (saved_of s))) (
             }
 
 -- HANDLERS
-text_ordered : (text : List Ch) → AreOrdered (text_of text)
+text_ordered : (text : List Ch) → AreOrdered (bare text)
 text_ordered [] = tt
 text_ordered (c ∷ text) = (tt, text_ordered text)
 
@@ -345,7 +341,7 @@ words_ordered s p text h =
     let words : List Ch = map Scalar (codes "\nProcess ") in
     let name : List Ch = elim (process s p) [ Some x ↦ x.name | None ↦ [] ] in
     let blank : List Ch = map Scalar (32 ∷ []) in
-    ordered-append (text_of words) (text_of name ++ (text_of blank ++ text)) (text_ordered words) (ordered-append (text_of name) (text_of blank ++ text) (text_ordered name) (ordered-append (text_of blank) text (text_ordered blank) h))
+    ordered-append (bare words) (bare name ++ (bare blank ++ text)) (text_ordered words) (ordered-append (bare name) (bare blank ++ text) (text_ordered name) (ordered-append (bare blank) text (text_ordered blank) h))
 
 default_well : (s : State) (kind : Kind) (args : List Value) (rest : List Item) → Ready s rest → Well s.editor (default_handler s kind args rest)
 default_well s (OfFilter p) args rest r = output_well s p (plain_text (second args)) rest r (text_ordered (map (λ c. c.0) (second args)))

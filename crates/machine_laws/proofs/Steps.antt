@@ -5,7 +5,7 @@ use Rattle.std.specs.Prelude.{pos, Option, Some, None, ◌==◌, not, ◌||◌, 
 use Rattle.std.specs.List.{list_any}
 use Rattle.text_model.specs.Characters.{Ch}
 use Rattle.text_model.specs.Decoding.{characters, all_characters}
-use Rattle.text_model.specs.Properties.{Cell}
+use Rattle.text_model.specs.Properties.{Cell, bare}
 use Rattle.editor_model.specs.Values.{Value, T, Int, at_place, Reply, Answered, Fault, Prim, StartProcess, KillBuffer, ProcessSendString, ProcessSendEof, DeleteProcess, Form, Forms, NoForms, Then, Do, Setq, In, WhenEq, Block, SaveExcursion, SaveRestriction, SaveCurrentBuffer, InhibitHooks, HandlerDef, equal}
 use Rattle.editor_model.specs.Editor.{is_live, killed}
 use Rattle.editor_model.specs.Arguments.{arg, string_of, buffer_of}
@@ -22,7 +22,7 @@ use Rattle.plain_machine.specs.Refusals.{process_tests, may_ask, must_be_replace
 use Rattle.plain_machine.specs.Arguments.{process_of, child_of, is_closed, encoded, handler_def, running_in, runs}
 use Rattle.plain_machine.specs.Step.{step, item_step}
 use Rattle.plain_machine.specs.Forms.{dropped, restored, evaluate, do_form, block, give, kept_reply, commit_change, at_kept, saved_of, popped, bracket, says, current, after_commit, call_with, when_eq}
-use Rattle.plain_machine.specs.Handling.{mark_of_process, second, sentinel_words, plain_text, enter, text_of, body_of, default_handler, put_in, output_in, process_buffer_of, native, left_state, ended_handler, without_hooks_item, named_body, native_next}
+use Rattle.plain_machine.specs.Handling.{mark_of_process, second, sentinel_words, plain_text, enter, body_of, default_handler, put_in, output_in, process_buffer_of, native, left_state, ended_handler, without_hooks_item, named_body, native_next}
 use Rattle.plain_machine.specs.Waits.{ask_process, asked_more, read_answer, end_answer, drain, is_room, entry_of, counts, more_characters, ends, exit_text, is_eligible, target_is_eligible, from_eligible, eligible, delete, kill_answer, kill_at_end, finish, wait, ask_if, ask_next, delete_one, delete_running, hear, is_eligible_one, kill_live, wait_case, finish_one, finish_running}
 use Rattle.machine_laws.proofs.Keeping.{Core, core, cores, change_cores, step_keeps}
 use Rattle.machine_laws.proofs.Moves.{IsHook, Plain, AllPlain, Valid, Silent, Nobody, Output, coming, output_of, Working, phase, IsIdle, IsNew, IsLast, Still, Ends, Moves, rests, enters, spawns, hears, drains, dies, closes, passes, kills, dumps}
@@ -260,7 +260,7 @@ native_does program s i args past rest r = go (nat_lt (length past) 256) (progra
     go true (Some c) = callable_does s (Called i args past ∷ rest) (Rattle.plain_machine.specs.Natives.is_callable program s c) c.0 (map Rattle.plain_machine.specs.Natives.normal c.1) Fault.WrongType (tt, r)
 
 -- WAITS AND ENDS
-coming_of_text : (text : List Ch) → text ≡ map (λ c. c.0) (text_of text)
+coming_of_text : (text : List Ch) → text ≡ map (λ c. c.0) (bare text)
 coming_of_text [] = refl
 coming_of_text (c ∷ text) = ap (λ cs. c ∷ cs) (coming_of_text text)
 

@@ -16,12 +16,6 @@ module _ (program : Program) (bound : ℕ) where
   abbrev pub heavy : Config → ℕ × ℕ
   heavy c = weight program (length c.state.processes) c.state.inhibited c.work
 
-  -- a step that asks nothing leaves the number of processes
-  abbrev Count : Config → Step → Type 0
-  Count c (Goes x) = length x.config.state.processes ≡ length c.state.processes
-  Count c (Asks ask next) = Unit {0}
-  Count c Ended = Unit {0}
-
   pub same_count : (c : Config) (x : Next) → step program bound c ≡ Goes x → length x.config.state.processes ≡ length c.state.processes
   same_count c x e =
       let k : cores x.config.state ≡ cores c.state = ap (λ k. k.0) (subst (λ t. Keeps c.state t) e (step_keeps program bound c)) in

@@ -1,47 +1,18 @@
 -- The records of a change of properties: undoing them gives back each set.
-use Rattle.std.proofs.Common.{◌≡◌, ℕ, zero, suc, ◌+◌, ◌-◌, ◌≤◌, ◌<◌, Bool, true, false, List, [], ◌∷◌, ◌++◌, length, map, refl, ap, sym, subst, ◌∙◌, arith}
+use Rattle.std.proofs.Common.{◌≡◌, ℕ, zero, suc, ◌+◌, ◌-◌, ◌≤◌, ◌<◌, Bool, true, false, List, [], ◌∷◌, ◌++◌, map, refl, ap, sym, subst, ◌∙◌, arith}
 use Rattle.std.specs.Prelude.{if◌then◌else◌, ◌==◌, ◌&&◌, ◌||◌, nat_lt, nat_le, slice_get, Option, Some, None}
-use Rattle.std.specs.Ordering.{int_eq}
 use Rattle.std.specs.List.{filter_map}
 use Rattle.std.proofs.lemmas.Bool.{eqb-true, ltb-true, ltb-false, lt-ltb, leb-true, le-leb, and_parts, false≢true}
-use Rattle.std.proofs.lemmas.Bool.Decides.{Decides-int_eq}
-use Rattle.text_model.specs.Characters.{Ch, Scalar, Raw}
-use Rattle.text_model.specs.Properties.{PropVal, Truth, Number, Symbol, Symbols, Text, PropSet, PropEdit, Cell, get, put, edited, same_list, same_option, same_ch, same_value, part, with_sets, stretches, stretch_more}
+use Rattle.text_model.specs.Properties.{PropVal, PropSet, PropEdit, Cell, get, put, edited, same_option, same_value, part, with_sets, stretches, stretch_more}
 use Rattle.text_model.specs.Undo.{Rec, Prop, undo_in_text}
 use Rattle.text_model.specs.Commit.{touched, stretch_record, records_of_name, records_of_names, property_records}
 use Rattle.text_model.specs.Ordered.{IsOrdered, AreOrdered, GivesOrdered}
-use Rattle.text_model.proofs.Sets.{by_test, if_true, if_false, elem, get-put, ordered-put, same_sets, ordered-edited, edited_touched, edited_untouched}
+use Rattle.text_model.proofs.Sets.{elem, get-put, ordered-put, same_sets, ordered-edited, edited_touched, edited_untouched}
+use Rattle.text_model.proofs.Cases.{by_test, if_true, if_false, same_tests}
+use Rattle.text_model.proofs.Sameness.{same_option-sound}
+use Rattle.text_model.proofs.Lists.{mapped_at}
 
 -- EQUAL VALUES
-same_list-sound : {A : Type 0} (same : A → A → Bool) → ((a b : A) → same a b ≡ true → a ≡ b) → (xs ys : List A) → same_list same xs ys ≡ true → xs ≡ ys
-same_list-sound same h [] [] e = refl
-same_list-sound same h [] (y ∷ ys) e = cc
-same_list-sound same h (x ∷ xs) [] e = cc
-same_list-sound same h (x ∷ xs) (y ∷ ys) e =
-    let t : (same x y ≡ true) × (same_list same xs ys ≡ true) = and_parts _ _ e in
-    let p : x ≡ y = h x y t.0 in
-    let q : xs ≡ ys = same_list-sound same h xs ys t.1 in
-    cc
-
-same_ch-sound : (a b : Ch) → same_ch a b ≡ true → a ≡ b
-same_ch-sound (Scalar a) (Scalar b) e = ap Scalar (eqb-true a b e)
-same_ch-sound (Raw a) (Raw b) e = ap Raw (eqb-true a b e)
-same_ch-sound (Scalar a) (Raw b) e = cc
-same_ch-sound (Raw a) (Scalar b) e = cc
-
-same_value-sound : (a b : PropVal) → same_value a b ≡ true → a ≡ b
-same_value-sound Truth Truth e = refl
-same_value-sound (Number a) (Number b) e = ap Number ((Decides-int_eq a b).0 e)
-same_value-sound (Symbol a) (Symbol b) e = ap Symbol (eqb-true a b e)
-same_value-sound (Symbols a) (Symbols b) e = ap Symbols (same_list-sound (λ x y. x == y) (λ x y h. eqb-true x y h) a b e)
-same_value-sound (Text a) (Text b) e = ap Text (same_list-sound same_ch same_ch-sound a b e)
-same_value-sound _ _ e = cc
-
-pub same_old : (a b : Option PropVal) → same_option same_value a b ≡ true → a ≡ b
-same_old None None e = refl
-same_old (Some a) (Some b) e = ap Some (same_value-sound a b e)
-same_old None (Some b) e = cc
-same_old (Some a) None e = cc
 
 -- EACH CHARACTER OF A TEXT
 abbrev pub each : (ℕ → PropSet → PropSet) → List Cell → List Cell
@@ -62,17 +33,6 @@ each_each f g (c ∷ text) = rw (each_each (λ i. f (suc i)) (λ i. g (suc i)) t
 pub each_kept : (f : ℕ → PropSet → PropSet) (text : List Cell) → ((i : ℕ) (c : Cell) → slice_get text i ≡ Some c → f i c.1 ≡ c.1) → each f text ≡ text
 each_kept f [] h = refl
 each_kept f (c ∷ text) h = let e : f 0 c.1 ≡ c.1 = h 0 c refl in let r : each (λ i. f (suc i)) text ≡ text = each_kept (λ i. f (suc i)) text (λ i d k. h (suc i) d k) in rw (e, r) refl
-
-length-each : (f : ℕ → PropSet → PropSet) (text : List Cell) → length (each f text) ≡ length text
-length-each f [] = refl
-length-each f (c ∷ text) = ap suc (length-each (λ i. f (suc i)) text)
-
--- two tests that hold together are one
-same_tests : (s t : Bool) → (s ≡ true → t ≡ true) → (t ≡ true → s ≡ true) → s ≡ t
-same_tests true true h k = refl
-same_tests false false h k = refl
-same_tests true false h k = sym (h refl)
-same_tests false true h k = k refl
 
 pub covers_at : (from to at : ℕ) → covers from to at ≡ true → (from ≤ at) × (at < to)
 covers_at from to at h = let t : (nat_le from at ≡ true) × (nat_lt at to ≡ true) = and_parts _ _ h in (leb-true from at t.0, ltb-true at to t.1)
@@ -218,7 +178,7 @@ found-stretches at (suc j) (v ∷ vs) = go (stretches same_values (at + 1) vs) (
         let i : at + suc j ≡ at + 1 + j = omega arith in
         by_test (λ l. found (at + suc j) l ≡ found (at + 1 + j) (s ∷ rest)) (same_values v s.0) ((v, at, s.2) ∷ rest) ((v, at, at + 1) ∷ s ∷ rest)
         (λ k.
-        let e : v ≡ s.0 = same_old v s.0 k in
+        let e : v ≡ s.0 = same_option-sound v s.0 k in
         let f : covers at s.2 (at + suc j) ≡ covers s.1 s.2 (at + 1 + j) = same_tests _ _
         (λ x. let y : (at ≤ at + suc j) × (at + suc j < s.2) = covers_at at s.2 (at + suc j) x in at_covers s.1 s.2 (at + 1 + j) (omega arith) (omega arith))
         (λ x. let y : (s.1 ≤ at + 1 + j) × (at + 1 + j < s.2) = covers_at s.1 s.2 (at + 1 + j) x in at_covers at s.2 (at + suc j) (omega arith) (omega arith)) in
@@ -333,11 +293,6 @@ slice_get-part (suc from) zero k text h = absurd (omega arith)
 slice_get-part (suc from) (suc to) k [] h = refl
 slice_get-part (suc from) (suc to) k (c ∷ text) h = let e : suc from + k ≡ suc (from + k) = omega arith in slice_get-part from to k text (omega arith) ∙ ap (slice_get (c ∷ text)) (sym e)
 
-slice_get-map : {A B : Type 0} (f : A → B) (xs : List A) (k : ℕ) (x : A) → slice_get xs k ≡ Some x → slice_get (map f xs) k ≡ Some (f x)
-slice_get-map f [] k x e = cc
-slice_get-map f (y ∷ xs) zero x e = let q : y ≡ x = cc in ap (λ z. Some (f z)) q
-slice_get-map f (y ∷ xs) (suc k) x e = slice_get-map f xs k x e
-
 ordered_at : (text : List Cell) (k : ℕ) (c : Cell) → AreOrdered text → slice_get text k ≡ Some c → IsOrdered c.1
 ordered_at [] k c h e = cc
 ordered_at (d ∷ text) zero c h e = let q : d ≡ c = same_cell d c e in subst (λ x. IsOrdered x.1) q h.0
@@ -398,7 +353,7 @@ property_undone edit from to text h o g =
         let q : from + k ≡ i = omega arith in
         let a : slice_get (part from to text) k ≡ Some c = slice_get-part from to k text (omega arith) ∙ ap (slice_get text) q ∙ e in
         let b : found i (stretches same_values from (values_of (part from to text) name)) ≡ Some (get c.1 name) =
-        ap (λ j. found j (stretches same_values from (values_of (part from to text) name))) (sym q) ∙ found-stretches from k (values_of (part from to text) name) ∙ slice_get-map (λ d. get d.1 name) (part from to text) k c a in
+        ap (λ j. found j (stretches same_values from (values_of (part from to text) name))) (sym q) ∙ found-stretches from k (values_of (part from to text) name) ∙ mapped_at (λ d. get d.1 name) (part from to text) k c a in
         told-names edit from i (part from to text) (touched edit (part from to text)) name ∙ ap (λ o. if elem name (touched edit (part from to text)) then said (get (edited edit []) name) o else None) b
 
     restored : (i : ℕ) (c : Cell) → slice_get text i ≡ Some c → covers from to i ≡ true → (name : ℕ) → get (undo_set records i (edited edit c.1)) name ≡ get c.1 name
@@ -406,7 +361,7 @@ property_undone edit from to text h o g =
       where
         by_value : (t : Bool) → same_values (get c.1 name) (get (edited edit []) name) ≡ t → elem name (touched edit (part from to text)) ≡ true →
             or_told (if t then None else Some (get c.1 name)) (get (edited edit c.1) name) ≡ get c.1 name
-        by_value true u v = edited_touched edit (part from to text) c.1 name v ∙ sym (same_old (get c.1 name) (get (edited edit []) name) u)
+        by_value true u v = edited_touched edit (part from to text) c.1 name v ∙ sym (same_option-sound (get c.1 name) (get (edited edit []) name) u)
         by_value false u v = refl
 
         by_name : (t : Bool) → elem name (touched edit (part from to text)) ≡ t →

@@ -9,6 +9,7 @@ use Rattle.std.specs.List.{list_any}
 use Rattle.text_model.specs.Characters.{Ch, Raw}
 use Rattle.text_model.specs.Decoding.{characters, tail, all_characters}
 use Rattle.text_model.proofs.Decodings.{open_law}
+use Rattle.text_model.proofs.Lists.{set_same, set_other}
 use Rattle.plain_machine.specs.Exchanges.{Ask, Read, AskEnd, Answer, Bytes, End, Failed, Exchange}
 use Rattle.plain_machine.specs.Lines.{OfFilter, OfSentinel, Event, Entered}
 use Rattle.plain_machine.specs.Items.{Said}
@@ -16,17 +17,9 @@ use Rattle.machine_laws.specs.Entries.{entered_text, entered, read_bytes, read, 
 use Rattle.plain_machine.specs.Waits.{more_characters}
 use Rattle.machine_laws.proofs.Keeping.{Core}
 use Rattle.machine_laws.proofs.Moves.{IsQuiet, Silent, Coming, Nobody, Output, Sentinel, output_of, IsIdle, Idle, IsNew, fresh, EntryOf, IsLast, Moves, rests, enters, spawns, hears, drains, dies, Phase, closes, passes, kills, dumps}
-use Rattle.machine_laws.proofs.Basics.{get_more, is_same, or_nil, or_right, other_is, same_is, set_other, set_same}
+use Rattle.machine_laws.proofs.Basics.{get_more, is_same, or_nil, or_right, other_is, same_is}
 
 -- SMALL THINGS
-or_false : (a b : Bool) → (a || b) ≡ false → (a ≡ false) × (b ≡ false)
-or_false true b h = cc
-or_false false b h = (refl, h)
-
-or_two : (a b : Bool) → ((a || (b || false)) || false) ≡ (a || b)
-or_two true b = refl
-or_two false true = refl
-or_two false false = refl
 
 -- LISTS OF WHAT IS KNOWN
 -- where it stands in a list that is longer by one

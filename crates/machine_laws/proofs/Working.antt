@@ -1,23 +1,23 @@
 -- Each step keeps what holds of configurations, and in each buffer what is newer than a boundary.
 use Rattle.std.proofs.Common.{◌≡◌, ℕ, ◌≤◌, Bool, true, false, List, [], ◌∷◌, ◌++◌, length, drop, refl, ap, sym, subst, ◌∙◌, arith}
-use Rattle.std.specs.Prelude.{◌==◌, ◌&&◌, Option, Some, None, unwrap_or}
+use Rattle.std.specs.Prelude.{Option, Some, None}
 use Rattle.std.proofs.lemmas.Bool.{eq-eqb}
 use Rattle.text_model.specs.Places.{clip}
 use Rattle.text_model.specs.Marks.{Saved, Excursion, Restriction, Pending}
 use Rattle.text_model.specs.Commit.{Buffer}
-use Rattle.machine_laws.specs.Fits.{KeptFits, SavedFits, MarksFit, GoodSite, shapes}
+use Rattle.machine_laws.proofs.Fits.{KeptFits, SavedFits, MarksFit, GoodSite, shapes}
 use Rattle.machine_laws.proofs.OneBuffer.{passes_same}
 use Rattle.machine_laws.proofs.Sites.{same_step}
 use Rattle.editor_model.specs.Values.{Fault, Reply}
 use Rattle.editor_model.specs.Editor.{Editor, Live, live, is_live}
-use Rattle.machine_laws.specs.GoodEditor.{GoodEditor, Advances}
+use Rattle.machine_laws.proofs.GoodEditor.{GoodEditor, Advances}
 use Rattle.machine_laws.proofs.Advancing.{advances_self, site_advances, site_shapes, size_of}
 use Rattle.machine_laws.proofs.Applying.{clip_lies}
 use Rattle.machine_laws.proofs.Settling.{Settles, settles_self, settles_then, settles_advances, marks_settle, site_settles}
 use Rattle.plain_machine.specs.State.{State, Process, process, change_process}
 use Rattle.plain_machine.specs.Items.{Item, Top, Native, Called, Exit, Leave, MakeChange, CommitChange, Kept, KeptExcursion, KeptRestriction, KeptBuffer, KeptInhibition}
 use Rattle.plain_machine.specs.Forms.{with_saved, if_live, current, in_buffer, put_back, pop, popped, restored, dropped}
-use Rattle.machine_laws.specs.GoodConfig.{AllFine, WorkFine, Stacked, Well}
+use Rattle.machine_laws.proofs.GoodConfig.{AllFine, WorkFine, Stacked, Well}
 
 -- the kinds of the kept places of a state
 abbrev pub kinds : State → List (ℕ × ℕ)
@@ -85,9 +85,6 @@ bounds_rest b f s g t u h = record {
       (λ l q. (t l.buffer, u l.buffer));
   same_kinds = site_shapes b (λ site. record site { buffer = f site.buffer }) s.editor (λ l q. refl);
 }
-
-rests_then : (s t v : State) (ks ls : List (ℕ × ℕ)) → Rests s t ks → (GoodEditor t.editor → Rests t v ls) → Rests s v ls
-rests_then s t v ks ls a b = let c : Rests t v ls = b a.settles.good in record { settles = settles_then s.editor t.editor v.editor a.settles c.settles; same_kinds = c.same_kinds }
 
 -- KEPT PLACES
 put_back_rests : (k : Saved) (s : State) → GoodEditor s.editor → ((l : Live) (b : ℕ) → live s.editor b ≡ Some l → KeptFits b (length l.buffer.text) k) → Rests s (put_back k s) (kinds s)

@@ -32,12 +32,3 @@ pub record Good (b : Buffer) : Type 0 where
   pub off : OffIsEmpty b.undo
   pub below : b.undo.pending_below ≤ b.undo.next
   pub agrees : PendingAgrees b.undo b.text
-
--- What a step does to a buffer: it stays good; where a boundary stood before and stands still, what is newer rewinds to
--- the same text as before; and nothing is newer than a boundary that was pushed.
-pub record Passes (b c : Buffer) : Type 0 where
-  pub good : Good c
-  pub grows : b.undo.next ≤ c.undo.next
-  pub stood : (serial : ℕ) → serial < b.undo.next → boundary_at serial c.undo.entries ≡ true → boundary_at serial b.undo.entries ≡ true
-  pub back : (serial : ℕ) → serial < b.undo.next → boundary_at serial c.undo.entries ≡ true → rewind (newer_than serial c.undo.entries) c.text ≡ rewind (newer_than serial b.undo.entries) b.text
-  pub pushed : (serial : ℕ) → b.undo.next ≤ serial → boundary_at serial c.undo.entries ≡ true → newer_than serial c.undo.entries ≡ []

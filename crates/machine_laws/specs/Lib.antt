@@ -6,6 +6,3 @@ pub mod Boundaries
 pub mod UndoneRuns
 pub mod Refusals
 pub mod Good
-pub mod Fits
-pub mod GoodEditor
-pub mod GoodConfig

@@ -6,7 +6,7 @@
 //! what children can do to it; what filters and sentinels are entered with; what undo gives back; what a refusal leaves.
 #![tactic(auto)]
 
-ghost use Rattle.std.specs.Prelude.{◌≡◌, ◌++◌, List, ℕ, ◌+◌, ◌≤◌, [], length};
+ghost use Rattle.std.specs.Prelude.{◌≡◌, List, ℕ, ◌+◌, ◌≤◌, [], length};
 ghost use Rattle.text_model.specs.Properties.{Cell, part, splice};
 ghost use Rattle.editor_model.specs.Editor.{empty_buffer};
 ghost use Rattle.editor_model.specs.Values.{Script};
@@ -134,13 +134,13 @@ pub fn sentinels_come_after_output()
 // UNDO
 
 /// An insertion taken out again leaves the text as it was.
-#[tactic(auto, using(crate::proofs::Undoing::inserted_out_law))]
+#[tactic(auto, using(crate::proofs::Undoing::inserted_out))]
 pub fn insertions_are_taken_out()
     ensures { (place : ℕ) (piece text : List Cell) → place ≤ length text → splice place (place + length piece) [] (splice place place piece text) ≡ text }
 {}
 
 /// A deletion put back again leaves the text as it was, with its properties.
-#[tactic(auto, using(crate::proofs::Undoing::deleted_back_law))]
+#[tactic(auto, using(crate::proofs::Undoing::deleted_back))]
 pub fn deletions_are_put_back()
     ensures { (from to : ℕ) (text : List Cell) → from ≤ to → to ≤ length text → splice from from (part from to text) (splice from to [] text) ≡ text }
 {}

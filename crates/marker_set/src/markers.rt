@@ -139,7 +139,7 @@ impl Markers {
         self.slots[k as usize].spot
     }
 
-    /// Points marker `k` to a place in a buffer, or nowhere.
+    /// Points marker `k` to a place in a buffer, or nowhere. Whether it advances stays as it was.
     pub fn set(&mut self, k: u32, to: Option<(u32, usize)>)
         requires { k < length self.old }
         ensures { self.new ≡ slice_set self.old k (record (marker_at self.old k) { spot = spot_of to }) }
@@ -200,8 +200,8 @@ impl Markers {
         self.slots[k as usize].advances = after;
     }
 
-    /// `n` characters were put in at `at` of a buffer: its markers just there go behind them where they advance, or
-    /// where `all` do.
+    /// `n` characters were put in at `at` of a buffer: its markers behind `at` go on by `n`, and so do those just there
+    /// which advance, or all of these where `all` is said.
     pub fn note_insert(&mut self, buffer: u32, at: usize, n: usize, all: bool)
         requires { All (HasRoomFor buffer n) self.old }
         ensures { self.new ≡ map (move_marker buffer all (insertion at n)) self.old }
@@ -209,7 +209,8 @@ impl Markers {
         self.note(buffer, Change::Insertion { at, n, all });
     }
 
-    /// The part from `from` to `to` of a buffer was deleted.
+    /// The part from `from` to `to` of a buffer was deleted: its markers in the part go to `from`, and those behind it come
+    /// nearer.
     pub fn note_delete(&mut self, buffer: u32, from: usize, to: usize)
         requires { from ≤ to }
         ensures { self.new ≡ map (move_marker buffer false (deletion from to)) self.old }
@@ -233,7 +234,7 @@ impl Markers {
         }
     }
 
-    /// A buffer was killed: its markers point nowhere.
+    /// A buffer was killed: its markers point nowhere. Whether they advance stays as it was.
     pub fn drop_buffer(&mut self, buffer: u32)
         ensures { self.new ≡ map (marker_left buffer) self.old }
     {

@@ -17,7 +17,8 @@ pub struct Bounds {
 }
 
 impl Bounds {
-    /// Point goes to the position `p`, which counts from 1, or to the nearer end of the accessible portion.
+    /// Point goes to the position `p`, which counts from 1, or to the nearer end of the accessible portion. The two ends
+    /// stay.
     pub fn goto(&mut self, p: i64)
         ensures start { self.new.start ≡ self.old.start }
         ensures end { self.new.end ≡ self.old.end }
@@ -56,7 +57,7 @@ impl Bounds {
         };
     }
 
-    /// The part from `from` to `to` was deleted.
+    /// The part from `from` to `to` was deleted: what lies in it goes to `from`, and what lies behind it comes nearer.
     pub fn note_delete(&mut self, from: usize, to: usize)
         requires { from ≤ to }
         ensures start { self.new.start ≡ after_delete from to self.old.start }

@@ -3,7 +3,7 @@ ghost use Rattle.std.specs.Prelude.{◌≡◌, ◌↔◌, ◌≤◌, List, [], �
 ghost use Rattle.text_model.specs.Marks.{move_saved, insertion, deletion};
 ghost use Rattle.narrow_region.specs.Kept.{kept_of, HasRoomFor};
 
-use ek_types::{Mem, NoMemory, place_after_delete, place_after_insert};
+use ek_types::{Mem, place_after_delete, place_after_insert};
 use std::alloc::Global;
 use std::marker::Model;
 
@@ -102,13 +102,11 @@ impl SavedStack {
         ensures ok { OnOk result (self.new ≡ kept_of s ∷ self.old) }
         ensures err { OnErr result (self.new ≡ self.old) }
     {
-        match self.items.push(s) {
-            Ok(()) => Ok(()),
-            Err(_) => Err(NoMemory),
-        }
+        self.items.push(s)?;
+        Ok(())
     }
 
-    /// Takes away what was kept last.
+    /// Takes away what was kept last, and gives it; `None` where nothing is kept.
     pub fn pop(&mut self) -> Option<Saved>
         ensures none { IsNone result ↔ (self.old ≡ []) }
         ensures newest { IfSome result (λ s. self.old ≡ kept_of s ∷ self.new) }
@@ -128,7 +126,8 @@ impl SavedStack {
         }
     }
 
-    /// The part from `from` to `to` of a buffer was deleted.
+    /// The part from `from` to `to` of a buffer was deleted: its kept places in the part go to `from`, and those behind it
+    /// come nearer.
     pub fn note_delete(&mut self, buffer: u32, from: usize, to: usize)
         requires { from ≤ to }
         ensures { self.new ≡ map (move_saved buffer (deletion from to)) self.old }

@@ -7,3 +7,5 @@ pub mod EntryLemmas
 pub mod OrderLemmas
 pub mod WholeLemmas
 pub mod SlotLemmas
+pub mod RivalLemmas
+pub mod ForwardLemmas

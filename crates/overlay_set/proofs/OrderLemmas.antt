@@ -25,12 +25,12 @@ places_total os =
 pub ranking_total : (os : List Overlay) → IsTotalOrder (ranking os)
 ranking_total os = then_total (places_total os) nat_cmp_total
 
-last_equal : (a b : Ordering) → ordering_then a b ≡ Equal → b ≡ Equal
+pub last_equal : (a b : Ordering) → ordering_then a b ≡ Equal → b ≡ Equal
 last_equal Less b h = cc
 last_equal Equal b h = h
 last_equal Greater b h = cc
 
-numbers_equal : (x y : ℕ) → nat_cmp x y ≡ Equal → x ≡ y
+pub numbers_equal : (x y : ℕ) → nat_cmp x y ≡ Equal → x ≡ y
 numbers_equal x y h = by_tests (nat_lt x y) (x == y) refl refl h
   where
     by_tests : (s t : Bool) → nat_lt x y ≡ s → (x == y) ≡ t → (if s then Less else (if t then Equal else Greater)) ≡ Equal → x ≡ y
@@ -42,7 +42,7 @@ pub equal_ranks : (os : List Overlay) (x y : ℕ) → ranking os x y ≡ Equal �
 equal_ranks os x y h = numbers_equal x y (last_equal (places os x y) (nat_cmp x y) h)
 
 -- THE TESTS AS ORDERINGS
-int_below : (x y : ℤ) → int_lt x y ≡ is_lt (int_cmp x y)
+pub int_below : (x y : ℤ) → int_lt x y ≡ is_lt (int_cmp x y)
 int_below x y = by_tests (int_lt x y) (int_lt y x) refl
   where
     by_tests : (s t : Bool) → int_lt x y ≡ s → int_lt x y ≡ is_lt (if s then Less else (if t then Greater else Equal))
@@ -50,7 +50,7 @@ int_below x y = by_tests (int_lt x y) (int_lt y x) refl
     by_tests false true p = p
     by_tests false false p = p
 
-nat_below : (x y : ℕ) → nat_lt x y ≡ is_lt (nat_cmp x y)
+pub nat_below : (x y : ℕ) → nat_lt x y ≡ is_lt (nat_cmp x y)
 nat_below x y = by_tests (nat_lt x y) (x == y) refl
   where
     by_tests : (s t : Bool) → nat_lt x y ≡ s → nat_lt x y ≡ is_lt (if s then Less else (if t then Equal else Greater))
@@ -58,7 +58,7 @@ nat_below x y = by_tests (nat_lt x y) (x == y) refl
     by_tests false true p = p
     by_tests false false p = p
 
-nat_equal : (x y : ℕ) → (x == y) ≡ is_eq (nat_cmp x y)
+pub nat_equal : (x y : ℕ) → (x == y) ≡ is_eq (nat_cmp x y)
 nat_equal x y = by_tests (nat_lt x y) (x == y) refl refl
   where
     by_tests : (s t : Bool) → nat_lt x y ≡ s → (x == y) ≡ t → (x == y) ≡ is_eq (if s then Less else (if t then Equal else Greater))

@@ -3,3 +3,5 @@ pub mod Slots
 pub mod Entries
 pub mod Moves
 pub mod Winner
+pub mod Rivals
+pub mod Forward

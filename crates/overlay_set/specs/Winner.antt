@@ -1,4 +1,5 @@
--- The winner of some overlays, in whatever order they come.
+-- The winner of some overlays, in whatever order they come: how the code finds it. Over all entries it is the winner of
+-- the definitions, which is all that the clause of `Overlays::winner` says.
 use Rattle.std.specs.Prelude.{ℕ, Bool, not, nat_lt, List, filter, if◌then◌else◌, Option, Some, None, is_some}
 use Rattle.std.specs.List.{fold}
 use Rattle.text_model.specs.Properties.{get}

@@ -9,10 +9,9 @@ use crate::tree::{Link, Node, Tree, fork, take_sides};
 fn balanced(left: Tree, node: Box<Node>, right: Tree) -> Tree
     ensures { result ≡ left ++ node.value.entry ∷ right }
 {
-    let (hl, hr) = (left.height(), right.height());
-    if hl > hr.saturating_add(1) {
+    if left.height() > right.height().saturating_add(1) {
         lean_left(left, node, right)
-    } else if hr > hl.saturating_add(1) {
+    } else if right.height() > left.height().saturating_add(1) {
         lean_right(left, node, right)
     } else {
         fork(left, node, right)

@@ -1,8 +1,10 @@
 //! Stretches with the numbers of their overlays, and the bounds of many of them.
-ghost use Rattle.std.specs.Prelude.{◌≡◌, false, Option, Some, None, min, max, filter, option_map, ◌+◌, ◌<◌, ℕ, nat_lt, nat_le, ◌==◌, ◌||◌, ◌&&◌, true, not, is_some, unwrap_or};
+ghost use Rattle.std.specs.Prelude.{◌≡◌, false, min, max, filter, ◌+◌, ◌<◌, ℕ, nat_lt, nat_le, ◌==◌, ◌||◌, ◌&&◌, true, not, is_some, unwrap_or};
 ghost use Rattle.text_model.specs.OverlayQuestions.{least, greatest};
 ghost use Rattle.overlay_set.specs.Numbered.{next_or, previous_or};
-ghost use Rattle.overlay_set.specs.Entries.{Within, Holds, ends_at, passes, is_same};
+ghost use Rattle.overlay_set.specs.Entries.{Holds, ends_at, passes, is_same};
+ghost use Rattle.text_model.specs.Marks.{Overlay};
+ghost use Rattle.overlay_set.specs.Slots.{moved_by, with_span};
 ghost use Rattle.overlay_set.specs.Moves.{touches};
 
 use crate::slot::{Change, Question, Stretch, nearer_before, nearer_behind};
@@ -55,9 +57,11 @@ impl Entry {
         self.stretch.0 == buffer && question.passes(self.stretch)
     }
 
-    /// Whether a change of the buffer may move it.
+    /// Whether a change of the buffer may move it. Where it may not, its overlay stays where it is.
+    #[tactic(auto, using(crate::proofs::ChangeLemmas::stays))]
     pub(crate) fn is_touched(self, buffer: u32, change: Change) -> bool
-        ensures { result ≡ touches buffer change self }
+        ensures exact { result ≡ touches buffer change self }
+        ensures stays { result ≡ false → (o : Overlay) → moved_by buffer change (with_span o self.stretch) ≡ with_span o self.stretch }
     {
         let (own, start, end) = self.stretch;
         own == buffer

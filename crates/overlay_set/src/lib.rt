@@ -3,6 +3,7 @@
 
 mod balance;
 mod bounds;
+mod laws;
 mod moves;
 mod overlays;
 mod search;
@@ -11,4 +12,5 @@ mod slot;
 mod tests;
 mod tree;
 
+pub use laws::{overlays_keep_their_ends_in_order, the_winner_wins_over_each_other};
 pub use overlays::{Numbers, Overlays};

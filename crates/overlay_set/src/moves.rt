@@ -1,5 +1,5 @@
 //! Changes of a tree of entries. A part that a change can't touch is left as it is.
-ghost use Rattle.std.specs.Prelude.{◌≡◌, ℕ, false, ◌<◌, All, ◌∷◌, [], ◌++◌, length, map};
+ghost use Rattle.std.specs.Prelude.{◌≡◌, false, ◌<◌, All, ◌∷◌, [], ◌++◌, length, map};
 ghost use Rattle.std.specs.List.{flat_map};
 ghost use Rattle.overlay_set.specs.Numbered.{span_of};
 ghost use Rattle.overlay_set.specs.Slots.{overlay_of};

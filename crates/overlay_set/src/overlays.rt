@@ -1,19 +1,19 @@
 //! All overlays of a run, by number.
-ghost use Rattle.std.specs.Prelude.{◌≡◌, ℕ, ◌+◌, ◌-◌, ◌^◌, ◌<◌, ◌≤◌, false, [], ◌∷◌, ◌++◌, length, map, Some, None, option_map, option_to_list, slice_set, All, OnOk, OnErr, IfOk};
+ghost use Rattle.std.specs.Prelude.{◌≡◌, ℕ, ◌+◌, ◌-◌, ◌^◌, ◌<◌, ◌≤◌, false, [], ◌∷◌, ◌++◌, length, map, Some, None, option_map, slice_set, All, OnOk, OnErr, IfOk};
 ghost use Rattle.text_model.specs.Properties.{get, put};
 ghost use Rattle.text_model.specs.Marks.{Overlay, move_overlay, evaporated, overlay_left, insertion, deletion};
-ghost use Rattle.text_model.specs.OverlayQuestions.{overlays_where, covers, lies_within, winner, greater, next_end, previous_end};
+ghost use Rattle.text_model.specs.OverlayQuestions.{overlays_where, covers, lies_within, winner, next_end, previous_end};
 ghost use Rattle.ek_types.specs.Property.{prop_of};
 ghost use Rattle.ek_types.specs.Listing.{items_of};
 ghost use Rattle.overlay_set.specs.Numbered.{overlay_at, span_of, span_at, given_of, numbers_of, next_or, previous_or, HasRoomFor};
 ghost use Rattle.overlay_set.specs.Slots.{test_of, with_span, moved_by, overlay_of, CanMoveIn};
-ghost use Rattle.overlay_set.specs.Entries.{HoldSame, numbers_in, passes};
+ghost use Rattle.overlay_set.specs.Entries.{HoldSame};
 
 use crate::bounds::Entry;
 use crate::moves::{move_in, put, take_out};
 use crate::slot::{Change, Question, Slot};
 use crate::tree::{Node, Tree, alone};
-use ek_types::{ListOf, Mem, NoMemory, PropSet, PropVal, Sym};
+use ek_types::{ListOf, Mem, PropSet, PropVal, Sym};
 use std::alloc::Global;
 use std::marker::Model;
 
@@ -73,9 +73,7 @@ impl Overlays {
         let alloc = *self.slots.allocator();
         let number = self.slots.len() as u32;
         let stretch = (buffer, from, to);
-        let Ok(()) = self.slots.reserve(1) else {
-            return Err(NoMemory);
-        };
+        self.slots.reserve(1)?;
         let node = alone(alloc, Entry { number, stretch })?;
         put(&mut self.tree, node);
         self.slots.push_reserved(Slot {
@@ -87,7 +85,8 @@ impl Overlays {
         Ok(number)
     }
 
-    /// Puts overlay `k` from place `from` to place `to` of a buffer. A refusal leaves it where it was.
+    /// Puts overlay `k` from place `from` to place `to` of a buffer. It keeps its properties, and whether its ends advance.
+    /// A refusal leaves it where it was.
     pub fn shift(&mut self, k: u32, buffer: u32, from: usize, to: usize) -> Mem<()>
         requires made { k < length self.old }
         requires ordered { from ≤ to }
@@ -112,7 +111,8 @@ impl Overlays {
         self.slots[number as usize].span = Some(stretch);
     }
 
-    /// Takes overlay `k` out of its buffer ("Managing Overlays" there). It keeps its properties.
+    /// Takes overlay `k` out of its buffer ("Managing Overlays" there). It keeps its properties, and whether its ends
+    /// advance.
     pub fn remove(&mut self, k: u32)
         requires { k < length self.old }
         ensures { self.new ≡ slice_set self.old k (record (overlay_at self.old k) { span = None }) }
@@ -214,8 +214,9 @@ impl Overlays {
         self.tree.prev_change(buffer, i, None)
     }
 
-    /// `n` characters were put in at `at` of a buffer: the ends of its overlays just there go behind them where they
-    /// advance, or where `all` do. The start of an empty overlay doesn't leave its end behind.
+    /// `n` characters were put in at `at` of a buffer: the starts and ends of its overlays behind `at` go on by `n`, and so
+    /// do those just there which advance, or all of these where `all` is said. The start of an empty overlay doesn't leave
+    /// its end behind.
     pub fn note_insert(&mut self, buffer: u32, at: usize, n: usize, all: bool)
         requires { All (HasRoomFor buffer n) self.old }
         ensures { self.new ≡ map (move_overlay buffer all (insertion at n)) self.old }
@@ -223,8 +224,9 @@ impl Overlays {
         self.note(buffer, Change::Insertion { at, n, all });
     }
 
-    /// The part from `from` to `to` of a buffer was deleted. Its overlays that are empty then and evaporate are taken
-    /// out of it ("Overlay Properties").
+    /// The part from `from` to `to` of a buffer was deleted: the starts and ends of its overlays in the part go to `from`,
+    /// and those behind it come nearer. Its overlays that are empty then and evaporate are taken out of it ("Overlay
+    /// Properties").
     pub fn note_delete(&mut self, buffer: u32, from: usize, to: usize)
         requires { from ≤ to }
         ensures { self.new ≡ map (λ o. evaporated buffer (move_overlay buffer false (deletion from to) o)) self.old }
@@ -240,7 +242,7 @@ impl Overlays {
         move_in(&mut self.tree, self.slots.as_mut_slice(), buffer, change);
     }
 
-    /// A buffer was killed: its overlays have no buffer.
+    /// A buffer was killed: its overlays have no buffer. They keep their properties.
     pub fn drop_buffer(&mut self, buffer: u32)
         ensures { self.new ≡ map (overlay_left buffer) self.old }
     {

@@ -1,8 +1,8 @@
 //! One overlay as it is kept, and how a change of a text moves it.
 ghost use Rattle.std.specs.Prelude.{◌≡◌, ℕ, ◌+◌, ◌≤◌, ◌&&◌, nat_lt, true, false, [], ◌∷◌, filter, Some, is_some, option_map, IfOk};
 ghost use Rattle.text_model.specs.Properties.{get, put};
-ghost use Rattle.text_model.specs.Marks.{Span, move_overlay, evaporated, evaporate, overlay_left, insertion, deletion};
-ghost use Rattle.text_model.specs.OverlayQuestions.{span_passes, covers, overlaps, stands_in, rank, start_of, end_of, outranks, ends_of_span, least, greatest};
+ghost use Rattle.text_model.specs.Marks.{Span, move_overlay, evaporated, evaporate, insertion, deletion};
+ghost use Rattle.text_model.specs.OverlayQuestions.{covers, overlaps, stands_in, rank, start_of, end_of, outranks, least, greatest};
 ghost use Rattle.ek_types.specs.Property.{prop_of};
 ghost use Rattle.overlay_set.specs.Numbered.{span_at, span_of, given_of, next_or, previous_or};
 ghost use Rattle.overlay_set.specs.Slots.{overlay_of, with_span, moved_by, test_of, CanMoveIn};

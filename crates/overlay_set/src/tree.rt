@@ -34,7 +34,7 @@ pub(crate) struct Node {
 }
 
 impl Model for Tree {
-    ghost use Rattle.std.specs.Prelude.{ℕ, List, length};
+    ghost use Rattle.std.specs.Prelude.{List, length};
     ghost use Rattle.overlay_set.specs.declared.bounds.Entry.{Entry};
 
     ghost Value = { List Entry };

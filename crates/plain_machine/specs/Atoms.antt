@@ -2,7 +2,7 @@
 use Rattle.std.specs.Prelude.{◌≡◌, ◌⊎◌, ℕ, ◌+◌, ◌≤◌, ℤ, pos, List, [], ◌∷◌, ◌++◌, map, length, codes, not, ◌==◌, IsTrue, slice_get, Option, Some}
 use Rattle.std.specs.List.{list_any}
 use Rattle.text_model.specs.Characters.{Ch}
-use Rattle.text_model.specs.Properties.{Cell, PropSet, PropVal, put}
+use Rattle.text_model.specs.Properties.{Cell, PropSet, PropVal, put, bare}
 use Rattle.editor_model.specs.Values.{Value, Values, Nil, T, Int, Sym, Str, Items, End, More, as_prop, Arg, Const, Name}
 use Rattle.plain_machine.specs.Words.{Word, Plain, Named, opening, closing, quote, hash, is_name, IsInt, IsString}
 
@@ -22,10 +22,6 @@ IsNumber i words = (word : List ℕ) × (words ≡ Plain word ∷ []) × IsInt w
 
 abbrev pub IsText : List Ch → List Word → Type 0
 IsText text words = (word : List ℕ) × (words ≡ Plain word ∷ []) × IsString word text
-
--- characters without properties
-abbrev pub bare : List Ch → List Cell
-bare text = map (λ c. (c, [])) text
 
 -- LISTS
 abbrev pub AreSymbols : (symbols : List (List ℕ)) → Values → List Word → Type 0

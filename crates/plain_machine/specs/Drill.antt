@@ -2,12 +2,12 @@
 use Rattle.std.specs.Prelude.{ℕ, zero, suc, ◌+◌, ◌%◌, Bool, true, false, ◌&&◌, ◌==◌, nat_le, List, [], ◌∷◌, ◌++◌, map, filter, take, drop, length, replicate, codes, decimal, Option, Some, None}
 use Rattle.std.specs.List.{list_all}
 use Rattle.text_model.specs.Characters.{Scalar}
+use Rattle.text_model.specs.Names.{first_symbols, same_word}
 use Rattle.editor_model.specs.Values.{Sym, Str, Prim, Arg, Const, Name, Call, Form, Do, Setq, Forms, NoForms, Then, HandlerDef, Script, ProcessBuffer, SetBuffer, ProcessMark, GotoChar, Insert, PointAt, PutTextProperty, SetMarker, UndoBoundary, StartProcess, SetProcessFilter, SetProcessSentinel, AcceptProcessOutput}
 use Rattle.editor_model.specs.Editor.{characters_in}
 use Rattle.plain_machine.specs.Exchanges.{Exchange}
 use Rattle.plain_machine.specs.State.{State}
 use Rattle.plain_machine.specs.Items.{Said}
-use Rattle.plain_machine.specs.Symbols.{first_symbols, same_word}
 use Rattle.plain_machine.specs.Words.{is_digit, digits_value}
 use Rattle.plain_machine.specs.Run.{lines}
 

@@ -2,8 +2,8 @@
 -- buffer: a body of the script, a native, or the default one. GNU Emacs Lisp Reference Manual, sections "Filter Functions",
 -- "Sentinels", "Change Hooks".
 use Rattle.std.specs.Prelude.{ℕ, ◌+◌, ◌-◌, Bool, true, false, nat_lt, List, [], ◌∷◌, ◌++◌, map, length, drop, codes, Option, Some, None, unwrap_or}
-use Rattle.text_model.specs.Characters.{Ch, Scalar}
-use Rattle.text_model.specs.Properties.{Cell}
+use Rattle.text_model.specs.Characters.{Scalar}
+use Rattle.text_model.specs.Properties.{Cell, bare}
 use Rattle.editor_model.specs.Values.{Value, Nil, Str, Prim, WrongType, Reply, HandlerDef}
 use Rattle.editor_model.specs.Editor.{is_live}
 use Rattle.editor_model.specs.Answers.{Prepared, Changes, Barred}
@@ -22,9 +22,6 @@ abbrev pub bound_params : List ℕ → List Value → Scope
 bound_params [] args = []
 bound_params (p ∷ params) [] = (p, Nil) ∷ bound_params params []
 bound_params (p ∷ params) (v ∷ args) = (p, v) ∷ bound_params params args
-
-abbrev pub text_of : List Ch → List Cell
-text_of text = map (λ c. (c, [])) text
 
 -- DEFAULT HANDLERS
 -- the buffer of a process, where it lives
@@ -54,7 +51,7 @@ put_output s p text rest = output_in s (process_buffer_of s p) (mark_of_process 
 
 -- a line feed, Process, the name, and what the sentinel is told
 abbrev pub sentinel_words : State → (p : ℕ) → List Cell → List Cell
-sentinel_words s p text = text_of (map Scalar (codes "\nProcess ")) ++ (text_of (elim (process s p) [ Some x ↦ x.name | None ↦ [] ]) ++ (text_of (map Scalar (32 ∷ [])) ++ text))
+sentinel_words s p text = bare (map Scalar (codes "\nProcess ")) ++ (bare (elim (process s p) [ Some x ↦ x.name | None ↦ [] ]) ++ (bare (map Scalar (32 ∷ [])) ++ text))
 
 abbrev pub second : List Value → List Cell
 second (v ∷ Str text ∷ rest) = text
@@ -62,7 +59,7 @@ second _ = []
 
 -- the characters alone
 abbrev pub plain_text : List Cell → List Cell
-plain_text text = text_of (map (λ c. c.0) text)
+plain_text text = bare (map (λ c. c.0) text)
 
 abbrev pub default_handler : State → Kind → List Value → List Item → Config
 default_handler s (OfFilter p) args rest = put_output s p (plain_text (second args)) rest

@@ -4,6 +4,7 @@ use Rattle.std.specs.Prelude.{ℕ, zero, suc, ◌+◌, ℤ, pos, negsuc, Bool, t
 use Rattle.std.specs.List.{enumerate_from, list_all}
 use Rattle.text_model.specs.Characters.{Ch, Scalar}
 use Rattle.text_model.specs.Decoding.{characters, all_characters}
+use Rattle.text_model.specs.Properties.{bare}
 use Rattle.editor_model.specs.Values.{Nil, T, Str, TheProcess, ExchangesSpent}
 use Rattle.editor_model.specs.Editor.{is_live, killed}
 use Rattle.plain_machine.specs.Exchanges.{Read, AskEnd, Kill, Answer, Bytes, End, Code, Signal, Running, Killed}
@@ -14,7 +15,6 @@ use Rattle.plain_machine.specs.Refusals.{may_ask, must_be_replaceable}
 use Rattle.plain_machine.specs.Arguments.{runs}
 use Rattle.plain_machine.specs.Calls.{silent, on, unless, with_editor}
 use Rattle.plain_machine.specs.Forms.{says}
-use Rattle.plain_machine.specs.Handling.{text_of}
 
 -- WAITS
 -- a process may be asked while it runs and its filter isn't off; where a wait is for just one process, that one alone
@@ -54,7 +54,7 @@ filter_handler _ = None
 -- The entry that a read causes: of the filter set at this step, with the characters that came out, if any did.
 abbrev pub entry_of : State → (p : ℕ) → Process → List Ch → List Item → List Item
 entry_of s p x [] rest = rest
-entry_of s p x (c ∷ text) rest = Enter (OfFilter p) (filter_handler x.filter) (TheProcess p ∷ Str (text_of (c ∷ text)) ∷ []) ∷ rest
+entry_of s p x (c ∷ text) rest = Enter (OfFilter p) (filter_handler x.filter) (TheProcess p ∷ Str (bare (c ∷ text)) ∷ []) ∷ rest
 
 -- a read of the target counts, or of any process where there is none
 abbrev pub counts : Waiting → ℕ → Bool
@@ -92,7 +92,7 @@ read_answer s w target rest p x _ = None
 -- ENDS
 -- a process ends: its sentinel is entered, the one set at this step
 abbrev pub ends : State → (p : ℕ) → Process → Status → List ℕ → List Item → Next
-ends s p x status text rest = silent (change_process p (λ y. record y { status = status }) s) (Enter (OfSentinel p) x.sentinel (TheProcess p ∷ Str (text_of (map Scalar text)) ∷ []) ∷ rest)
+ends s p x status text rest = silent (change_process p (λ y. record y { status = status }) s) (Enter (OfSentinel p) x.sentinel (TheProcess p ∷ Str (bare (map Scalar text)) ∷ []) ∷ rest)
 
 -- what a sentinel is told of an exit code
 abbrev pub exit_text : ℤ → List ℕ

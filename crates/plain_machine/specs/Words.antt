@@ -4,7 +4,7 @@ use Rattle.std.specs.Prelude.{◌≡◌, ◌⊎◌, ℕ, ◌+◌, ◌*◌, ◌-�
 use Rattle.std.specs.List.{list_all}
 use Rattle.text_model.specs.Characters.{Ch, Scalar, Raw}
 use Rattle.text_model.specs.Decoding.{all_characters}
-use Rattle.plain_machine.specs.Symbols.{same_word}
+use Rattle.text_model.specs.Names.{same_word}
 
 -- BYTES
 abbrev pub is_letter : ℕ → Bool

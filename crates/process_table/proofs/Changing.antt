@@ -1,7 +1,7 @@
 -- What a change of one process makes of a table, and of the machine's list that it stands for.
 use Rattle.std.proofs.Common.{◌≡◌, ℕ, ◌<◌, ◌≤◌, true, false, List, [], ◌∷◌, ◌++◌, length, map, get_or, refl, ap, sym, ◌∙◌, arith}
 use Rattle.std.specs.Prelude.{slice_get, slice_set, Option, Some, None, option_map}
-use Rattle.std.proofs.lemmas.List.{length-append, length-set, map-append, map-set}
+use Rattle.std.proofs.lemmas.List.{length-append, length-set, map-set}
 use Rattle.editor_model.specs.Editor.{Name}
 use Rattle.plain_machine.specs.Arguments.{find_process}
 use Rattle.std.proofs.lemmas.Option.{slice_get-map, slice_get-get_or}
@@ -43,28 +43,10 @@ changed_stands p f g table s alike stands = go (process s p) refl
         ∙ sym (map-set kept s.processes p (g x))
         ∙ ap (map kept) (sym (changed_process s p g x e))
 
--- a process of the table is the machine's of that number, as it is kept
-pub got_stands : (table : List Process) (s : State) (p : ℕ) (y : Process) → StandsFor table s.processes → slice_get table p ≡ Some y → (x : Process) × (process s p ≡ Some x) × (y ≡ kept x)
-got_stands table s p y stands there = go (process s p) refl
-  where
-    go : (o : Option Process) → process s p ≡ o → (x : Process) × (process s p ≡ Some x) × (y ≡ kept x)
-    go None e =
-        let none : slice_get table p ≡ None = ap (λ l. slice_get l p) stands ∙ slice_get-map kept s.processes p ∙ ap (option_map kept) e in
-        let clash : None ≡ Some y = sym none ∙ there in
-        cc
-    go (Some x) e =
-        let some : slice_get table p ≡ Some (kept x) = ap (λ l. slice_get l p) stands ∙ slice_get-map kept s.processes p ∙ ap (option_map kept) e in
-        let both : Some y ≡ Some (kept x) = sym there ∙ some in
-        let same : y ≡ kept x = cc in
-        (x, e, same)
-
 -- a change that the machine makes in the same words
 pub written_stands : (items table : List Process) (p : ℕ) (x new : Process) (f g : Process → Process) → items ≡ table → p < length table → x ≡ get_or items p x → new ≡ f x → ((y : Process) → f (kept y) ≡ kept (g y)) → (s : State) → StandsFor table s.processes → StandsFor (slice_set items p new) (change_process p g s).processes
 written_stands items table p x new f g seen within read is alike s stands =
     written items table p x new f seen within read is ∙ changed_stands p f g table s (λ y e. alike y) stands
-
-pub added_stands : (table all : List Process) (x : Process) → kept x ≡ x → StandsFor table all → StandsFor (table ++ x ∷ []) (all ++ x ∷ [])
-added_stands table all x same stands = ap (λ l. l ++ x ∷ []) stands ∙ ap (λ y. map kept all ++ y ∷ []) (sym same) ∙ sym (map-append kept all (x ∷ []))
 
 -- NAMES THAT DIFFER
 -- neither its name nor whether it is listed was changed

@@ -3,27 +3,20 @@ use Rattle.std.proofs.Common.{◌≡◌, ◌≢◌, ℕ, zero, suc, ◌+◌, ◌
 use Rattle.std.specs.Prelude.{◌==◌, ◌&&◌, slice_get, slice_set, Option, Some, None, option_map}
 use Rattle.std.proofs.lemmas.Bool.{eqb-true, and_parts}
 use Rattle.std.proofs.lemmas.Option.{slice_get-map, slice_get_within}
-use Rattle.text_model.specs.Characters.{Ch, Scalar, Raw}
+use Rattle.text_model.specs.Characters.{Ch}
 use Rattle.text_model.specs.Properties.{same_ch}
+use Rattle.text_model.proofs.Sameness.{same_ch-same, same_ch-sound}
+use Rattle.text_model.proofs.Lists.{set_same, set_other, get_front, drop_at}
 use Rattle.editor_model.specs.Editor.{Name, same_name}
 use Rattle.plain_machine.specs.State.{Process}
 use Rattle.plain_machine.specs.Arguments.{find_process}
 use Rattle.process_table.specs.Table.{NamesDiffer}
 
 -- NAMES
-pub same_ch-refl : (c : Ch) → same_ch c c ≡ true
-same_ch-refl (Scalar n) = grind arith
-same_ch-refl (Raw b) = grind arith
 
 pub same_name-refl : (n : Name) → same_name n n ≡ true
 same_name-refl [] = refl
-same_name-refl (c ∷ n) = rw (same_ch-refl c, same_name-refl n) refl
-
-pub same_ch-sound : (a b : Ch) → same_ch a b ≡ true → a ≡ b
-same_ch-sound (Scalar a) (Scalar b) e = ap Scalar (eqb-true a b e)
-same_ch-sound (Raw a) (Raw b) e = ap Raw (eqb-true a b e)
-same_ch-sound (Scalar a) (Raw b) e = cc
-same_ch-sound (Raw a) (Scalar b) e = cc
+same_name-refl (c ∷ n) = rw (same_ch-same c, same_name-refl n) refl
 
 pub same_name-sound : (a b : Name) → same_name a b ≡ true → a ≡ b
 same_name-sound [] [] e = refl
@@ -34,16 +27,6 @@ same_name-sound (x ∷ xs) (y ∷ ys) e =
     let p : x ≡ y = same_ch-sound x y t.0 in
     let q : xs ≡ ys = same_name-sound xs ys t.1 in
     cc
-
-pub differ_in_length : (a b : Name) → length a ≢ length b → same_name a b ≡ false
-differ_in_length [] [] h = absurd (h refl)
-differ_in_length [] (y ∷ ys) h = refl
-differ_in_length (x ∷ xs) [] h = refl
-differ_in_length (x ∷ xs) (y ∷ ys) h = go (same_ch x y) (differ_in_length xs ys (λ q. h (omega arith)))
-  where
-    go : (v : Bool) → same_name xs ys ≡ false → (v && same_name xs ys) ≡ false
-    go true rest = rest
-    go false rest = refl
 
 -- WHAT FINDING LOOKS AT
 abbrev pub chosen : (b : Bool) (k : ℕ) → Option ℕ → Option ℕ
@@ -104,22 +87,6 @@ find_within k r (x ∷ xs) n e = go (x.listed && same_name x.name n) (find_withi
     go false rest h = omega (arith, rest h)
 
 -- NAMES THAT DIFFER
-pub set_other : {A : Type 0} (xs : List A) (k j : ℕ) (x : A) → j ≢ k → slice_get (slice_set xs k x) j ≡ slice_get xs j
-set_other [] k j x h = refl
-set_other (z ∷ xs) zero zero x h = absurd (h refl)
-set_other (z ∷ xs) zero (suc j) x h = refl
-set_other (z ∷ xs) (suc k) zero x h = refl
-set_other (z ∷ xs) (suc k) (suc j) x h = set_other xs k j x (λ e. h (ap suc e))
-
-pub set_same : {A : Type 0} (xs : List A) (k : ℕ) (x y : A) → slice_get xs k ≡ Some y → slice_get (slice_set xs k x) k ≡ Some x
-set_same [] k x y h = cc
-set_same (z ∷ xs) zero x y h = refl
-set_same (z ∷ xs) (suc k) x y h = set_same xs k x y h
-
-pub get_front : {A : Type 0} (xs ys : List A) (k : ℕ) → k < length xs → slice_get (xs ++ ys) k ≡ slice_get xs k
-get_front [] ys k h = absurd (omega arith)
-get_front (x ∷ xs) ys zero h = refl
-get_front (x ∷ xs) ys (suc k) h = get_front xs ys k (omega arith)
 
 pub get_last : {A : Type 0} (xs : List A) (k : ℕ) (x y : A) → length xs ≤ k → slice_get (xs ++ x ∷ []) k ≡ Some y → (k ≡ length xs) × (x ≡ y)
 get_last [] zero x y h e = (refl, cc)
@@ -180,19 +147,9 @@ differ_added xs new on free differ q y at listed = go (slice_get xs q) refl
             ap (find_process 0 (xs ++ new ∷ [])) (sym name) ∙ find_behind 0 xs (new ∷ []) new.name free ∙ ap (λ b. chosen b (0 + length xs) None) test ∙ ap Some (omega (arith, last.0))
 
 -- STEP BY STEP
-drop_at : {A : Type 0} (xs : List A) (i : ℕ) (x : A) → slice_get xs i ≡ Some x → drop i xs ≡ x ∷ drop (i + 1) xs
-drop_at [] i x e = cc
-drop_at (y ∷ xs) zero x e = let same : y ≡ x = cc in ap (λ z. z ∷ xs) same
-drop_at (y ∷ xs) (suc i) x e = drop_at xs i x e ∙ ap (λ j. x ∷ drop j (y ∷ xs)) step
-  where
-    step : suc (i + 1) ≡ suc i + 1
-    step = omega arith
 
 pub same_step : (a b : Name) (i : ℕ) (x y : Ch) → slice_get a i ≡ Some x → slice_get b i ≡ Some y → same_name (drop i a) (drop i b) ≡ (same_ch x y && same_name (drop (i + 1) a) (drop (i + 1) b))
 same_step a b i x y ea eb = ap (λ l. same_name l (drop i b)) (drop_at a i x ea) ∙ ap (same_name (x ∷ drop (i + 1) a)) (drop_at b i y eb)
-
-pub find_step : (xs : List Process) (p : ℕ) (x : Process) (n : Name) → slice_get xs p ≡ Some x → find_process p (drop p xs) n ≡ chosen (x.listed && same_name x.name n) p (find_process (p + 1) (drop (p + 1) xs) n)
-find_step xs p x n e = ap (λ l. find_process p l n) (drop_at xs p x e)
 
 pub differ_here : (a b : Name) (i : ℕ) (x y : Ch) (r : Bool) → same_name a b ≡ same_name (drop i a) (drop i b) → slice_get a i ≡ Some x → slice_get b i ≡ Some y → r ≡ same_ch x y → r ≡ false → false ≡ same_name a b
 differ_here a b i x y r so_far ea eb is e = sym (so_far ∙ same_step a b i x y ea eb ∙ ap (λ t. t && same_name (drop (i + 1) a) (drop (i + 1) b)) (sym is ∙ e))

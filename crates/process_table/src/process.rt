@@ -1,5 +1,5 @@
 //! One process.
-ghost use Rattle.std.specs.Prelude.{◌≡◌, ◌+◌, ◌≤◌, [], ◌++◌, ◌&&◌, true, length, option_map};
+ghost use Rattle.std.specs.Prelude.{◌≡◌, ◌+◌, ◌≤◌, ◌++◌, ◌&&◌, true, length, option_map};
 ghost use Rattle.text_model.specs.Decoding.{characters, tail, all_characters};
 ghost use Rattle.editor_model.specs.Editor.{same_name};
 ghost use Rattle.plain_machine.specs.Calls.{with_filter, with_sentinel, of_buffer, with_input_closed};
@@ -84,6 +84,7 @@ impl Process {
         }
     }
 
+    /// Its name. No two listed processes have the same.
     pub fn name(&self) -> &Chars
         ensures { result.now.items ≡ self.now.name }
     {
@@ -97,26 +98,28 @@ impl Process {
         self.child
     }
 
+    /// How it stands.
     pub fn status(&self) -> Status
         ensures { status_of result ≡ self.now.status }
     {
         self.status
     }
 
-    /// The number of its buffer, which may have been killed.
+    /// The number of its buffer, if it has one; that may have been killed.
     pub fn buffer(&self) -> Option<u32>
         ensures { result ≡ self.now.buffer }
     {
         self.buffer
     }
 
-    /// The marker where its output is put.
+    /// The number of the marker where its output is put.
     pub fn mark(&self) -> u32
         ensures { result ≡ self.now.mark }
     {
         self.mark
     }
 
+    /// Who hears its output.
     pub fn filter(&self) -> Filter
         ensures { filter_of result ≡ self.now.filter }
     {

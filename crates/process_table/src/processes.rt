@@ -20,7 +20,7 @@ use std::alloc::Global;
 use std::marker::Model;
 
 /// Processes by number, from 0 in the order in which they were made, seen as the list of them. A run makes at most 256.
-/// Names of listed processes differ.
+/// Names of listed processes differ. A process that a call is given, by its number, was made.
 #[derive(Drop)]
 pub struct Processes {
     list: Vec<Process>,
@@ -58,7 +58,8 @@ impl Processes {
         self.list.len() as u32
     }
 
-    /// Makes a process that just started, and gives its number. A refusal leaves all processes as they were.
+    /// Makes a process that just started, and gives its number. Fewer than 256 were made before, and no listed process has
+    /// the name. A refusal leaves all processes as they were.
     pub fn add(&mut self, name: &Chars, child: u32, buffer: Option<u32>, mark: u32) -> Mem<u32>
         requires room { length self.old < 256 }
         requires free { find_process 0 self.old name.now.items ≡ None }
@@ -197,7 +198,7 @@ impl Processes {
     }
 
     /// Bytes of process `p` were read: appends the characters of the bytes held and these, and then holds what may still
-    /// become a character. The room is that of the bytes held and given; no memory is taken.
+    /// become a character. `out` has spare for as many characters as there are bytes held and given; no memory is taken.
     pub fn feed(&mut self, p: u32, bytes: &[u8], out: &mut Chars)
         requires made { p < length self.old }
         requires room { length (held_by self.old p) + length bytes.now ≤ out.old.spare }
@@ -211,8 +212,8 @@ impl Processes {
         self.list[p as usize].feed(bytes, out);
     }
 
-    /// The output of process `p` has ended: appends the bytes held as raw bytes, and then holds nothing. The room is that
-    /// of the bytes held; no memory is taken.
+    /// The output of process `p` has ended: appends the bytes held as raw bytes, and then holds nothing. `out` has spare
+    /// for as many characters as there are bytes held; no memory is taken.
     pub fn drain(&mut self, p: u32, out: &mut Chars)
         requires made { p < length self.old }
         requires room { length (held_by self.old p) ≤ out.old.spare }

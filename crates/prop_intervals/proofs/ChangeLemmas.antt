@@ -4,8 +4,8 @@ use Rattle.std.specs.Prelude.{◌&&◌, ◌||◌, not, replicate}
 use Rattle.std.proofs.lemmas.List.{length-replicate, length-map, map-append, take-append-drop, drop-append-le, take-take, take-append-le, take-replicate}
 use Rattle.std.proofs.Math.Seq.{take-append-add}
 use Rattle.text_model.specs.Properties.{PropSet, same_list, same_set}
+use Rattle.text_model.proofs.Sameness.{same_list-sound, same_list-same, same_set-sound, same_set-same}
 use Rattle.prop_intervals.specs.Runs.{Run, size, sets_of, IsRunAt}
-use Rattle.prop_intervals.proofs.SameLemmas.{same_set-same, same_set-sound, same_list-same, same_list-sound}
 use Rattle.prop_intervals.proofs.SetLemmas.{length-sets_of, drop_found}
 
 pub same_list-append : {A : Type 0} (same : A → A → Bool) (xs ys vs ws : List A) → length xs ≡ length ys → same_list same (xs ++ vs) (ys ++ ws) ≡ (same_list same xs ys && same_list same vs ws)

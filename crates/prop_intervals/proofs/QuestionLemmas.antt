@@ -5,10 +5,10 @@ use Rattle.std.proofs.lemmas.Bool.{lt-ltb, le-ltb}
 use Rattle.std.proofs.lemmas.List.{drop-drop, drop_at, drop_all, length-replicate, take-append-le, take-replicate, replicate_more}
 use Rattle.text_model.specs.Properties.{PropSet, get, same_set, same_option, same_value}
 use Rattle.text_model.specs.PropertyQuestions.{first, last, unless_same, changes_after, changes, between, next_change, previous_change}
-use Rattle.text_model.proofs.Sets.{if_true, if_false}
+use Rattle.text_model.proofs.Sameness.{same_set-sound, same_set-same, same_option-sound, same_option-same}
+use Rattle.text_model.proofs.Cases.{if_true, if_false}
 use Rattle.prop_intervals.specs.Runs.{Run, size, sets_of, IsRunAt}
 use Rattle.prop_intervals.specs.Sets.{changes_of, same_by}
-use Rattle.prop_intervals.proofs.SameLemmas.{same_set-sound, same_set-same, same_option-sound, same_option-same}
 use Rattle.prop_intervals.proofs.SetLemmas.{length-sets_of, drop_found, rest_found}
 use Rattle.prop_intervals.proofs.ChangeLemmas.{take_add}
 

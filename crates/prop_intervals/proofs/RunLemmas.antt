@@ -3,7 +3,7 @@ use Rattle.std.proofs.Common.{◌≡◌, ℕ, ◌+◌, ◌-◌, ◌≤◌, ◌<�
 use Rattle.std.specs.Prelude.{nat_lt, ◌==◌, if◌then◌else◌, MatchBool}
 use Rattle.std.proofs.lemmas.Bool.{ne_eqb, lt-ltb, le-ltb, ltb-true, ltb-false}
 use Rattle.text_model.specs.Properties.{PropSet, same_set}
-use Rattle.text_model.proofs.Sets.{if_true, if_false, by_test}
+use Rattle.text_model.proofs.Cases.{by_test, if_true, if_false}
 use Rattle.prop_intervals.specs.Runs.{Run, size, grown, before, behind, in_front, glued, IsRunAt, SetAt}
 
 pub size-append : (xs ys : List Run) → size (xs ++ ys) ≡ size xs + size ys

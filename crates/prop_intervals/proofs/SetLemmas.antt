@@ -2,23 +2,20 @@
 use Rattle.std.proofs.Common.{◌≡◌, ◌≢◌, ℕ, zero, suc, ◌+◌, ◌-◌, ◌≤◌, ◌<◌, Bool, true, false, List, [], ◌∷◌, ◌++◌, length, take, drop, refl, ap, sym, ◌∙◌, append-nil, append_assoc, length-append, subst, arith}
 use Rattle.std.specs.Prelude.{nat_lt, ◌==◌, if◌then◌else◌, replicate, MatchBool, slice_get, Option, Some, not, unwrap_or}
 use Rattle.std.proofs.lemmas.Bool.{eqb-true, lt-ltb, le-ltb, ltb-true, ltb-false, false≢true}
-use Rattle.std.proofs.lemmas.List.{length-replicate, take-take, drop-drop, drop_all, replicate_more, drop-append-le, take-append-le, take-replicate, drop-replicate, replicate-append-replicate}
+use Rattle.std.proofs.lemmas.List.{length-replicate, take-take, drop-drop, replicate_more, drop-append-le, take-append-le, take-replicate, drop-replicate, replicate-append-replicate}
 use Rattle.std.proofs.Math.Seq.{take-append-add, drop-append-add}
 use Rattle.text_model.specs.Properties.{PropSet, same_set}
-use Rattle.text_model.proofs.Sets.{by_test}
 use Rattle.prop_intervals.specs.Runs.{Run, size, sets_of, grown, before, behind, in_front, glued, IsRunAt, SetAt, AreApart, BeginsOther}
 use Rattle.text_model.specs.PropertyQuestions.{first_where}
+use Rattle.text_model.proofs.Lists.{drop_at, take_one_more}
+use Rattle.text_model.proofs.Sameness.{same_set-sound, same_set-same}
+use Rattle.text_model.proofs.Cases.{by_test}
 use Rattle.prop_intervals.specs.Sets.{other_from, run_end}
 use Rattle.prop_intervals.proofs.RunLemmas.{size-append, size-before, size-behind}
-use Rattle.prop_intervals.proofs.SameLemmas.{same_set-sound, same_set-same}
 
 pub length-sets_of : (runs : List Run) → length (sets_of runs) ≡ size runs
 length-sets_of [] = refl
 length-sets_of (r ∷ runs) = let rest = length-sets_of runs in omega (arith, length-append (replicate r.1 r.0) (sets_of runs), length-replicate r.1 r.0)
-
-pub sets_of-append : (xs ys : List Run) → sets_of (xs ++ ys) ≡ sets_of xs ++ sets_of ys
-sets_of-append [] ys = refl
-sets_of-append (x ∷ xs) ys = ap (λ s. replicate x.1 x.0 ++ s) (sets_of-append xs ys) ∙ sym (append_assoc (replicate x.1 x.0) (sets_of xs) (sets_of ys))
 
 -- a list behind a run, taken and dropped
 take_within : {A : Type 0} (n m : ℕ) (x : A) (ys : List A) → n ≤ m → take n (replicate m x ++ ys) ≡ replicate n x
@@ -196,10 +193,6 @@ pub get_found : (runs : List Run) (place : ℕ) (set : PropSet) (start end : ℕ
 get_found runs place set start end h = head_dropped (sets_of runs) place set _ (rest_found runs place set start end h)
 
 -- THE END OF A RUN
-pub next_dropped : {A : Type 0} (xs : List A) (i : ℕ) (x : A) → slice_get xs i ≡ Some x → drop i xs ≡ x ∷ drop (i + 1) xs
-next_dropped [] i x h = cc
-next_dropped (y ∷ xs) zero x h = cc
-next_dropped (y ∷ xs) (suc i) x h = let e : suc i + 1 ≡ suc (i + 1) = omega arith in rw e (next_dropped xs i x h)
 
 first_here : {A : Type 0} (test : A → Bool) (place : ℕ) (x : A) (xs : List A) → test x ≡ true → first_where test place (x ∷ xs) ≡ Some place
 first_here test place x xs h = let f : Bool → Option ℕ = λ b. elim b [ true ↦ Some place | false ↦ first_where test (place + 1) xs ] in ap f h
@@ -215,19 +208,6 @@ other_past set s place more end k = ap (λ o. unwrap_or o end) (first_later (λ 
 
 run_end_is : (set : PropSet) (place : ℕ) (more sets : List PropSet) → drop place sets ≡ set ∷ more → run_end place sets ≡ other_from set (place + 1) more (length sets)
 run_end_is set place more sets h = let f : List PropSet → ℕ = λ l. elim l [ [] ↦ place | s ∷ rest ↦ other_from s (place + 1) rest (length sets) ] in ap f h
-
-pub other-here : (set s : PropSet) (place : ℕ) (sets : List PropSet) (end : ℕ) → slice_get sets place ≡ Some s → same_set set s ≡ false → place ≡ other_from set place (drop place sets) end
-other-here set s place sets end at k = sym (ap (λ l. other_from set place l end) (next_dropped sets place s at) ∙ other_at set s place (drop (place + 1) sets) end k)
-
-pub other-next : (set s : PropSet) (place : ℕ) (sets : List PropSet) (end : ℕ) → slice_get sets place ≡ Some s → same_set set s ≡ true →
-    other_from set (place + 1) (drop (place + 1) sets) end ≡ other_from set place (drop place sets) end
-other-next set s place sets end at k = sym (ap (λ l. other_from set place l end) (next_dropped sets place s at) ∙ other_past set s place (drop (place + 1) sets) end k)
-
-pub other-end : (set : PropSet) (place : ℕ) (sets : List PropSet) (end : ℕ) → length sets ≤ place → end ≡ other_from set place (drop place sets) end
-other-end set place sets end h = sym (ap (λ l. other_from set place l end) (drop_all place sets h))
-
-pub other-start : (set : PropSet) (place : ℕ) (sets : List PropSet) → slice_get sets place ≡ Some set → other_from set (place + 1) (drop (place + 1) sets) (length sets) ≡ run_end place sets
-other-start set place sets at = sym (run_end_is set place (drop (place + 1) sets) sets (next_dropped sets place set at))
 
 other_skip : (set : PropSet) (n place : ℕ) (sets : List PropSet) (end : ℕ) → other_from set place (replicate n set ++ sets) end ≡ other_from set (place + n) sets end
 other_skip set zero place sets end = let e : place + 0 ≡ place = omega arith in ap (λ p. other_from set p sets end) (sym e)
@@ -275,35 +255,25 @@ behind_run runs place set start end apart h e =
     let rest : drop end sets ≡ sets_of h.back =
     ap (λ n. drop n sets) (sym sum) ∙ sym (drop-drop (end - place) place sets) ∙ ap (drop (end - place)) (drop_found runs place set start end h)
     ∙ drop_within (end - place) (end - place) set (sets_of h.back) (omega arith) ∙ ap (λ n. replicate n set ++ sets_of h.back) none in
-    begins_other set h.back (drop (end + 1) sets) parts.2 parts.1 (sym rest ∙ next_dropped sets end set (e ∙ get_found runs place set start end h))
+    begins_other set h.back (drop (end + 1) sets) parts.2 parts.1 (sym rest ∙ drop_at sets end set (e ∙ get_found runs place set start end h))
 
 -- ALL OF ONE SET
-next_taken : {A : Type 0} (xs : List A) (i : ℕ) (x : A) → slice_get xs i ≡ Some x → take (i + 1) xs ≡ take i xs ++ x ∷ []
-next_taken [] i x h = cc
-next_taken (y ∷ xs) zero x h = cc
-next_taken (y ∷ xs) (suc i) x h = let e : suc i + 1 ≡ suc (i + 1) = omega arith in rw e (ap (λ l. y ∷ l) (next_taken xs i x h))
 
 pub run_start : (set : PropSet) (sets : List PropSet) (i : ℕ) → slice_get sets i ≡ Some set → take (i + 1) sets ≡ take i sets ++ replicate (i + 1 - i) set
-run_start set sets i at = let e : i + 1 - i ≡ 1 = omega arith in next_taken sets i set at ∙ ap (λ n. take i sets ++ replicate n set) (sym e)
+run_start set sets i at = let e : i + 1 - i ≡ 1 = omega arith in take_one_more sets i set at ∙ ap (λ n. take i sets ++ replicate n set) (sym e)
 
 pub run_more : (set s : PropSet) (sets : List PropSet) (i j : ℕ) → i ≤ j → slice_get sets j ≡ Some s → same_set set s ≡ true → take j sets ≡ take i sets ++ replicate (j - i) set → take (j + 1) sets ≡ take i sets ++ replicate (j + 1 - i) set
 run_more set s sets i j l at k h =
     let e : set ≡ s = same_set-sound set s k in
     let w : j - i + 1 ≡ j + 1 - i = omega arith in
-    next_taken sets j s at ∙ ap (λ t. t ++ s ∷ []) h ∙ append_assoc (take i sets) (replicate (j - i) set) (s ∷ []) ∙ ap (λ x. take i sets ++ (replicate (j - i) set ++ x ∷ [])) (sym e)
+    take_one_more sets j s at ∙ ap (λ t. t ++ s ∷ []) h ∙ append_assoc (take i sets) (replicate (j - i) set) (s ∷ []) ∙ ap (λ x. take i sets ++ (replicate (j - i) set ++ x ∷ [])) (sym e)
     ∙ ap (λ t. take i sets ++ t) (replicate_more (j - i) set ∙ ap (λ n. replicate n set) w)
-
-pub same_some : (a b : PropSet) (o : Option PropSet) → o ≡ Some a → o ≡ Some b → a ≡ b
-same_some a b o h k = cc
 
 pub all_more : (set s : PropSet) (sets : List PropSet) (i : ℕ) → slice_get sets i ≡ Some s → same_set set s ≡ true → sets ≡ replicate i set ++ drop i sets → sets ≡ replicate (i + 1) set ++ drop (i + 1) sets
 all_more set s sets i at k h =
     let e : set ≡ s = same_set-sound set s k in
-    h ∙ ap (λ r. replicate i set ++ r) (next_dropped sets i s at ∙ ap (λ x. x ∷ drop (i + 1) sets) (sym e))
+    h ∙ ap (λ r. replicate i set ++ r) (drop_at sets i s at ∙ ap (λ x. x ∷ drop (i + 1) sets) (sym e))
     ∙ sym (append_assoc (replicate i set) (set ∷ []) (drop (i + 1) sets)) ∙ ap (λ r. r ++ drop (i + 1) sets) (replicate_more i set)
-
-pub all_end : (set : PropSet) (sets : List PropSet) (i : ℕ) → length sets ≤ i → sets ≡ replicate i set ++ drop i sets → sets ≡ replicate i set
-all_end set sets i l h = h ∙ ap (λ r. replicate i set ++ r) (drop_all i sets l) ∙ append-nil (replicate i set)
 
 -- A LONGER RUN
 begins-grown : (set : PropSet) (at n : ℕ) (runs : List Run) → BeginsOther set runs → BeginsOther set (grown at n runs)

@@ -22,10 +22,9 @@ fn balanced(left: Tree, node: Box<Node>, right: Tree) -> Tree
     requires { size left + node.value.len + size right < 2 ^ 64 }
     ensures { result ≡ left ++ run_of node.value ∷ right }
 {
-    let (hl, hr) = (left.height(), right.height());
-    if hl > hr.saturating_add(1) {
+    if left.height() > right.height().saturating_add(1) {
         lean_left(left, node, right)
-    } else if hr > hl.saturating_add(1) {
+    } else if right.height() > left.height().saturating_add(1) {
         lean_right(left, node, right)
     } else {
         fork(left, node, right)

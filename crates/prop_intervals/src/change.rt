@@ -1,5 +1,5 @@
 //! Changes of the sets of a part.
-ghost use Rattle.std.specs.Prelude.{◌≡◌, ◌+◌, ◌<◌, ◌≤◌, IfOk, map, not, take, drop};
+ghost use Rattle.std.specs.Prelude.{◌≡◌, ◌<◌, ◌≤◌, IfOk, map, not, take, drop};
 ghost use Rattle.text_model.specs.Properties.{edited, same_list, same_set};
 ghost use Rattle.prop_intervals.specs.Edits.{edit_of};
 ghost use Rattle.prop_intervals.specs.Runs.{size, sets_of, AreApart};

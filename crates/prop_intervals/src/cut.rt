@@ -18,6 +18,7 @@ pub(crate) fn cut(tree: Tree, at: usize, spare: Box<Node>) -> (Tree, Tree)
     match tree.root {
         Link::Empty => (Tree::new(), Tree::new()),
         Link::Full(mut node) => {
+            // Read so that it is known to fit its type.
             let _total = node.total;
             let (left, right) = take_sides(&mut node);
             let front = left.len();
@@ -52,6 +53,7 @@ pub(crate) fn take_first(tree: Tree) -> (Option<Box<Node>>, Tree)
     match tree.root {
         Link::Empty => (None, Tree::new()),
         Link::Full(mut node) => {
+            // Read so that it is known to fit its type.
             let _total = node.total;
             let (left, right) = take_sides(&mut node);
             let (first, rest) = take_first(left);
@@ -71,6 +73,7 @@ pub(crate) fn take_last(tree: Tree) -> (Option<Box<Node>>, Tree)
     match tree.root {
         Link::Empty => (None, Tree::new()),
         Link::Full(mut node) => {
+            // Read so that it is known to fit its type.
             let _total = node.total;
             let (left, right) = take_sides(&mut node);
             let (last, rest) = take_last(right);

@@ -27,8 +27,7 @@ fn with_one(set: PropSet, more: &PropSet, i: usize) -> Mem<PropSet>
     ensures { IfOk result (λ s. put_all s (drop (i + 1) more.now) ≡ put_all set (drop i more.now)) }
 {
     let (name, value) = more.at(i);
-    let set = set.with(name, value)?;
-    Ok(set)
+    set.with(name, value)
 }
 
 /// A set with the properties of another given anew.
@@ -59,19 +58,9 @@ impl PropEdit {
         ensures { IfOk result (λ s. s ≡ edited (edit_of self.now) set.now) }
     {
         match self {
-            PropEdit::Add(more, gone) => {
-                let left = without_all(set, gone)?;
-                let new = with_all(left, more)?;
-                Ok(new)
-            }
-            PropEdit::Remove(gone) => {
-                let left = without_all(set, gone)?;
-                Ok(left)
-            }
-            PropEdit::Replace(new) => {
-                let new = new.copy()?;
-                Ok(new)
-            }
+            PropEdit::Add(more, gone) => with_all(without_all(set, gone)?, more),
+            PropEdit::Remove(gone) => without_all(set, gone),
+            PropEdit::Replace(new) => new.copy(),
         }
     }
 }

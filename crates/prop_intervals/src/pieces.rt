@@ -1,5 +1,5 @@
 //! The runs of a piece.
-ghost use Rattle.std.specs.Prelude.{◌≡◌, ◌+◌, ◌-◌, ◌<◌, ◌≤◌, IfOk, length, map, replicate, take, drop, ◌++◌, ◌^◌, true, slice_get, Some};
+ghost use Rattle.std.specs.Prelude.{◌≡◌, ◌+◌, ◌-◌, ◌<◌, ◌≤◌, IfOk, length, replicate, take, ◌++◌, ◌^◌, true, slice_get, Some};
 ghost use Rattle.text_model.specs.Properties.{PropSet as Pairs};
 ghost use Rattle.prop_intervals.specs.Runs.{size, sets_of, AreApart};
 ghost use Rattle.prop_intervals.specs.Sets.{sets_in};
@@ -49,8 +49,7 @@ pub(crate) fn pushed(alloc: Global, tree: Tree, set: PropSet, len: usize) -> Mem
     ensures apart { IfOk result AreApart }
 {
     let node = alone(alloc, set, len)?;
-    let tree = glue(tree, join(Tree::new(), node, Tree::new()));
-    Ok(tree)
+    Ok(glue(tree, join(Tree::new(), node, Tree::new())))
 }
 
 /// The runs of a piece.

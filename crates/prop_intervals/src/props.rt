@@ -1,11 +1,11 @@
 //! The property sets of a text.
-ghost use Rattle.std.specs.Prelude.{ℕ, ◌≡◌, ◌≢◌, ◌↔◌, ◌+◌, ◌-◌, ◌<◌, ◌≤◌, [], ◌++◌, IfOk, OnOk, OnErr, MatchBool, IsTrue, false, length, map, take, drop, slice_get, Some, option_map, not};
+ghost use Rattle.std.specs.Prelude.{ℕ, ◌≡◌, ◌≢◌, ◌↔◌, ◌+◌, ◌-◌, ◌<◌, ◌≤◌, [], ◌++◌, IfOk, OnOk, OnErr, MatchBool, false, length, map, take, drop, slice_get, Some, option_map, not};
 ghost use Rattle.text_model.specs.Properties.{edited, same_list, same_set};
 ghost use Rattle.text_model.specs.Ordered.{IsProper};
 ghost use Rattle.text_model.specs.PropertyQuestions.{next_change, previous_change};
 ghost use Rattle.ek_types.specs.Property.{number_of};
 ghost use Rattle.prop_intervals.specs.Edits.{edit_of};
-ghost use Rattle.prop_intervals.specs.Runs.{sets_of, AreApart, SetAt};
+ghost use Rattle.prop_intervals.specs.Runs.{sets_of, AreApart};
 ghost use Rattle.prop_intervals.specs.Sets.{sets_in, run_end, changes_of};
 
 use crate::change::edited_runs;
@@ -20,8 +20,8 @@ use std::marker::Model;
 
 /// The property sets of a text, one per character, counted from 0.
 ///
-/// They are kept as runs of one set in a balanced tree, so that each call takes a time that grows with the logarithm
-/// of the number of runs.
+/// They are kept as runs of one set in a tree that is rebalanced by height, so that the run of a character is found
+/// along one path.
 #[derive(Drop)]
 pub struct Props {
     pub(crate) tree: Tree,
@@ -59,6 +59,7 @@ impl Props {
         ensures proper { IsProper result.now }
     {
         let set = self.tree.find(i).set;
+        // Read for what it ensures: the names rise, and nil is never a value.
         let _proper = set.len();
         set
     }

@@ -1,5 +1,5 @@
 //! Whether two property sets are the same.
-ghost use Rattle.std.specs.Prelude.{◌≡◌, ◌+◌, ◌<◌, ◌≤◌, ◌==◌, ◌&&◌, length, map, option_map};
+ghost use Rattle.std.specs.Prelude.{◌≡◌, ◌<◌, ◌==◌, ◌&&◌, map, option_map};
 ghost use Rattle.text_model.specs.Properties.{same_set, same_value, same_list, same_ch, same_option};
 ghost use Rattle.ek_types.specs.Property.{prop_of, number_of};
 ghost use Rattle.ek_types.specs.Listing.{items_of};

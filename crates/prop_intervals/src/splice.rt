@@ -1,5 +1,5 @@
 //! Runs of a tree replaced by others.
-ghost use Rattle.std.specs.Prelude.{◌≡◌, ◌+◌, ◌<◌, ◌≤◌, ◌++◌, ◌^◌, IfOk, OnOk, OnErr, replicate, take, drop};
+ghost use Rattle.std.specs.Prelude.{◌≡◌, ◌+◌, ◌<◌, ◌≤◌, ◌++◌, ◌^◌, IfOk, OnOk, OnErr, take, drop};
 ghost use Rattle.prop_intervals.specs.Runs.{size, sets_of, AreApart, SetAt};
 
 use crate::cut::{cut, glue};
@@ -8,17 +8,23 @@ use ek_types::{Mem, NoMemory, PropSet};
 use std::alloc::Global;
 use std::mem;
 
+/// The set that stands at a place, or no property behind the last run.
+fn set_at(alloc: Global, tree: &Tree, at: usize) -> Mem<PropSet>
+    ensures { IfOk result (SetAt tree.now at) }
+{
+    if at < tree.len() {
+        tree.find(at).set.copy()
+    } else {
+        Ok(PropSet::empty(alloc))
+    }
+}
+
 /// A run by itself, with the set that stands at a place.
 fn spare(alloc: Global, tree: &Tree, at: usize) -> Mem<Box<Node>>
     ensures { IfOk result (λ n. SetAt tree.now at n.value.set) }
 {
-    if at < tree.len() {
-        let node = alone(alloc, tree.find(at).set.copy()?, 1)?;
-        Ok(node)
-    } else {
-        let node = alone(alloc, PropSet::empty(alloc), 1)?;
-        Ok(node)
-    }
+    let set = set_at(alloc, tree, at)?;
+    alone(alloc, set, 1)
 }
 
 /// The runs from one place to another replaced, with spare runs for the two places.

@@ -1,5 +1,5 @@
 //! Worked cases of property sets, and the time of many insertions.
-ghost use Rattle.std.specs.Prelude.{◌≡◌, ◌+◌, ◌-◌, ◌<◌, ◌≤◌, ◌^◌, length, IfOk, OnOk};
+ghost use Rattle.std.specs.Prelude.{◌≡◌, ◌+◌, ◌-◌, ◌<◌, ◌≤◌, ◌^◌, length, IfOk};
 
 use crate::{PropEdit, Props};
 use ek_types::{Ch, Chars, Mem, Piece, PropSet, PropVal, Sym, SymList};

@@ -98,6 +98,7 @@ impl Tree {
             Link::Full(node) => {
                 let node: &Node = node;
                 let front = node.left.len();
+                // Read so that it is known to fit its type.
                 let _total = node.total;
                 if place < front {
                     return node.left.find(place);
@@ -190,8 +191,8 @@ pub(crate) fn alone(alloc: Global, set: PropSet, len: usize) -> Mem<Box<Node>>
     Ok(Box::new(alloc, node)?)
 }
 
-#[tactic(auto, using(crate::proofs::RunLemmas::size_steps))]
 /// Puts other runs in front of a run and behind it.
+#[tactic(auto, using(crate::proofs::RunLemmas::size_steps))]
 pub(crate) fn set_sides(node: &mut Node, left: Tree, right: Tree)
     requires { size left + node.old.len + size right < 2 ^ 64 }
     ensures run { run_of node.new ≡ run_of node.old }

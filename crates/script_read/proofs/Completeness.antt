@@ -8,13 +8,13 @@ use Rattle.std.proofs.lemmas.Bool.Decides.{nat_tests}
 use Rattle.std.proofs.lemmas.List.{length-map}
 use Rattle.std.proofs.lemmas.List.Folds.{list_all-append}
 use Rattle.text_model.specs.Characters.{Ch, Scalar}
-use Rattle.text_model.specs.Properties.{Cell}
+use Rattle.text_model.specs.Properties.{Cell, bare}
 use Rattle.editor_model.specs.Values.{Value, Nil, Int, Str, plain, Prim, Insert, GotoChar, DeleteRegion, StartProcess, AcceptProcessOutput, Arg, Const, Call, Do, Setq, In, WhenEq, Form}
 use Rattle.editor_model.specs.Editor.{scratch}
 use Rattle.editor_model.specs.Prims.{word}
 use Rattle.plain_machine.specs.Natives.{takes}
 use Rattle.plain_machine.specs.Words.{Word, Plain, names, opening, closing, IsInt}
-use Rattle.plain_machine.specs.Atoms.{bare, AreArgs}
+use Rattle.plain_machine.specs.Atoms.{AreArgs}
 use Rattle.plain_machine.specs.Grammar.{IsForm, IsCall, Run}
 use Rattle.script_read.specs.GrammarSoFar.{call_on, IsBufferSoFar, IsCallSoFar, inserts, goes, deletes, starts, waits, waits_for, IsTopSoFar, is_word_so_far}
 use Rattle.script_read.specs.Reading.{◌>>=◌, word_at, behind, inside_of, number_of, string_at, number_at, buffer_at, strings_at, text_of, closed, buffer_value, most_strings, start_at, call_at, form_at}

@@ -27,9 +27,6 @@ word_byte c e = record { is_parenthesis = grind (arith, nat_tests); is_quote = g
 parenthesis_blank : (c : ℕ) → (c == 40 || c == 41) ≡ true → is_blank c ≡ false
 parenthesis_blank c e = grind (arith, nat_tests)
 
-text_not_quote : (c : ℕ) → is_text_byte c ≡ true → (c == 34) ≡ false
-text_not_quote c e = grind (arith, nat_tests)
-
 -- A WORD THAT STANDS THERE IS READ
 no_letter_follows : (c : ℕ) (bytes rest : List ℕ) → list_all is_word_byte (c ∷ bytes) ≡ true → EndsThere (Plain (c ∷ bytes)) rest → begins_with is_word_byte rest ≡ false
 no_letter_follows c bytes rest all ends = not_both (ends_with is_word_byte (c ∷ bytes)) (begins_with is_word_byte rest) (last_passes is_word_byte c bytes all) ends.0

@@ -24,9 +24,6 @@ pub record ReadSoFar (read : List Form) (rest bytes : List ℕ) : Type 0 where
   pub ahead : (others : Forms) → Reads others rest → Reads (chain read others) bytes
   pub alone : (forms : Forms) → Reads forms bytes → (others : Forms) × (forms ≡ chain read others) × Reads others rest
 
-pub none_so_far : (bytes : List ℕ) → ReadSoFar [] bytes bytes
-none_so_far bytes = record { ahead = λ others reads. reads; alone = λ forms reads. (forms, refl, reads) }
-
 next_alone : (f : Form) (rest behind : List ℕ) → form_at rest ≡ Some (f, behind) → (others : Forms) → Reads others rest → (more : Forms) × (others ≡ Then f more) × Reads more behind
 next_alone f rest behind e NoForms none = absurd (nothing_read rest behind f none e)
 next_alone f rest behind e (Then g gs) (after, d, reads) =

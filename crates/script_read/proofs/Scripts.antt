@@ -5,18 +5,23 @@ use Rattle.std.specs.List.{prefix_len, list_all}
 use Rattle.std.proofs.lemmas.Bool.{and_parts}
 use Rattle.std.proofs.lemmas.Option.{same_Some}
 use Rattle.std.proofs.lemmas.List.Folds.{list_all-append}
+use Rattle.text_model.specs.Names.{first_symbols}
 use Rattle.editor_model.specs.Values.{Value, plain, Const, Call, Form, Forms, Do, Setq, In, WhenEq, NoForms, Then, HandlerDef, Script}
-use Rattle.plain_machine.specs.Symbols.{first_symbols, with_names}
+use Rattle.plain_machine.specs.Symbols.{with_names}
 use Rattle.plain_machine.specs.Words.{Word, names, is_blank}
 use Rattle.plain_machine.specs.Grammar.{Top, Run, Handler, AreTops, handlers_of, forms_of, names_of_args, names_of_form, registers, AllKeepLimits, longest_script}
 use Rattle.script_read.specs.GrammarSoFar.{is_word_so_far, IsCallSoFar, inserts, goes, deletes, starts, waits, waits_for, AreTopsSoFar, count_starts, IsScriptSoFar, IsNoScript}
-use Rattle.script_read.specs.Reading.{skipped, behind, split_word, word_at, call_at, form_at, Reads, script_with}
+use Rattle.script_read.specs.Reading.{skipped, behind, split_word, word_at, call_at, form_at, Reads}
 use Rattle.script_read.proofs.Fronts.{front_passes}
 use Rattle.script_read.proofs.Lexing.{skipped_blanks}
 use Rattle.script_read.proofs.Spelled.{AreSpelled, spelled_from_words, words_from_spelled}
 use Rattle.script_read.proofs.Soundness.{behind_is, form_read, names-append}
 use Rattle.script_read.proofs.Binding.{bind_some}
 use Rattle.script_read.proofs.Completeness.{form_found}
+
+-- the script of these forms
+abbrev pub script_with : Forms → Script
+script_with forms = record { symbols = first_symbols; handlers = []; forms = forms }
 
 -- BLANKS ALONE
 all_skipped : (bytes : List ℕ) → list_all is_blank bytes ≡ true → skipped bytes ≡ []

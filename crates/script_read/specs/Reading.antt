@@ -3,9 +3,8 @@ use Rattle.std.specs.Prelude.{◌≡◌, ℕ, zero, suc, ◌+◌, ◌-◌, List,
 use Rattle.std.specs.List.{prefix_len}
 use Rattle.std.specs.Str.{bytes_eq}
 use Rattle.text_model.specs.Characters.{Scalar}
-use Rattle.editor_model.specs.Values.{Prim, Insert, GotoChar, DeleteRegion, StartProcess, AcceptProcessOutput, Value, Nil, Int, plain, Form, Forms, Do, NoForms, Then, Script}
+use Rattle.editor_model.specs.Values.{Prim, Insert, GotoChar, DeleteRegion, StartProcess, AcceptProcessOutput, Value, Nil, Int, plain, Form, Forms, Do, NoForms, Then}
 use Rattle.editor_model.specs.Prims.{most_arguments}
-use Rattle.plain_machine.specs.Symbols.{first_symbols}
 use Rattle.plain_machine.specs.Words.{is_blank, is_word_byte, begins_with, are_digits, digits_value}
 use Rattle.script_read.specs.GrammarSoFar.{call_on}
 
@@ -139,7 +138,3 @@ form_at bytes = behind (codes "(") bytes >>= (λ inner. call_at (word_at inner).
 abbrev pub Reads : Forms → List ℕ → Type 0
 Reads NoForms bytes = skipped bytes ≡ []
 Reads (Then f fs) bytes = (rest : List ℕ) × (form_at bytes ≡ Some (f, rest)) × Reads fs rest
-
--- the script of these forms
-abbrev pub script_with : Forms → Script
-script_with forms = record { symbols = first_symbols; handlers = []; forms = forms }

@@ -1,5 +1,5 @@
 //! The calls that concern a text: a name is followed by constants and the closing parenthesis.
-ghost use Rattle.std.specs.Prelude.{◌≡◌, IfOk, option_map, [], ◌∷◌, ◌+◌, ◌≤◌, length, map};
+ghost use Rattle.std.specs.Prelude.{◌≡◌, IfOk, option_map, [], ◌∷◌, map};
 ghost use Rattle.text_model.specs.Characters.{Scalar};
 ghost use Rattle.editor_model.specs.Values.{Do};
 ghost use Rattle.ek_call.specs.Meaning.{view, form_of};

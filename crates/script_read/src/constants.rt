@@ -22,18 +22,16 @@ pub fn string(bytes: &[u8]) -> Option<(&[u8], &[u8])>
     ensures { option_map (λ s. (s.0.now, s.1.now)) result ≡ string_at bytes.now }
 {
     let (first, rest) = word(bytes);
-    match inside(first) {
-        Some(text) => Some((text, rest)),
-        None => None,
-    }
+    Some((inside(first)?, rest))
 }
 
-fn digit(c: u8) -> bool
+fn is_digit(c: u8) -> bool
     ensures { result ≡ is_digit c }
 {
-    b'0' <= c && c <= b'9'
+    c.is_ascii_digit()
 }
 
+/// The number that some digits spell.
 fn value(digits: &[u8]) -> u64
     requires all { list_all is_digit digits.now ≡ true }
     requires few { length digits.now ≤ 18 }
@@ -47,10 +45,10 @@ fn value(digits: &[u8]) -> u64
     n
 }
 
-fn all_digits(bytes: &[u8]) -> bool
+fn are_digits(bytes: &[u8]) -> bool
     ensures { result ≡ list_all is_digit bytes.now }
 {
-    bytes.iter().all(|c| digit(*c))
+    bytes.iter().all(|c| is_digit(*c))
 }
 
 /// The value of 1 to 18 digits.
@@ -58,25 +56,20 @@ fn natural(word: &[u8]) -> Option<u64>
     ensures exact { result ≡ digits_of word.now }
     ensures small { IfSome result (λ n. n < 10 ^ 18) }
 {
-    if all_digits(word) && 1 <= word.len() && word.len() <= 18 {
+    if are_digits(word) && 1 <= word.len() && word.len() <= 18 {
         Some(value(word))
     } else {
         None
     }
 }
 
+/// The number that a word spells, with a dash in front where it is negative.
 fn integer(word: &[u8]) -> Option<i64>
     ensures { result ≡ number_of word.now }
 {
     match word {
-        [b'-', digits @ ..] => match natural(digits) {
-            Some(n) => Some(-(n as i64)),
-            None => None,
-        },
-        _ => match natural(word) {
-            Some(n) => Some(n as i64),
-            None => None,
-        },
+        [b'-', digits @ ..] => Some(-(natural(digits)? as i64)),
+        _ => Some(natural(word)? as i64),
     }
 }
 
@@ -85,13 +78,11 @@ pub fn number(bytes: &[u8]) -> Option<(i64, &[u8])>
     ensures { option_map (λ n. (n.0, n.1.now)) result ≡ number_at bytes.now }
 {
     let (first, rest) = word(bytes);
-    match integer(first) {
-        Some(n) => Some((n, rest)),
-        None => None,
-    }
+    Some((integer(first)?, rest))
 }
 
-fn scratch(name: &[u8]) -> Option<&[u8]>
+/// The name of the one buffer, and no other.
+fn scratch_name(name: &[u8]) -> Option<&[u8]>
     ensures { option_map (λ n. n.now) result ≡ (if bytes_eq name.now (codes "*scratch*") then Some name.now else None) }
 {
     if name == b"*scratch*".as_slice() {
@@ -109,6 +100,6 @@ pub fn buffer(bytes: &[u8]) -> Option<(Option<&[u8]>, &[u8])>
         return Some((None, rest));
     }
     let (name, rest) = string(bytes)?;
-    let name = scratch(name)?;
+    let name = scratch_name(name)?;
     Some((Some(name), rest))
 }

@@ -1,24 +1,24 @@
 //! The words of a script: parentheses, strings, and names or numbers.
-ghost use Rattle.std.specs.Prelude.{◌≡◌, ◌≤◌, ◌+◌, ◌==◌, length, option_map, IfSome};
+ghost use Rattle.std.specs.Prelude.{◌≡◌, ◌≤◌, ◌+◌, ◌==◌, length, option_map};
 ghost use Rattle.std.specs.List.{prefix_len};
 ghost use Rattle.plain_machine.specs.Words.{is_blank, is_word_byte, begins_with};
 ghost use Rattle.script_read.specs.Reading.{is_text_byte, skipped, string_length, word_length, split_word, word_at, behind};
 
-fn blank(c: u8) -> bool
+fn is_blank(c: u8) -> bool
     ensures { result ≡ is_blank c }
 {
     matches!(c, b' ' | b'\t' | b'\n' | b'\r')
 }
 
-/// A letter, a digit or a dash.
-fn word_byte(c: u8) -> bool
+/// Whether a byte is a letter, a digit or a dash.
+fn is_word_byte(c: u8) -> bool
     ensures { result ≡ is_word_byte c }
 {
     c.is_ascii_alphanumeric() || c == b'-'
 }
 
-/// What may stand inside a string.
-fn text_byte(c: u8) -> bool
+/// Whether a byte may stand inside a string.
+fn is_text_byte(c: u8) -> bool
     ensures { result ≡ is_text_byte c }
 {
     b' ' <= c && c <= b'~' && !(c == b'"' || c == b'\\')
@@ -28,31 +28,31 @@ fn blank_len(bytes: &[u8]) -> usize
     ensures exact { result ≡ prefix_len is_blank bytes.now }
     ensures within { result ≤ length bytes.now }
 {
-    bytes.iter().take_while(|c| blank(**c)).count()
+    bytes.iter().take_while(|c| is_blank(**c)).count()
 }
 
 fn text_len(bytes: &[u8]) -> usize
     ensures exact { result ≡ prefix_len is_text_byte bytes.now }
     ensures within { result ≤ length bytes.now }
 {
-    bytes.iter().take_while(|c| text_byte(**c)).count()
+    bytes.iter().take_while(|c| is_text_byte(**c)).count()
 }
 
 fn name_len(bytes: &[u8]) -> usize
     ensures exact { result ≡ prefix_len is_word_byte bytes.now }
     ensures within { result ≤ length bytes.now }
 {
-    bytes.iter().take_while(|c| word_byte(**c)).count()
+    bytes.iter().take_while(|c| is_word_byte(**c)).count()
 }
 
-/// Behind the blanks.
+/// What stands behind the blanks.
 pub fn skip(bytes: &[u8]) -> &[u8]
     ensures { result.now ≡ skipped bytes.now }
 {
     bytes.split_at(blank_len(bytes)).1
 }
 
-fn first_is(byte: u8, bytes: &[u8]) -> bool
+fn begins_with(byte: u8, bytes: &[u8]) -> bool
     ensures { result ≡ begins_with (λ c. c == byte) bytes.now }
 {
     match bytes {
@@ -68,7 +68,7 @@ fn string_len(bytes: &[u8]) -> usize
     ensures within { result ≤ length bytes.now + 1 }
 {
     let inside = text_len(bytes);
-    if first_is(b'"', bytes.split_at(inside).1) {
+    if begins_with(b'"', bytes.split_at(inside).1) {
         inside + 2
     } else {
         0
@@ -82,15 +82,9 @@ fn word_len(bytes: &[u8]) -> usize
 {
     match bytes {
         [] => 0,
-        [first, rest @ ..] => {
-            if *first == b'(' || *first == b')' {
-                1
-            } else if *first == b'"' {
-                string_len(rest)
-            } else {
-                name_len(bytes)
-            }
-        }
+        [b'(' | b')', ..] => 1,
+        [b'"', rest @ ..] => string_len(rest),
+        _ => name_len(bytes),
     }
 }
 
@@ -107,7 +101,7 @@ pub fn word(bytes: &[u8]) -> (&[u8], &[u8])
     split(skip(bytes))
 }
 
-/// Behind this word, where it comes first.
+/// What stands behind this word, where it comes first.
 pub fn expect<'a>(expected: &[u8], bytes: &'a [u8]) -> Option<&'a [u8]>
     ensures { option_map (λ rest. rest.now) result ≡ behind expected.now bytes.now }
 {

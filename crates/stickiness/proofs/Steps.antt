@@ -1,40 +1,24 @@
 -- Properties put into a set one after the other.
-use Rattle.std.proofs.Common.{◌≡◌, ℕ, zero, suc, ◌+◌, ◌≤◌, ◌<◌, Bool, true, false, List, [], ◌∷◌, drop, refl, ap, sym, ◌∙◌, ◌++◌, append-nil, append_assoc, arith}
+use Rattle.std.proofs.Common.{◌≡◌, ℕ, ◌+◌, ◌≤◌, ◌<◌, Bool, true, false, [], ◌∷◌, drop, refl, ap, sym, ◌∙◌, ◌++◌, append-nil, append_assoc, arith}
 use Rattle.std.specs.Prelude.{filter, slice_get, Some}
 use Rattle.std.proofs.lemmas.Bool.{lt-ltb}
-use Rattle.text_model.specs.Properties.{PropVal, Truth, Number, Symbol, Symbols, Text, PropSet, put, put_all, with_value, given}
-use Rattle.text_model.specs.Ordered.{Rising, IsOrdered, IsValue, HasValues, IsProper}
-use Rattle.text_model.proofs.Sets.{if_true, by_test, rising_less}
-
-next_dropped : {A : Type 0} (xs : List A) (i : ℕ) (x : A) → slice_get xs i ≡ Some x → drop i xs ≡ x ∷ drop (i + 1) xs
-next_dropped [] i x h = cc
-next_dropped (y ∷ xs) zero x h = cc
-next_dropped (y ∷ xs) (suc i) x h = let e : suc i + 1 ≡ suc (i + 1) = omega arith in rw e (next_dropped xs i x h)
-
-given_value : (v : PropVal) → IsValue v → given v ≡ Some v
-given_value Truth h = refl
-given_value (Number i) h = refl
-given_value (Symbol s) h = refl
-given_value (Symbols []) h = absurd h
-given_value (Symbols (n ∷ names)) h = refl
-given_value (Text text) h = refl
-
-value_at : (set : PropSet) (i : ℕ) (p : ℕ × PropVal) → HasValues set → slice_get set i ≡ Some p → IsValue p.1
-value_at [] i p h e = cc
-value_at (q ∷ set) zero p h e = let same : q ≡ p = cc in rw same at h.0
-value_at (q ∷ set) (suc i) p h e = value_at set i p h.1 e
+use Rattle.text_model.specs.Properties.{PropVal, PropSet, put, put_all, with_value, given}
+use Rattle.text_model.specs.Ordered.{Rising, IsOrdered, IsProper}
+use Rattle.text_model.proofs.Sets.{rising_less, given_value, value_at}
+use Rattle.text_model.proofs.Lists.{drop_at}
+use Rattle.text_model.proofs.Cases.{by_test, if_true}
 
 -- one more is put in
 pub one_put : (test : ℕ × PropVal → Bool) (set onto s : PropSet) (i name : ℕ) (v : PropVal) → IsProper set → slice_get set i ≡ Some (name, v) → test (name, v) ≡ true → s ≡ put onto name (given v) →
     put_all s (filter test (drop (i + 1) set)) ≡ put_all onto (filter test (drop i set))
 one_put test set onto s i name v h at passes e =
     let found : put onto name (given v) ≡ with_value onto name v = ap (put onto name) (given_value v (value_at set i (name, v) h.values at)) in
-    rw (next_dropped set i (name, v) at, passes) (ap (λ t. put_all t (filter test (drop (i + 1) set))) (e ∙ found))
+    rw (drop_at set i (name, v) at, passes) (ap (λ t. put_all t (filter test (drop (i + 1) set))) (e ∙ found))
 
 -- one more is left out
 pub one_left_out : (test : ℕ × PropVal → Bool) (set onto : PropSet) (i name : ℕ) (v : PropVal) → slice_get set i ≡ Some (name, v) → test (name, v) ≡ false →
     put_all onto (filter test (drop (i + 1) set)) ≡ put_all onto (filter test (drop i set))
-one_left_out test set onto i name v at fails = rw (next_dropped set i (name, v) at, fails) refl
+one_left_out test set onto i name v at fails = rw (drop_at set i (name, v) at, fails) refl
 
 -- IN THEIR ORDER
 abbrev AreBelow : (name : ℕ) → PropSet → Type 0
@@ -61,7 +45,7 @@ put_behind low set (p ∷ more) h r =
     ∙ put_behind (p.0 + 1) (set ++ p ∷ []) more (below_push (p.0 + 1) set p (below_more p.0 (p.0 + 1) set (omega arith) below) (omega arith)) r.1
     ∙ append_assoc set (p ∷ []) more
 
-rising-filter : (test : ℕ × PropVal → Bool) (low : ℕ) (set : PropSet) → Rising low set → Rising low (filter test set)
+pub rising-filter : (test : ℕ × PropVal → Bool) (low : ℕ) (set : PropSet) → Rising low set → Rising low (filter test set)
 rising-filter test low [] r = tt
 rising-filter test low (p ∷ set) r = by_test (λ s. Rising low s) (test p) (p ∷ filter test set) (filter test set)
     (λ h. (r.0, rising-filter test (p.0 + 1) set r.1))

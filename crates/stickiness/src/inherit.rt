@@ -1,5 +1,5 @@
 //! The properties that an inserted character inherits.
-ghost use Rattle.std.specs.Prelude.{◌≡◌, ◌+◌, ◌<◌, IfOk, option_map, length, filter, slice_get, Some, take, drop};
+ghost use Rattle.std.specs.Prelude.{◌≡◌, ◌+◌, ◌<◌, IfOk, option_map, length, Some, drop};
 ghost use Rattle.text_model.specs.Properties.{put_all};
 ghost use Rattle.text_model.specs.Ordered.{IsProper, IsOrdered};
 ghost use Rattle.text_model.specs.Sticky.{inherited, offered_by_before, offered_by_after};
@@ -17,8 +17,7 @@ fn with_one(onto: PropSet, set: &PropSet, i: usize, side: Side) -> Mem<PropSet>
 {
     let (name, value) = set.at(i);
     if side.offers(set, name) {
-        let onto = onto.with(name, value)?;
-        Ok(onto)
+        onto.with(name, value)
     } else {
         Ok(onto)
     }
@@ -42,10 +41,7 @@ fn offered_by_after(alloc: Global, after: Option<&PropSet>) -> Mem<PropSet>
 {
     let nothing = PropSet::empty(alloc);
     match after {
-        Some(set) => {
-            let set = with_offered(nothing, set, Side::After)?;
-            Ok(set)
-        }
+        Some(set) => with_offered(nothing, set, Side::After),
         None => Ok(nothing),
     }
 }
@@ -55,10 +51,7 @@ fn with_before(onto: PropSet, before: Option<&PropSet>) -> Mem<PropSet>
     ensures { IfOk result (λ s. s ≡ put_all onto (offered_by_before (option_map (λ t. t.now) before.entry))) }
 {
     match before {
-        Some(set) => {
-            let set = with_offered(onto, set, Side::Before)?;
-            Ok(set)
-        }
+        Some(set) => with_offered(onto, set, Side::Before),
         None => Ok(onto),
     }
 }
@@ -75,6 +68,7 @@ pub fn inherited(alloc: Global, before: Option<&PropSet>, after: Option<&PropSet
     ensures proper { IfOk result IsProper }
 {
     let set = with_before(offered_by_after(alloc, after)?, before)?;
+    // Read for what it ensures: the names rise, and nil is never a value.
     let _proper = set.len();
     Ok(set)
 }

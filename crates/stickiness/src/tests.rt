@@ -1,5 +1,4 @@
 //! Worked cases of what a character inherits.
-ghost use Rattle.std.specs.Prelude.{◌≡◌, IfOk};
 
 use crate::inherited;
 use ek_types::{Mem, PropSet, PropVal, Sym, SymList};

@@ -80,22 +80,22 @@ following-length (b ∷ []) n h = omega arith
 following-length (b ∷ c ∷ rest) n h = omega (arith, following-length (c ∷ rest) (length rest) (omega arith))
 
 -- one step of each of the two functions, by what stands at the front
-characters-whole : (b : ℕ) (x s : List ℕ) → front (b ∷ x) ≡ Whole s → characters_after 0 (b ∷ x) ≡ Scalar (scalar_of s) ∷ characters_after (following s) x
+pub characters-whole : (b : ℕ) (x s : List ℕ) → front (b ∷ x) ≡ Whole s → characters_after 0 (b ∷ x) ≡ Scalar (scalar_of s) ∷ characters_after (following s) x
 characters-whole b x s e = rw (e, characters_after)
 
-characters-part : (b : ℕ) (x : List ℕ) → front (b ∷ x) ≡ Part → characters_after 0 (b ∷ x) ≡ []
+pub characters-part : (b : ℕ) (x : List ℕ) → front (b ∷ x) ≡ Part → characters_after 0 (b ∷ x) ≡ []
 characters-part b x e = rw (e, characters_after)
 
-characters-neither : (b : ℕ) (x : List ℕ) → front (b ∷ x) ≡ Neither → characters_after 0 (b ∷ x) ≡ Raw b ∷ characters_after 0 x
+pub characters-neither : (b : ℕ) (x : List ℕ) → front (b ∷ x) ≡ Neither → characters_after 0 (b ∷ x) ≡ Raw b ∷ characters_after 0 x
 characters-neither b x e = rw (e, characters_after)
 
-tail-whole : (b : ℕ) (x s : List ℕ) → front (b ∷ x) ≡ Whole s → tail_after 0 (b ∷ x) ≡ tail_after (following s) x
+pub tail-whole : (b : ℕ) (x s : List ℕ) → front (b ∷ x) ≡ Whole s → tail_after 0 (b ∷ x) ≡ tail_after (following s) x
 tail-whole b x s e = rw (e, tail_after)
 
-tail-part : (b : ℕ) (x : List ℕ) → front (b ∷ x) ≡ Part → tail_after 0 (b ∷ x) ≡ b ∷ x
+pub tail-part : (b : ℕ) (x : List ℕ) → front (b ∷ x) ≡ Part → tail_after 0 (b ∷ x) ≡ b ∷ x
 tail-part b x e = rw (e, tail_after)
 
-tail-neither : (b : ℕ) (x : List ℕ) → front (b ∷ x) ≡ Neither → tail_after 0 (b ∷ x) ≡ tail_after 0 x
+pub tail-neither : (b : ℕ) (x : List ℕ) → front (b ∷ x) ≡ Neither → tail_after 0 (b ∷ x) ≡ tail_after 0 x
 tail-neither b x e = rw (e, tail_after)
 
 pub characters-append : (skip : ℕ) (x y : List ℕ) → skip ≤ length x → characters_after skip (x ++ y) ≡ characters_after skip x ++ characters_after 0 (tail_after skip x ++ y)

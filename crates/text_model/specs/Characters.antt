@@ -1,5 +1,5 @@
 -- Characters: Unicode scalar values, and raw bytes that are part of none.
-use Rattle.std.specs.Prelude.{ℕ, ◌+◌, ◌-◌, ◌≤◌, Bool, true, false, ◌&&◌, ◌||◌, nat_le, nat_lt, List, [], ◌∷◌, flat_map, encode_utf8, if◌then◌else◌, Option, Some, None}
+use Rattle.std.specs.Prelude.{ℕ, ◌+◌, ◌-◌, ◌≤◌, Bool, ◌&&◌, ◌||◌, nat_le, nat_lt, List, [], ◌∷◌, encode_utf8, if◌then◌else◌, Option, Some, None}
 use Rattle.std.specs.Char.{IsScalar}
 
 -- a Unicode scalar value, or a byte from 80 to FF (hexadecimal) that is part of no character
@@ -33,6 +33,3 @@ from_code n = if is_scalar_code n then Some (Scalar n) else (if is_raw_code n th
 abbrev pub encoded : Ch → List ℕ
 encoded (Scalar c) = encode_utf8 c
 encoded (Raw b) = b ∷ []
-
-abbrev pub encoded_all : List Ch → List ℕ
-encoded_all text = flat_map encoded text

@@ -4,6 +4,7 @@ pub mod Properties
 pub mod PropertyQuestions
 pub mod Places
 pub mod Marks
+pub mod Names
 pub mod Ordered
 pub mod OverlayQuestions
 pub mod Sticky

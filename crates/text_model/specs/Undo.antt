@@ -35,11 +35,6 @@ abbrev pub newer_than : ℕ → List Entry → List Entry
 newer_than serial [] = []
 newer_than serial (e ∷ entries) = if e.serial == serial then [] else e ∷ newer_than serial entries
 
--- a record with this serial number stands in the list
-abbrev pub stands : ℕ → List Entry → Bool
-stands serial [] = false
-stands serial (e ∷ entries) = if e.serial == serial then true else stands serial entries
-
 -- a boundary with this serial number stands in the list
 abbrev pub boundary_at : (serial : ℕ) → List Entry → Bool
 boundary_at serial [] = false

@@ -1,5 +1,5 @@
 //! The pool, and the blocks that it lends out.
-ghost use Rattle.std.specs.Prelude.{◌≡◌, ◌≢◌, ◌↔◌, ℕ, ◌+◌, ◌<◌, [], length, max, Some, None, OnOk, OnErr, IsOk, IsNone, IfNone, IfSome, OnSome, option_map, slice_index, slice_set};
+ghost use Rattle.std.specs.Prelude.{◌≡◌, ◌↔◌, ℕ, ◌+◌, ◌<◌, ◌≤◌, [], ◌++◌, take, drop, max, Some, None, OnOk, OnErr, IsNone, IfNone, IfSome, OnSome, slice_index, slice_set};
 ghost use Rattle.slab.specs.Slab.{HasRoomFor};
 ghost use Rattle.text_pool.specs.Pool.{Pooled, cells_at, cells, IsLive, live, SameOthers};
 
@@ -53,7 +53,7 @@ impl Pool {
         }
     }
 
-    /// Makes the spare at least `blocks`. A refusal leaves the pool as it was.
+    /// Raises the spare to `blocks` where it is less, and else changes nothing. A refusal leaves the pool as it was.
     pub fn reserve(&mut self, blocks: usize) -> Result<(), PoolMemory>
         ensures slots { self.new.slots ≡ self.old.slots }
         ensures ok { OnOk result (self.new.spare ≡ max self.old.spare blocks) }
@@ -72,7 +72,8 @@ impl Pool {
         }
     }
 
-    /// A block that nobody else has, where the spare isn't 0. What its cells hold is left open.
+    /// Lends a block that nobody else has, and lowers the spare by one; `None` exactly where the spare is 0, and then nothing
+    /// changes. What its cells hold is left open.
     pub fn take(&mut self) -> Option<Block>
         ensures none { IsNone result ↔ (self.old.spare ≡ 0) }
         ensures unchanged { IfNone result (self.new ≡ self.old) }
@@ -91,7 +92,7 @@ impl Pool {
         Some(Block { number })
     }
 
-    /// Takes a block back.
+    /// Takes back a block that is live in this pool, and raises the spare by one.
     pub fn give(&mut self, block: Block)
         requires { IsLive self.old block }
         ensures gone { cells_at self.new block ≡ None }
@@ -120,7 +121,7 @@ impl Pool {
         self.blocks.len()
     }
 
-    /// What was last set in cell `i` of the block, counted from 0.
+    /// What was last set in cell `i` of a block that is live in this pool, counted from 0 and below 256.
     pub fn cell(&self, block: &Block, i: usize) -> u32
         requires live { IsLive self.now block.now }
         requires range { i < 256 }
@@ -129,7 +130,7 @@ impl Pool {
         self.blocks[block.number][i]
     }
 
-    /// Sets cell `i` of the block, counted from 0, and no other cell.
+    /// Sets cell `i` of a block that is live in this pool, counted from 0 and below 256, and no other cell.
     pub fn set_cell(&mut self, block: &Block, i: usize, value: u32)
         requires live { IsLive self.old block.now }
         requires range { i < 256 }
@@ -141,6 +142,26 @@ impl Pool {
     {
         let cells = self.blocks.get_mut(block.number).unwrap();
         cells[i] = value;
+    }
+
+    /// Copies `count` cells of one block, from cell `at` on, to the cells from `to` on of another one, or of the same one,
+    /// where the two parts may overlap. Both blocks are live in this pool, and cells are counted from 0. No other cell changes.
+    pub fn copy_cells(&mut self, source: &Block, at: usize, target: &Block, to: usize, count: usize)
+        requires source_live { IsLive self.old source.now }
+        requires target_live { IsLive self.old target.now }
+        requires source_range { at + count ≤ 256 }
+        requires target_range { to + count ≤ 256 }
+        ensures cells { let old = cells self.old target.now in
+            cells self.new target.now ≡ take to old ++ take count (drop at (cells self.old source.now)) ++ drop (to + count) old }
+        ensures source_is_live { IsLive self.new source.now }
+        ensures target_is_live { IsLive self.new target.now }
+        ensures others { SameOthers self.old self.new target.now }
+        ensures spare { self.new.spare ≡ self.old.spare }
+        ensures live { live self.new ≡ live self.old }
+    {
+        let copied = self.blocks[source.number];
+        let cells = self.blocks.get_mut(target.number).unwrap();
+        cells[to..to + count].copy_from_slice(&copied[at..at + count]);
     }
 }
 
@@ -193,6 +214,42 @@ mod tests {
         pool.give(first);
         assert_eq!(rt; pool.cell(&second, 0), 20);
         assert_eq!(rt; pool.cell(&second, 255), u32::MAX);
+        pool.give(second);
+        Ok(())
+    }
+
+    #[test]
+    fn a_part_is_copied_over_itself(rt: HostRuntime) -> Result<(), Fail> {
+        let mut pool = Pool::new(rt.alloc());
+        pool.reserve(1)?;
+        let Some(block) = pool.take() else {
+            return Err(Fail::from("no block"));
+        };
+        pool.set_cell(&block, 0, 10);
+        pool.set_cell(&block, 1, 11);
+        pool.copy_cells(&block, 0, &block, 1, 2);
+        assert_eq!(rt; pool.cell(&block, 0), 10);
+        assert_eq!(rt; pool.cell(&block, 1), 10);
+        assert_eq!(rt; pool.cell(&block, 2), 11);
+        pool.give(block);
+        Ok(())
+    }
+
+    #[test]
+    fn a_part_is_copied_to_another_block(rt: HostRuntime) -> Result<(), Fail> {
+        let mut pool = Pool::new(rt.alloc());
+        pool.reserve(2)?;
+        let Some(first) = pool.take() else {
+            return Err(Fail::from("no first block"));
+        };
+        let Some(second) = pool.take() else {
+            pool.give(first);
+            return Err(Fail::from("no second block"));
+        };
+        pool.set_cell(&first, 1, 10);
+        pool.copy_cells(&first, 1, &second, 255, 1);
+        assert_eq!(rt; pool.cell(&second, 255), 10);
+        pool.give(first);
         pool.give(second);
         Ok(())
     }

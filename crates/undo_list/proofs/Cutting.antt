@@ -2,8 +2,8 @@
 use Rattle.std.proofs.Common.{◌≡◌, ℕ, zero, suc, ◌+◌, ◌≤◌, ◌<◌, Bool, true, false, List, [], ◌∷◌, ◌++◌, length, refl, sym, ◌∙◌, arith}
 use Rattle.std.specs.Prelude.{if◌then◌else◌}
 use Rattle.std.proofs.lemmas.Bool.{false≢true}
-use Rattle.text_model.proofs.Sets.{by_test}
 use Rattle.text_model.specs.Undo.{Rec, Boundary, Point, Inserted, Deleted, Prop, First, Moved, Entry, is_boundary, has_boundary, without_oldest_group, kept_characters, fits, cut}
+use Rattle.text_model.proofs.Cases.{by_test}
 use Rattle.undo_list.specs.Records.{size_of, AreFalling}
 
 -- CHARACTERS
@@ -91,9 +91,6 @@ group-gone [] h = absurd (false≢true (sym h))
 group-gone (e ∷ es) h = let s : length (without_oldest_group (e ∷ es)) ≤ length es = shorter-group e es in omega arith
 
 -- SERIAL NUMBERS
-pub falling-less : (a b : ℕ) (es : List Entry) → a ≤ b → AreFalling a es → AreFalling b es
-falling-less a b [] h f = tt
-falling-less a b (e ∷ es) h f = (omega arith, f.1)
 
 falling-group : (n : ℕ) (es : List Entry) → AreFalling n es → AreFalling n (without_oldest_group es)
 falling-group n [] f = tt

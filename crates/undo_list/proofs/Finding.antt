@@ -4,7 +4,7 @@ use Rattle.std.specs.Prelude.{nat_lt, nat_le}
 use Rattle.std.specs.List.{AllWithin}
 use Rattle.std.specs.List.Sorted.{IsPartitionedBy}
 use Rattle.std.proofs.lemmas.Bool.{leb-true, leb-false, le-leb, lt-ltb, le-ltb}
-use Rattle.text_model.proofs.Sets.{if_true, if_false}
+use Rattle.text_model.proofs.Cases.{if_true, if_false}
 use Rattle.undo_list.specs.Records.{AreFalling, entry_of}
 use Rattle.undo_list.specs.declared.records.Entry.{Entry}
 

@@ -3,3 +3,4 @@ pub mod Merging
 pub mod Seeing
 pub mod Finding
 pub mod Walking
+pub mod Groups

@@ -1,15 +1,20 @@
 -- The walk of the code comes to the plan of the definitions.
 use Rattle.std.proofs.Common.{◌≡◌, ℕ, zero, suc, ◌+◌, ◌-◌, ◌≤◌, ◌<◌, Bool, true, false, List, [], ◌∷◌, length, refl, ap, sym, ◌∙◌, arith, Result, Ok, Err, Option, Some, None}
-use Rattle.std.specs.Prelude.{◌==◌}
+use Rattle.std.specs.Prelude.{◌==◌, if◌then◌else◌}
 use Rattle.std.proofs.lemmas.Bool.{false≢true, eq-eqb, ne_eqb}
-use Rattle.text_model.proofs.Sets.{by_test, if_true, if_false}
 use Rattle.text_model.specs.Undo.{Rec, Boundary, Point, Inserted, Deleted, Prop, First, Moved, Entry, Undo, is_boundary, groups, trial, oldest, lies_inside, max_after, pending, pass, passed}
+use Rattle.text_model.proofs.Cases.{by_test, if_true, if_false}
 use Rattle.undo_list.specs.Plans.{without_boundaries, plan_of, planned_from, planned}
-use Rattle.undo_list.specs.Walks.{stepped, walked}
+use Rattle.undo_list.specs.Walks.{stepped}
 use Rattle.undo_list.specs.declared.plan.Plan.{Plan}
 use Rattle.undo_list.specs.declared.plan.Refused.{Refused}
 use Rattle.undo_list.specs.declared.plan.Refused.TheVariants.{Disabled, Outside}
 use Rattle.undo_list.specs.declared.walk.Walk.{Walk}
+
+-- what the walk comes to over these records
+abbrev pub walked : List Entry → Walk → Result Plan Refused
+walked [] w = Ok w.plan
+walked (e ∷ entries) w = if w.left == 0 then Ok w.plan else (if lies_inside w.min w.max e.what then walked entries (stepped e w) else Err (Outside e.serial))
 
 -- the plan that passes these records behind those that the walk has passed
 abbrev pub more : Plan → List Entry → Option Entry → Result Plan Refused

@@ -1,9 +1,7 @@
--- The walk of the code over the records of some groups.
-use Rattle.std.specs.Prelude.{◌+◌, ◌-◌, ◌==◌, if◌then◌else◌, List, [], ◌∷◌, Result, Ok, Err}
-use Rattle.text_model.specs.Undo.{Entry, is_boundary, lies_inside, max_after}
-use Rattle.undo_list.specs.declared.plan.Plan.{Plan}
-use Rattle.undo_list.specs.declared.plan.Refused.{Refused}
-use Rattle.undo_list.specs.declared.plan.Refused.TheVariants.{Outside}
+-- One step of the walk of the code over the records of some groups. It serves the proof of `Records::plan` alone: the
+-- clause there says what it comes to in the words of the definitions, by groups and their trial.
+use Rattle.std.specs.Prelude.{◌+◌, ◌-◌, if◌then◌else◌}
+use Rattle.text_model.specs.Undo.{Entry, is_boundary, max_after}
 use Rattle.undo_list.specs.declared.walk.Walk.{Walk}
 
 -- one record more
@@ -14,8 +12,3 @@ stepped e w = record {
   max = max_after w.max e.what;
   plan = record { first = w.plan.first; last = e.serial; count = if is_boundary e.what then w.plan.count else w.plan.count + 1 };
 }
-
--- what the walk comes to over these records
-abbrev pub walked : List Entry → Walk → Result Plan Refused
-walked [] w = Ok w.plan
-walked (e ∷ entries) w = if w.left == 0 then Ok w.plan else (if lies_inside w.min w.max e.what then walked entries (stepped e w) else Err (Outside e.serial))

@@ -1,5 +1,5 @@
 //! Records of changes.
-ghost use Rattle.std.specs.Prelude.{◌≡◌, ◌^◌, ◌<◌, ◌+◌, IfOk, if◌then◌else◌};
+ghost use Rattle.std.specs.Prelude.{◌≡◌, ◌^◌, ◌<◌, ◌+◌, if◌then◌else◌};
 ghost use Rattle.text_model.specs.Undo.{is_boundary, lies_inside, max_after, ends_at};
 ghost use Rattle.undo_list.specs.Records.{rec_of, size_of, lengthened};
 
@@ -20,7 +20,8 @@ pub enum Rec {
     Prop(Sym, Option<PropVal>, usize, usize),
     /// The buffer wasn't modified before.
     First,
-    /// A deletion moved the marker of this number; the deletion's place less this is where the marker stood.
+    /// A deletion moved the marker of this number. Where the marker goes as the text is put back (in front of the text,
+    /// or behind it where it advances), less this, is where it stood.
     Moved(u32, i64),
 }
 

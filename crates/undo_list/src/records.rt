@@ -1,8 +1,8 @@
 //! Records with their serial numbers, and the cut of the oldest.
-ghost use Rattle.std.specs.Prelude.{◌≡◌, ℕ, ◌+◌, ◌<◌, ◌≤◌, [], ◌∷◌, length, drop, OnOk, OnErr, IfOk, IsOk, IfSome, IfNone, filter, nat_lt, nat_le, if◌then◌else◌, true, slice_get, Some, List, MatchOption};
+ghost use Rattle.std.specs.Prelude.{◌≡◌, ℕ, ◌+◌, ◌<◌, ◌≤◌, [], ◌∷◌, length, drop, OnOk, OnErr, IfOk, IsOk, IfSome, IfNone, filter, nat_lt, nat_le, if◌then◌else◌, true, slice_get, Some};
 ghost use Rattle.text_model.specs.Undo as undo;
 ghost use Rattle.text_model.specs.Undo.{is_boundary, without_oldest_group, fits, cut, extends, in_front, kept_characters};
-ghost use Rattle.undo_list.specs.Records.{rec_of, entry_of, AreFalling};
+ghost use Rattle.undo_list.specs.Records.{entry_of, AreFalling};
 ghost use Rattle.undo_list.specs.Plans.{planned_from};
 
 use crate::plan::{Plan, Refused};

@@ -1,6 +1,7 @@
 //! The undo state of a buffer.
-ghost use Rattle.std.specs.Prelude.{◌≡◌, ℕ, ◌+◌, ◌<◌, ◌≤◌, true, false, if◌then◌else◌, [], length, Result, Ok, Err, OnOk, OnErr, IfOk, IsOk, IsErr, slice_get, Some};
+ghost use Rattle.std.specs.Prelude.{◌≡◌, ℕ, ◌+◌, ◌<◌, ◌≤◌, true, false, if◌then◌else◌, [], length, Ok, Err, OnOk, OnErr, IfOk, IsOk, IsErr, slice_get, Some};
 ghost use Rattle.text_model.specs.Undo.{extends, pushed, with_boundary, started, without_pending, disabled, enabled, pass, passed};
+ghost use Rattle.text_model.specs.Commit.{fresh_group};
 ghost use Rattle.undo_list.specs.Records.{rec_of};
 ghost use Rattle.undo_list.specs.Plans.{planned};
 ghost use Rattle.undo_list.specs.State.{IsKept, serials_left};
@@ -147,6 +148,7 @@ impl Undo {
         ensures err { OnErr result (self.new.state ≡ self.old.state) }
         ensures had { 0 < self.old.spare → IsOk result }
         ensures spare { self.old.spare ≤ self.new.spare + 1 }
+        ensures spent { serials_left self.old.state.next ≡ 0 → fresh_group self.old.state.entries ≡ false → IsErr result }
     {
         if self.records.len() == 0 || self.records.at(0).what.is_boundary() {
             return Ok(());
@@ -167,7 +169,7 @@ impl Undo {
         Ok(())
     }
 
-    /// Makes no record pending.
+    /// Makes no record pending. All stay in the list.
     pub fn drop_pending(&mut self)
         ensures state { self.new.state ≡ without_pending self.old.state }
         ensures spare { self.new.spare ≡ self.old.spare }
@@ -178,7 +180,7 @@ impl Undo {
     /// What undoing so many groups of the pending records would pass. A group ends with a boundary or with the list, and
     /// fewer groups are passed where there are fewer. It is refused as `Disabled` where recording is off, else as
     /// `Nothing` where no record is pending, else as `Outside` where a place of a record lies outside `min` to `max`, as
-    /// these stand once the records before it are undone.
+    /// these stand once the records before it are undone; it names the first such record. Nothing is changed by asking.
     pub fn plan(&self, groups: u32, min: usize, max: usize) -> Mem<Result<Plan, Refused>>
         requires { 1 ≤ groups }
         ensures { result ≡ Ok (planned groups min max self.now.state) }
@@ -193,7 +195,7 @@ impl Undo {
         Ok(self.records.plan(start, groups, min, max))
     }
 
-    /// Makes the records of a plan of this list pending no longer.
+    /// Makes the records of a plan of this list, its boundaries among them, pending no longer. Nothing else changes.
     pub fn pass(&mut self, plan: &Plan)
         ensures state { self.new.state ≡ record self.old.state { pending_below = plan.now.last } }
         ensures groups { (groups min max : ℕ) → 1 ≤ groups → planned groups min max self.old.state ≡ Ok plan.now → self.new.state ≡ pass (passed groups self.old.state) self.old.state }
@@ -202,7 +204,7 @@ impl Undo {
         self.pending_below = plan.last;
     }
 
-    /// Stops recording, and drops all records.
+    /// Stops recording, and drops all records, so that none is pending. Their serial numbers aren't given again.
     pub fn disable(&mut self)
         ensures state { self.new.state ≡ disabled self.old.state }
         ensures spare { self.old.spare ≤ self.new.spare }
@@ -212,7 +214,7 @@ impl Undo {
         self.drop_pending();
     }
 
-    /// Begins to record, or goes on.
+    /// Begins to record, with no records, where recording was off; else nothing changes.
     pub fn enable(&mut self)
         ensures state { self.new.state ≡ enabled self.old.state }
         ensures spare { self.new.spare ≡ self.old.spare }

@@ -1,8 +1,9 @@
 -- What stands at the front of some bytes, by their first two.
-use Rattle.std.proofs.Common.{◌≡◌, ℕ, zero, suc, ◌<◌, ◌≤◌, Bool, true, false, nat_lt, ◌&&◌, List, [], ◌∷◌, ◌++◌, take, drop, refl, ap, sym, ◌∙◌, arith, ⊎_elim}
+use Rattle.std.proofs.Common.{◌≡◌, ℕ, zero, suc, ◌<◌, ◌≤◌, Bool, true, false, nat_lt, ◌&&◌, List, [], ◌∷◌, ◌++◌, take, drop, refl, ap, ◌∙◌, arith, ⊎_elim}
 use Rattle.std.proofs.lemmas.Bool.Decides.{nat_tests}
 use Rattle.std.proofs.lemmas.Bool.{cases_lt, and_parts}
 use Rattle.text_model.specs.Decoding.{Range, range, within, Front, Whole, Part, Neither, longer, against, against_any, front, well_formed}
+use Rattle.text_model.proofs.Cases.{same_tests}
 use Rattle.bstr.specs.Utf8.{second, continues}
 
 inside : (low high b : ℕ) → low ≤ b → b ≤ high → within (range low high) b ≡ true
@@ -75,11 +76,6 @@ step_in r row b x h = rw (h, against) refl
 
 step_out : (r : Range) (row : List Range) (b : ℕ) (x : List ℕ) → within r b ≡ false → against (r ∷ row) (b ∷ x) ≡ Neither
 step_out r row b x h = rw (h, against) refl
-
-same_tests : (s t : Bool) → (s ≡ true → t ≡ true) → (t ≡ true → s ≡ true) → s ≡ t
-same_tests true t f g = sym (f refl)
-same_tests false true f g = g refl
-same_tests false false f g = refl
 
 -- so many further bytes
 abbrev continuing : ℕ → List Range

@@ -1,9 +1,9 @@
 -- One step of decoding.
 use Rattle.std.proofs.Common.{◌≡◌, ℕ, zero, suc, ◌-◌, ◌<◌, ◌≤◌, List, [], ◌∷◌, ◌++◌, length, take, drop, slice_index, refl, ap, sym, ◌∙◌, append_assoc, length-drop, take_all, arith}
-use Rattle.text_model.specs.Characters.{Ch, Scalar, Raw}
-use Rattle.text_model.specs.Decoding.{Whole, Part, Neither, front, scalar_of, following, characters_after, tail_after, characters, tail}
-use Rattle.text_model.proofs.Decodings.{open_law, tail_law}
-use Rattle.utf8_stream.proofs.Tails.{append_none, tail_closed, characters-whole, characters-part, characters-neither, tail-whole, tail-part, tail-neither}
+use Rattle.text_model.specs.Characters.{Ch, Scalar}
+use Rattle.text_model.specs.Decoding.{Whole, front, scalar_of, following, characters_after, tail_after, characters, tail}
+use Rattle.text_model.proofs.Decodings.{open_law, tail_law, characters-whole, tail-whole}
+use Rattle.utf8_stream.proofs.Tails.{append_none, tail_closed}
 
 following_take : (b n : ℕ) (x : List ℕ) → n ≤ length x → following (b ∷ take n x) ≡ n
 following_take b zero [] h = refl
@@ -31,22 +31,6 @@ pub whole_tail : (x : List ℕ) (n : ℕ) → front x ≡ Whole (take n x) → 0
 whole_tail x zero e h k = absurd (omega arith)
 whole_tail [] (suc n) e h k = absurd (omega arith)
 whole_tail (b ∷ x) (suc n) e h k = tail-whole b x (b ∷ take n x) e ∙ ap (λ m. tail_after m x) (following_take b n x (omega arith)) ∙ tail_skip n x
-
-pub neither_characters : (x : List ℕ) → front x ≡ Neither → 0 < length x → characters x ≡ Raw (slice_index x 0) ∷ characters (drop 1 x)
-neither_characters [] e h = absurd (omega arith)
-neither_characters (b ∷ x) e h = characters-neither b x e
-
-pub neither_tail : (x : List ℕ) → front x ≡ Neither → 0 < length x → tail x ≡ tail (drop 1 x)
-neither_tail [] e h = absurd (omega arith)
-neither_tail (b ∷ x) e h = tail-neither b x e
-
-pub part_characters : (x : List ℕ) → front x ≡ Part → characters x ≡ []
-part_characters [] e = refl
-part_characters (b ∷ x) e = characters-part b x e
-
-pub part_tail : (x : List ℕ) → front x ≡ Part → tail x ≡ x
-part_tail [] e = refl
-part_tail (b ∷ x) e = tail-part b x e
 
 -- the slice from a place on
 pub cut : (n : ℕ) (x : List ℕ) → take (length x - n) (drop n x) ≡ drop n x

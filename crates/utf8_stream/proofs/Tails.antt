@@ -2,64 +2,14 @@
 use Rattle.std.proofs.Common.{◌≡◌, ℕ, zero, suc, ◌+◌, ◌<◌, ◌≤◌, Bool, true, false, nat_le, ◌&&◌, map, List, [], ◌∷◌, ◌++◌, length, drop, slice_index, refl, ap, sym, ◌∙◌, subst, arith}
 use Rattle.std.proofs.lemmas.Bool.{and_parts}
 use Rattle.std.proofs.lemmas.Bool.Decides.{nat_tests}
-use Rattle.text_model.specs.Characters.{Scalar, Raw}
-use Rattle.text_model.specs.Decoding.{Range, range, within, Front, Whole, Part, Neither, longer, against, against_any, front, well_formed, scalar_of, following, characters_after, tail_after, characters, tail, all_characters}
-use Rattle.text_model.proofs.Decodings.{tail_law}
-
--- one step, by what stands at the front
-pub characters-whole : (b : ℕ) (x s : List ℕ) → front (b ∷ x) ≡ Whole s → characters_after 0 (b ∷ x) ≡ Scalar (scalar_of s) ∷ characters_after (following s) x
-characters-whole b x s e = rw (e, characters_after)
-
-pub characters-part : (b : ℕ) (x : List ℕ) → front (b ∷ x) ≡ Part → characters_after 0 (b ∷ x) ≡ []
-characters-part b x e = rw (e, characters_after)
-
-pub characters-neither : (b : ℕ) (x : List ℕ) → front (b ∷ x) ≡ Neither → characters_after 0 (b ∷ x) ≡ Raw b ∷ characters_after 0 x
-characters-neither b x e = rw (e, characters_after)
-
-pub tail-whole : (b : ℕ) (x s : List ℕ) → front (b ∷ x) ≡ Whole s → tail_after 0 (b ∷ x) ≡ tail_after (following s) x
-tail-whole b x s e = rw (e, tail_after)
-
-pub tail-part : (b : ℕ) (x : List ℕ) → front (b ∷ x) ≡ Part → tail_after 0 (b ∷ x) ≡ b ∷ x
-tail-part b x e = rw (e, tail_after)
-
-pub tail-neither : (b : ℕ) (x : List ℕ) → front (b ∷ x) ≡ Neither → tail_after 0 (b ∷ x) ≡ tail_after 0 x
-tail-neither b x e = rw (e, tail_after)
+use Rattle.text_model.specs.Characters.{Raw}
+use Rattle.text_model.specs.Decoding.{Range, range, within, Front, Whole, Part, Neither, longer, against, against_any, front, well_formed, following, characters_after, tail_after, characters, tail, all_characters}
+use Rattle.text_model.proofs.Decodings.{characters-whole, characters-part, characters-neither, tail-whole, tail-part, tail-neither}
 
 longer-part : (b : ℕ) (f : Front) → longer b f ≡ Part → f ≡ Part
 longer-part b (Whole s) e = cc
 longer-part b Part e = refl
 longer-part b Neither e = cc
-
--- part of a row is shorter than the row
-against_short : (row : List Range) (x : List ℕ) → against row x ≡ Part → length x < length row
-against_short [] x e = cc
-against_short (r ∷ row) [] e = omega arith
-against_short (r ∷ row) (b ∷ x) e =
-    (elim (within r b) as (λ t. elim t as (λ _. Front) [ true ↦ longer b (against row x) | false ↦ Neither ] ≡ Part → length (b ∷ x) < length (r ∷ row)) [
-      | true ↦ λ e. let k : length x < length row = against_short row x (longer-part b (against row x) e) in omega arith
-      | false ↦ λ e. cc
-    ]) e
-
-fits : List (List Range) → Bool
-fits [] = true
-fits (row ∷ rows) = nat_le (length row) 4 && fits rows
-
-any_short : (rows : List (List Range)) (x : List ℕ) → fits rows ≡ true → against_any rows x ≡ Part → length x ≤ 3
-unfolding fits
-any_short [] x t e = cc
-any_short (row ∷ rows) x t e =
-    let both : (nat_le (length row) 4 ≡ true) × (fits rows ≡ true) = and_parts _ _ t in
-    let first : nat_le (length row) 4 ≡ true = both.0 in
-    let at_most : length row ≤ 4 = grind (arith, nat_tests) in
-    (elim (against row x) as (λ f. against row x ≡ f → elim f as (λ _. Front) [ Whole s ↦ Whole s | Part ↦ Part | Neither ↦ against_any rows x ] ≡ Part → length x ≤ 3) [
-      | Whole s ↦ λ f e. cc
-      | Part ↦ λ f e. let k : length x < length row = against_short row x f in omega arith
-      | Neither ↦ λ f e. any_short rows x both.1 e
-    ]) refl e
-
-part_short : (x : List ℕ) → front x ≡ Part → length x ≤ 3
-unfolding fits
-part_short x e = any_short well_formed x refl e
 
 -- a row without ASCII
 high : List Range → Bool
@@ -112,20 +62,6 @@ part_high : (b : ℕ) (x : List ℕ) (i : ℕ) → front (b ∷ x) ≡ Part → 
 unfolding all_high high
 part_high b x i e h = any_high (drop 1 well_formed) (b ∷ x) i refl (not_ascii b x e) h
 
--- a tail is at most 3 bytes, none of them ASCII
-short_after : (skip : ℕ) (x : List ℕ) → length (tail_after skip x) ≤ 3
-short_after skip [] = omega arith
-short_after (suc skip) (b ∷ x) = short_after skip x
-short_after zero (b ∷ x) =
-    (elim (front (b ∷ x)) as (λ f. front (b ∷ x) ≡ f → length (tail_after 0 (b ∷ x)) ≤ 3) [
-      | Whole s ↦ λ e. rw (tail-whole b x s e) (short_after (following s) x)
-      | Part ↦ λ e. rw (tail-part b x e) (part_short (b ∷ x) e)
-      | Neither ↦ λ e. rw (tail-neither b x e) (short_after zero x)
-    ]) refl
-
-pub tail_short : (x : List ℕ) → length (tail x) ≤ 3
-tail_short x = short_after 0 x
-
 high_after : (skip : ℕ) (x : List ℕ) (i : ℕ) → i < length (tail_after skip x) → 0x80 ≤ slice_index (tail_after skip x) i
 high_after skip [] i h = absurd (omega arith)
 high_after (suc skip) (b ∷ x) i h = high_after skip x i h
@@ -164,9 +100,6 @@ tail_closed x e = none_of (characters x) (omega (arith, tail_room x, ap length e
 pub append_none : {T : Type 0} (x : List T) → x ++ [] ≡ x
 append_none [] = refl
 append_none (a ∷ x) = ap (λ y. a ∷ y) (append_none x)
-
-pub tail_again : (x : List ℕ) → tail (tail x) ≡ tail x
-tail_again x = ap tail (sym (append_none (tail x))) ∙ sym (tail_law x []) ∙ ap tail (append_none x)
 
 -- of a tail all characters are raw
 pub all_of_tail : (x : List ℕ) → tail x ≡ x → all_characters x ≡ map Raw x

@@ -47,7 +47,7 @@ impl Decoder {
     }
 
     /// Appends the characters of the bytes held and the bytes given, without a tail that may still become a character,
-    /// and then holds that tail. Takes no memory.
+    /// and then holds that tail. Needs spare in `out` for all these bytes, and takes no memory.
     pub fn feed(&mut self, bytes: &[u8], out: &mut Chars)
         requires { length self.old + length bytes.now ≤ out.old.spare }
         ensures items { out.new.items ≡ out.old.items ++ characters (self.old ++ bytes.now) }
@@ -64,7 +64,8 @@ impl Decoder {
         }
     }
 
-    /// Appends the bytes held as raw bytes, since nothing follows them, and then holds nothing. Takes no memory.
+    /// Appends the bytes held as raw bytes, since nothing follows them, and then holds nothing. Needs spare in `out` for
+    /// them, and takes no memory.
     pub fn finish(&mut self, out: &mut Chars)
         requires { length self.old ≤ out.old.spare }
         ensures items { out.new.items ≡ out.old.items ++ all_characters self.old }
@@ -77,7 +78,7 @@ impl Decoder {
         self.count = 0;
     }
 
-    // One byte more.
+    /// Appends the characters that are complete with one byte more.
     fn feed_one(&mut self, byte: u8, out: &mut Chars)
         requires { length self.old + 1 ≤ out.old.spare }
         ensures items { out.new.items ≡ out.old.items ++ characters (self.old ++ byte ∷ []) }
@@ -89,6 +90,7 @@ impl Decoder {
         self.hold(open(&joined[..self.count + 1], out));
     }
 
+    /// Holds these bytes in place of the others.
     fn hold(&mut self, bytes: &[u8])
         requires tail { tail bytes.now ≡ bytes.now }
         requires short { length bytes.now ≤ 3 }
@@ -99,7 +101,7 @@ impl Decoder {
     }
 }
 
-// Appends the characters of the bytes without a tail, and gives that tail.
+/// Appends the characters of the bytes without a tail, and gives that tail.
 fn open<'a>(bytes: &'a [u8], out: &mut Chars) -> &'a [u8]
     requires { length bytes.now ≤ out.old.spare }
     ensures items { out.new.items ≡ out.old.items ++ characters bytes.now }

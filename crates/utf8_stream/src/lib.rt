@@ -9,4 +9,4 @@ mod sequence;
 mod tests;
 
 pub use decoder::Decoder;
-pub use laws::{all_in_pieces, characters_in_pieces, tail_in_pieces};
+pub use laws::{all_in_pieces, any_cutting, characters_in_pieces, tail_in_pieces};

@@ -73,7 +73,7 @@ fn first_and_last_of_each_row(rt: HostRuntime) {
 }
 
 #[test]
-fn one_below_and_one_above_each_range(rt: HostRuntime) {
+fn one_below_and_one_above_each_range_of_two_bytes(rt: HostRuntime) {
     let faults: [[u8; 2]; 8] = [
         *b"\x80\xBF",
         *b"\xC0\x80",
@@ -87,6 +87,10 @@ fn one_below_and_one_above_each_range(rt: HostRuntime) {
     for bytes in &faults {
         are_apart(&rt, rt.alloc(), bytes);
     }
+}
+
+#[test]
+fn one_below_and_one_above_each_range_of_three_bytes(rt: HostRuntime) {
     let faults: [[u8; 3]; 20] = [
         *b"\xE0\x80\x80",
         *b"\xE0\x9F\xBF",
@@ -112,6 +116,10 @@ fn one_below_and_one_above_each_range(rt: HostRuntime) {
     for bytes in &faults {
         are_apart(&rt, rt.alloc(), bytes);
     }
+}
+
+#[test]
+fn one_below_and_one_above_each_range_of_four_bytes(rt: HostRuntime) {
     let faults: [[u8; 4]; 20] = [
         *b"\xF0\x80\x80\x80",
         *b"\xF0\x8F\xBF\xBF",

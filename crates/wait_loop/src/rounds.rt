@@ -39,7 +39,7 @@ impl Model for Wait {
 }
 
 impl Wait {
-    ghost use Rattle.std.specs.Prelude.{◌≡◌, ◌↔◌, ◌⊎◌, ◌<◌, ◌≤◌, [], true, false, length, suc, IfOk, IfNone, MatchOption};
+    ghost use Rattle.std.specs.Prelude.{◌≡◌, ◌↔◌, ◌⊎◌, ◌<◌, ◌≤◌, [], true, false, length, IfOk, IfNone, MatchOption};
     ghost use Rattle.plain_machine.specs.State.{State};
     ghost use Rattle.plain_machine.specs.Waits.{is_eligible, eligible, from_eligible};
     ghost use Rattle.process_table.specs.Table.{StandsFor, with_table};

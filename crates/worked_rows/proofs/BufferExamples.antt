@@ -3,7 +3,8 @@ use Rattle.std.specs.Prelude.{◌≡◌, [], ◌∷◌, codes, replicate}
 use Rattle.std.specs.Fmt.{digits}
 use Rattle.std.proofs.Common.{refl}
 use Rattle.editor_model.specs.Values.{Nil, Str, TheBuffer, list, Refused, Prim, WrongType, NoSuchBuffer, TooMany}
-use Rattle.worked_rows.proofs.Doing.{Calls, answers, text, with_set, num, is, yes, no}
+use Rattle.worked_rows.specs.Row.{with_set, text}
+use Rattle.worked_rows.proofs.Doing.{Calls, answers, num, is, yes, no}
 
 -- names that aren't free get a number; a buffer keeps its own name
 abbrev names_calls : Calls

@@ -6,7 +6,8 @@ use Rattle.editor_model.specs.Values.{Nil, Sym, Prim, BufferKilled, NoFurtherUnd
 use Rattle.editor_model.specs.Editor.{Editor, new_editor, here, killed}
 use Rattle.editor_model.specs.Answers.{Change, Put, Props, UndoGroups, Changes, Committed, Done, Failed}
 use Rattle.editor_model.specs.Table.{prepare, commit}
-use Rattle.worked_rows.proofs.Doing.{Calls, editor_after, text, num}
+use Rattle.worked_rows.specs.Row.{text}
+use Rattle.worked_rows.proofs.Doing.{Calls, editor_after, num}
 
 -- four characters, two of them bold; all records are pending
 abbrev pending_four : Editor

@@ -1,8 +1,6 @@
 -- Calls made one after the other, without hooks, and what they reply.
-use Rattle.std.specs.Prelude.{ℕ, pos, List, [], ◌∷◌, map}
-use Rattle.text_model.specs.Characters.{Scalar}
-use Rattle.text_model.specs.Properties.{Cell, PropSet}
-use Rattle.editor_model.specs.Values.{Value, Nil, T, Int, Str, Reply, Answered, Refused, Prim}
+use Rattle.std.specs.Prelude.{ℕ, pos, List, [], ◌∷◌}
+use Rattle.editor_model.specs.Values.{Value, Nil, T, Int, Reply, Answered, Refused, Prim}
 use Rattle.editor_model.specs.Prims.{Manner, OnlyAsks, SetsState, ChangesText, ConcernsHandlers, manner_of}
 use Rattle.editor_model.specs.Editor.{Editor, new_editor}
 use Rattle.editor_model.specs.Table.{Applied, query, apply, prepare, Prepared, Changes, Quiet, Nothing, Barred, commit, Commit, Committed, Done, Failed}
@@ -42,17 +40,9 @@ abbrev pub answers : (first calls : Calls) → List Reply
 answers first calls = replies (editor_after new_editor first) calls
 
 -- WORDS FOR VALUES
-abbrev pub text : List ℕ → Value
-text bytes = Str (map (λ c. (Scalar c, [])) bytes)
-
-abbrev pub with_set : PropSet → List ℕ → List Cell
-with_set set bytes = map (λ c. (Scalar c, set)) bytes
 
 abbrev pub num : ℕ → Value
 num n = Int (pos n)
-
-abbrev pub nums : List ℕ → List Reply
-nums ns = map (λ n. Answered (num n)) ns
 
 abbrev pub is : Value → Reply
 is v = Answered v

@@ -6,7 +6,8 @@ use Rattle.text_model.specs.Marks.{Marker}
 use Rattle.editor_model.specs.Values.{Str, TheBuffer, TheMarker, Refused, Prim, ArgsOutOfRange, WrongType, NoFurtherUndo, TooMany}
 use Rattle.editor_model.specs.Editor.{Editor, new_editor}
 use Rattle.editor_model.specs.Arguments.{must_fit_a_string}
-use Rattle.worked_rows.proofs.Doing.{answers, replies, text, with_set, num, is}
+use Rattle.worked_rows.specs.Row.{with_set, text}
+use Rattle.worked_rows.proofs.Doing.{answers, replies, num, is}
 
 -- a new editor in which n more buffers were made and killed
 abbrev with_killed : ℕ → Editor

@@ -3,7 +3,8 @@ use Rattle.std.specs.Prelude.{◌≡◌, [], ◌∷◌, codes}
 use Rattle.std.proofs.Common.{refl}
 use Rattle.text_model.specs.Properties.{Symbol}
 use Rattle.editor_model.specs.Values.{Nil, T, Sym, Str, TheOverlay, list, Refused, Prim, ArgsOutOfRange, NoSuchBuffer}
-use Rattle.worked_rows.proofs.Doing.{Calls, answers, text, with_set, num, is, yes, no}
+use Rattle.worked_rows.specs.Row.{with_set, text}
+use Rattle.worked_rows.proofs.Doing.{Calls, answers, num, is, yes, no}
 
 -- which stand where
 abbrev ends_calls : Calls

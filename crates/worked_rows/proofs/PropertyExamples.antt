@@ -4,7 +4,8 @@ use Rattle.std.proofs.Common.{refl}
 use Rattle.text_model.specs.Characters.{Scalar}
 use Rattle.text_model.specs.Properties.{PropSet, Truth, Symbol, Symbols}
 use Rattle.editor_model.specs.Values.{Value, Nil, T, Sym, Str, list, Refused, Prim, ArgsOutOfRange, WrongType}
-use Rattle.worked_rows.proofs.Doing.{Calls, answers, text, with_set, num, is, yes, no}
+use Rattle.worked_rows.specs.Row.{with_set, text}
+use Rattle.worked_rows.proofs.Doing.{Calls, answers, num, is, yes, no}
 
 abbrev face : (value : ℕ) → PropSet
 face value = (20, Symbol value) ∷ []

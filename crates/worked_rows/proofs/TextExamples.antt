@@ -2,7 +2,8 @@
 use Rattle.std.specs.Prelude.{◌≡◌, negsuc, [], ◌∷◌, codes}
 use Rattle.std.proofs.Common.{refl}
 use Rattle.editor_model.specs.Values.{Int, Sym, TheBuffer, Refused, Prim, ArgsOutOfRange, WrongType, NoSuchBuffer}
-use Rattle.worked_rows.proofs.Doing.{Calls, answers, text, num, is, yes, no}
+use Rattle.worked_rows.specs.Row.{text}
+use Rattle.worked_rows.proofs.Doing.{Calls, answers, num, is, yes, no}
 
 -- the accessible portion
 abbrev portion_calls : Calls

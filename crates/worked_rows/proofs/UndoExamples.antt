@@ -3,7 +3,8 @@ use Rattle.std.specs.Prelude.{◌≡◌, negsuc, [], ◌∷◌, codes}
 use Rattle.std.proofs.Common.{refl}
 use Rattle.text_model.specs.Properties.{Symbol}
 use Rattle.editor_model.specs.Values.{Nil, T, Int, Str, TheMarker, Dotted, list, values, Refused, Prim, ArgsOutOfRange, NoFurtherUndo, UndoOutside, UndoDisabled}
-use Rattle.worked_rows.proofs.Doing.{Calls, answers, text, with_set, num, is, yes, no}
+use Rattle.worked_rows.specs.Row.{with_set, text}
+use Rattle.worked_rows.proofs.Doing.{Calls, answers, num, is, yes, no}
 
 -- recording switched off and on
 abbrev switched_off_calls : Calls

@@ -2,9 +2,10 @@
 use Rattle.std.specs.Prelude.{◌≡◌, ℕ, zero, suc, pos, List, [], ◌∷◌, ◌++◌, map, flat_map, Option, None}
 use Rattle.text_model.specs.Characters.{Scalar}
 use Rattle.text_model.specs.Properties.{Cell, PropSet}
+use Rattle.text_model.specs.Names.{first_symbols}
 use Rattle.editor_model.specs.Values.{Value, Nil, T, Int, Sym, Str, Form, Forms, Do, Setq, Then, NoForms, Arg, Const, HandlerDef, Prim, Reply, Script}
 use Rattle.plain_machine.specs.Exchanges.{Exchange, Ask, Answer}
-use Rattle.plain_machine.specs.Symbols.{first_symbols, program_of}
+use Rattle.plain_machine.specs.Symbols.{program_of}
 use Rattle.plain_machine.specs.Shipped.{shipped_names, shipped}
 use Rattle.plain_machine.specs.Lines.{dump}
 use Rattle.plain_machine.specs.Run.{Ran, HasEnded, run, start, lines}

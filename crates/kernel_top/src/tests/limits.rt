@@ -120,6 +120,24 @@ process 0 #<process c> exit 0
     Ok(())
 }
 
+/// What a child says whose output the text doesn't hold, and the dump up to the eighth character.
+const LINES_WHEN_FULL: &str = "> filter default #<process c> \"b\"
+  ! 15 buffer-full
+< default
+= t
+! 15 buffer-full
+= nil
+> sentinel default #<process c> \"finished\\n\"
+  ! 15 buffer-full
+< default
+= nil
+= 9
+= nil
+! 15 buffer-full
+= nil
+buffer *scratch* point 9 min 1 max 4194305 modified t current
+text \"xxxxxxxa";
+
 /// A child fills the text. What it says further is refused, and so are its end and an insertion.
 #[test]
 fn the_text_is_full(rt: HostRuntime) -> Result<(), Fail> {
@@ -138,22 +156,7 @@ fn the_text_is_full(rt: HostRuntime) -> Result<(), Fail> {
         "= #<process c>\n",
         entry.as_str(),
         1024,
-        "> filter default #<process c> \"b\"
-  ! 15 buffer-full
-< default
-= t
-! 15 buffer-full
-= nil
-> sentinel default #<process c> \"finished\\n\"
-  ! 15 buffer-full
-< default
-= nil
-= 9
-= nil
-! 15 buffer-full
-= nil
-buffer *scratch* point 9 min 1 max 4194305 modified t current
-text \"xxxxxxxa",
+        LINES_WHEN_FULL,
     )?;
     let rest = "x".repeat(rt.alloc(), READ - 8)?;
     let text = repeated(rt.alloc(), "", letters.as_str(), 1023, rest.as_str())?;

@@ -1,8 +1,8 @@
 use Rattle.std.proofs.Common.{◌≡◌, ◌++◌, [], ◌∷◌, map, take, slice_get, Some, sym, ap, ◌∙◌, append_assoc, arith}
 use Rattle.std.proofs.lemmas.List.{map-append}
 use Rattle.std.proofs.lemmas.Option.{slice_get-map}
+use Rattle.text_model.proofs.Lists.{take_one_more}
 use Rattle.ek_types.specs.Seen.{ch_of}
-use Rattle.ek_types.proofs.Listed.{take_one_more}
 use Rattle.kernel_top.specs.Plain.{characters}
 use Rattle.kernel_top.proofs.core_text.append.Goals as goal
 

@@ -1,7 +1,7 @@
-use Rattle.std.proofs.Common.{◌≡◌, ◌++◌, [], ◌∷◌, map, take, sym, ap, ◌∙◌, append_assoc, arith}
+use Rattle.std.proofs.Common.{◌++◌, [], ◌∷◌, map, take, sym, ap, ◌∙◌, append_assoc, arith}
 use Rattle.std.proofs.lemmas.List.{map-append}
+use Rattle.text_model.proofs.Lists.{take_one_more}
 use Rattle.ek_types.specs.Seen.{ch_of}
-use Rattle.ek_types.proofs.Listed.{take_one_more}
 use Rattle.kernel_top.proofs.core_text.append_chars.Goals as goal
 
 pub loop-i-preserved : goal.loop-i-preserved

@@ -1,7 +1,4 @@
-use Rattle.std.proofs.Common.{◌≡◌, ℕ, [], ◌∷◌, drop, length, refl, ap, sym, ◌∙◌, subst, arith}
-use Rattle.std.proofs.lemmas.List.{drop_all}
 use Rattle.kernel_top.specs.Outside.{outside}
-use Rattle.kernel_top.specs.Standing.{Hosted, with_unmade}
 use Rattle.kernel_top.proofs.Killing.{at_first}
 use Rattle.kernel_top.proofs.ending.finish.Goals as goal
 

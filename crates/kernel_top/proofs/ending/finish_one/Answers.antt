@@ -1,11 +1,10 @@
-use Rattle.std.proofs.Common.{◌≡◌, ℕ, Bool, true, false, List, [], ◌∷◌, drop, slice_get, refl, ap, sym, ◌∙◌, subst, Ok, Err, arith, append-nil}
-use Rattle.std.specs.Prelude.{Some, None}
+use Rattle.std.proofs.Common.{◌≡◌, true, false, [], ◌∷◌, slice_get, refl, ap, sym, ◌∙◌, subst, arith, append-nil}
+use Rattle.std.specs.Prelude.{Some}
 use Rattle.plain_machine.specs.State.{new_state, Process}
 use Rattle.plain_machine.specs.Arguments.{runs}
 use Rattle.kernel_top.specs.Standing.{stands_at}
 use Rattle.kernel_top.proofs.Killing.{end_skip, hosted_skip, hosted_after, lives, end_broken, end_kills, end_kill_broken}
 use Rattle.kernel_top.proofs.Output.{stood, stopped_by}
-use Rattle.kernel_top.specs.Ending.{IsAtEnd}
 use Rattle.kernel_top.specs.Outside.{outside}
 use Rattle.kernel_top.specs.declared.answer.Stop.TheVariants as stop
 use Rattle.kernel_top.proofs.ending.finish_one.Goals as goal
@@ -29,14 +28,14 @@ pub returns-in_err-so_far-clause-over : goal.returns-in_err-so_far-clause-over
 returns-in_err-so_far-clause-over g c = λ program before from h.
     let made = subst (λ v. slice_get v.beside.processes c.args.p ≡ Some c.get-process.result.now) c.kernel.view_is c.get-process.ensures in
     let is = stopped_by c.from_residual.result c.in_err-so_far.field-0.0 c.from_residual.ensures in
-    rw is (end_broken c.args.kernel.now c.args.p c.get-process.result.now made program before from (sym c.still_runs.ensures ∙ c.if-not-still_runs.false) (g.H.Host.state c.args.host.now) (g.H.Host.state c.kill.new.self) _ c.kill.result (rw c.child.ensures at c.kill.ensures) c.in_err-so_far.field-0.0 (g.K.Sink.state c.args.sink.now) (rw c.in_err-so_far.was at h))
+    rw is (end_broken c.args.kernel.now c.args.p c.get-process.result.now made program before from (sym c.still_runs.ensures ∙ c.if-not-still_runs.false) (g.H.Host.state c.args.host.now) (g.H.Host.state c.kill.new.self) _ c.kill.result (rw c.child.ensures at c.kill.ensures.asked) c.in_err-so_far.field-0.0 (g.K.Sink.state c.args.sink.now) (rw c.in_err-so_far.was at h))
 
 pub returns-in_err-so_far-clause-hosted : goal.returns-in_err-so_far-clause-hosted
 returns-in_err-so_far-clause-hosted g c =
     let made = subst (λ v. slice_get v.beside.processes c.args.p ≡ Some c.get-process.result.now) c.kernel.view_is c.get-process.ensures in
     let after = hosted_after c.args.kernel.now c.args.p c.get-process.result.now made c.args.so_far (g.H.Host.state c.args.host.now).kills c.requires.hosted in
     let is = stopped_by c.from_residual.result c.in_err-so_far.field-0.0 c.from_residual.ensures in
-    rw (is, c.kill.ensures.kills, c.child.ensures) (rw c.in_err-so_far.was at after)
+    rw (is, c.kill.ensures.asked.kills, c.child.ensures) (rw c.in_err-so_far.was at after)
 
 pub returns-in_err-kill_line-clause-over : goal.returns-in_err-kill_line-clause-over
 returns-in_err-kill_line-clause-over g c = λ program before from h.
@@ -47,14 +46,14 @@ returns-in_err-kill_line-clause-over g c = λ program before from h.
     let w = c.in_err-kill_line.ensures program.symbols (stands_at c.args.kernel.now v all) c.args.p y.one y.found (ap (λ (z : Process). z.name) y.same ∙ sym c.name.ensures) in
     let after = hosted_after c.args.kernel.now c.args.p c.get-process.result.now made c.args.so_far (g.H.Host.state c.args.host.now).kills c.requires.hosted in
     rw (stopped_by c.from_residual-in_err-kill_line.result stop.WriteFault c.from_residual-in_err-kill_line.ensures)
-    (end_kill_broken c.args.kernel.now c.args.p c.get-process.result.now made program before from runs_it (g.H.Host.state c.args.host.now) (g.H.Host.state c.kill.new.self) _ c.kill.result (rw c.child.ensures at c.kill.ensures) v all stands (g.K.Sink.state c.args.sink.now) (g.K.Sink.state c.kill_line.new.sink) c.in_err-kill_line.field-0.0 _ (rw c.in_ok-so_far.was at after) goes w)
+    (end_kill_broken c.args.kernel.now c.args.p c.get-process.result.now made program before from runs_it (g.H.Host.state c.args.host.now) (g.H.Host.state c.kill.new.self) _ c.kill.result (rw c.child.ensures at c.kill.ensures.asked) v all stands (g.K.Sink.state c.args.sink.now) (g.K.Sink.state c.kill_line.new.sink) c.in_err-kill_line.field-0.0 _ (rw c.in_ok-so_far.was at after) goes w)
 
 pub returns-in_err-kill_line-clause-hosted : goal.returns-in_err-kill_line-clause-hosted
 returns-in_err-kill_line-clause-hosted g c =
     let made = subst (λ v. slice_get v.beside.processes c.args.p ≡ Some c.get-process.result.now) c.kernel.view_is c.get-process.ensures in
     let after = hosted_after c.args.kernel.now c.args.p c.get-process.result.now made c.args.so_far (g.H.Host.state c.args.host.now).kills c.requires.hosted in
     let is = stopped_by c.from_residual-in_err-kill_line.result stop.WriteFault c.from_residual-in_err-kill_line.ensures in
-    rw (is, append-nil, c.kill.ensures.kills, c.child.ensures) (rw c.in_ok-so_far.was at after)
+    rw (is, append-nil, c.kill.ensures.asked.kills, c.child.ensures) (rw c.in_ok-so_far.was at after)
 
 pub returns-in_err-kill_line-clause-cause : goal.returns-in_err-kill_line-clause-cause
 returns-in_err-kill_line-clause-cause g c = λ faults h.
@@ -68,13 +67,13 @@ returns-clause-over g c = λ program before from h.
     let (v, all, stands, goes) = rw c.in_ok-so_far.was at h in
     let y = stood c.args.kernel.now.beside.processes all c.args.p c.get-process.result.now stands made in
     let w = c.in_ok-kill_line.ensures program.symbols (stands_at c.args.kernel.now v all) c.args.p y.one y.found (ap (λ (z : Process). z.name) y.same ∙ sym c.name.ensures) in
-    (v, all, stands, end_kills c.args.kernel.now c.args.p c.get-process.result.now made program before from runs_it (g.H.Host.state c.args.host.now) (g.H.Host.state c.kill.new.self) _ c.kill.result (rw c.child.ensures at c.kill.ensures) v all stands (g.K.Sink.state c.args.sink.now) (g.K.Sink.state c.kill_line.new.sink) goes w)
+    (v, all, stands, end_kills c.args.kernel.now c.args.p c.get-process.result.now made program before from runs_it (g.H.Host.state c.args.host.now) (g.H.Host.state c.kill.new.self) _ c.kill.result (rw c.child.ensures at c.kill.ensures.asked) v all stands (g.K.Sink.state c.args.sink.now) (g.K.Sink.state c.kill_line.new.sink) goes w)
 
 pub returns-clause-hosted : goal.returns-clause-hosted
 returns-clause-hosted g c =
     let made = subst (λ v. slice_get v.beside.processes c.args.p ≡ Some c.get-process.result.now) c.kernel.view_is c.get-process.ensures in
     let after = hosted_after c.args.kernel.now c.args.p c.get-process.result.now made c.args.so_far (g.H.Host.state c.args.host.now).kills c.requires.hosted in
-    rw (c.kill.ensures.kills, c.child.ensures) (rw c.in_ok-so_far.was at after)
+    rw (c.kill.ensures.asked.kills, c.child.ensures) (rw c.in_ok-so_far.was at after)
 
 pub returns-clause-cause : goal.returns-clause-cause
 returns-clause-cause g c = λ faults h.

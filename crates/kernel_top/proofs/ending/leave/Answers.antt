@@ -1,6 +1,4 @@
-use Rattle.std.proofs.Common.{◌≡◌, ℕ, Bool, true, false, List, [], ◌∷◌, length, refl, ap, sym, ◌∙◌, subst, Ok, Err, arith}
-use Rattle.plain_machine.specs.State.{new_state}
-use Rattle.kernel_top.specs.Standing.{stands_at}
+use Rattle.std.proofs.Common.{[], ap, ◌∙◌, Ok, Err, arith}
 use Rattle.kernel_top.proofs.Finishing.{halts_kill}
 use Rattle.kernel_top.proofs.Killing.{one_at_end, ends_whole, ends_broken}
 use Rattle.kernel_top.proofs.Output.{stopped_by}
@@ -31,4 +29,4 @@ returns-in_ok-dump-in-Ok-clause-cause g c = λ faults h.
 pub returns-in-Err-NoProcess-clause-over : goal.returns-in-Err-NoProcess-clause-over
 returns-in-Err-NoProcess-clause-over g c = λ program before from h.
     let left = one_at_end program before from c.args.kernel.now c.args.so_far (outside (g.K.Sink.state c.args.sink.now) (g.H.Host.state c.args.host.now)) c.in-Err-NoProcess.child (c.in-Err-NoProcess.is ∙ ap Err (rw c.in-Err-NoProcess.is at c.in-Err-NoProcess.field-0-is)) h in
-    halts_kill program before (g.K.Sink.state c.args.sink.now) (g.H.Host.state c.args.host.now) (g.H.Host.state c.kill.new.self) from _ c.in-Err-NoProcess.child [] (kill_answer c.kill.result) c.kill.ensures left
+    halts_kill program before (g.K.Sink.state c.args.sink.now) (g.H.Host.state c.args.host.now) (g.H.Host.state c.kill.new.self) from _ c.in-Err-NoProcess.child [] (kill_answer c.kill.result) c.kill.ensures.asked left

@@ -1,9 +1,7 @@
-use Rattle.std.proofs.Common.{◌≡◌, [], ◌∷◌, sym, ap, subst, arith, Ok, Err}
+use Rattle.std.proofs.Common.{sym, subst, arith}
 use Rattle.process_table.specs.Table.{StandsFor}
-use Rattle.plain_machine.specs.Items.{Top}
 use Rattle.kernel_top.specs.Answers.{replied}
-use Rattle.kernel_top.specs.Outside.{outside}
-use Rattle.kernel_top.specs.Standing.{stands_at, working}
+use Rattle.kernel_top.specs.Standing.{stands_at}
 use Rattle.kernel_top.specs.declared.answer.Stop.TheVariants as stop
 use Rattle.kernel_top.proofs.Entering.{breaks_behind}
 use Rattle.kernel_top.proofs.Journeys.{goes_then}

@@ -1,10 +1,10 @@
-use Rattle.std.proofs.Common.{◌≡◌, ◌+◌, ◌≤◌, [], ◌∷◌, length, map, drop, sym, ap, ◌∙◌, subst, arith}
+use Rattle.std.proofs.Common.{◌+◌, [], ◌∷◌, map, drop, arith}
 use Rattle.plain_machine.specs.Run.{stays}
 use Rattle.plain_machine.specs.Items.{Top}
 use Rattle.ek_types.specs.Listing.{items_of}
-use Rattle.ek_call.specs.Meaning.{form_of, joined, script_of}
+use Rattle.ek_call.specs.Meaning.{form_of, joined}
 use Rattle.kernel_top.specs.Outside.{outside}
-use Rattle.kernel_top.specs.Standing.{stands_at, working, GoesTo}
+use Rattle.kernel_top.specs.Standing.{stands_at, working}
 use Rattle.kernel_top.proofs.Journeys.{goes_silently}
 use Rattle.kernel_top.proofs.Entering.{breaks_behind, goes_behind}
 use Rattle.kernel_top.proofs.Output.{stopped_by}

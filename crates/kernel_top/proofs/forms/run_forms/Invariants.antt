@@ -1,4 +1,4 @@
-use Rattle.std.proofs.Common.{◌≡◌, ◌+◌, ◌≤◌, List, [], ◌∷◌, length, map, drop}
+use Rattle.std.proofs.Common.{◌+◌, ◌≤◌, List, [], ◌∷◌, length, map, drop}
 use Rattle.text_model.specs.Undo.{Undo}
 use Rattle.plain_machine.specs.State.{Process, Program}
 use Rattle.plain_machine.specs.Items.{Top}

@@ -1,15 +1,11 @@
-use Rattle.std.proofs.Common.{◌≡◌, [], ◌∷◌, sym, ap, refl, subst, arith, List}
+use Rattle.std.proofs.Common.{[], ap}
 use Rattle.editor_model.specs.Editor.{empty_buffer}
-use Rattle.editor_model.specs.Values.{NoForms}
-use Rattle.plain_machine.specs.State.{Process}
 use Rattle.plain_machine.specs.Run.{start}
-use Rattle.plain_machine.specs.Items.{Top}
 use Rattle.process_table.specs.Table.{StandsFor}
 use Rattle.ek_call.specs.Meaning.{script_of}
-use Rattle.kernel_top.specs.Plain.{Kernel, new_kernel}
+use Rattle.kernel_top.specs.Plain.{Kernel}
 use Rattle.kernel_top.specs.Outside.{outside}
 use Rattle.kernel_top.specs.Outcomes.{program_for}
-use Rattle.kernel_top.specs.Standing.{stands_at, working, Comes}
 use Rattle.kernel_top.proofs.Running.{ran, stopped}
 use Rattle.kernel_top.proofs.forms.run_script.Goals as goal
 

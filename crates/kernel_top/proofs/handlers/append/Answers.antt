@@ -1,6 +1,6 @@
 use Rattle.std.proofs.Common.{◌++◌, [], ◌∷◌, take, ap, sym, ◌∙◌, append_assoc}
+use Rattle.text_model.proofs.Lists.{take_one_more}
 use Rattle.ek_types.specs.Seen.{ch_of}
-use Rattle.ek_types.proofs.Listed.{take_one_more}
 use Rattle.kernel_top.proofs.handlers.append.Goals as goal
 
 pub loop-i-preserved : goal.loop-i-preserved

@@ -1,18 +1,16 @@
-use Rattle.std.proofs.Common.{◌≡◌, ◌<◌, [], ◌∷◌, sym, ap, length, arith, ◌∙◌, subst, refl, get_or, slice_get, false, true}
-use Rattle.std.specs.Prelude.{Some, None}
+use Rattle.std.proofs.Common.{◌≡◌, ◌<◌, [], ◌∷◌, sym, ap, length, arith, ◌∙◌, subst, refl, slice_get, false, true}
+use Rattle.std.specs.Prelude.{Some}
 use Rattle.text_model.specs.Properties.{bare}
 use Rattle.editor_model.specs.Values.{Str, TheProcess}
 use Rattle.plain_machine.specs.State.{new_state, Process}
 use Rattle.plain_machine.specs.Lines.{OfFilter}
-use Rattle.plain_machine.specs.Items.{Wait, Enter}
-use Rattle.kernel_top.specs.Plain.{IsSound}
-use Rattle.kernel_top.specs.Outside.{outside, Goes}
-use Rattle.kernel_top.specs.Hearing.{filter_entry}
-use Rattle.kernel_top.specs.Standing.{stands_at, inside, working, Comes, BreaksAt}
+use Rattle.plain_machine.specs.Items.{Wait}
+use Rattle.kernel_top.specs.Outside.{outside}
+use Rattle.kernel_top.specs.Standing.{stands_at, inside}
 use Rattle.kernel_top.specs.declared.answer.Stop.TheVariants as stop
-use Rattle.kernel_top.proofs.Journeys.{goes_silently, goes_then}
+use Rattle.kernel_top.proofs.Journeys.{goes_then}
 use Rattle.kernel_top.proofs.Handling.{filter_entered}
-use Rattle.kernel_top.proofs.Output.{caused_later, some_text, nobody, made_one, stopped_by, stood}
+use Rattle.kernel_top.proofs.Output.{caused_later, some_text, stopped_by, stood}
 use Rattle.kernel_top.proofs.Entering.{nothing_entered, breaks_behind, filter_entered_with, entry_goes, entry_breaks, filter_left, filter_left_breaks}
 use Rattle.kernel_top.proofs.handlers.enter_filter.Goals as goal
 

@@ -1,22 +1,21 @@
-use Rattle.std.proofs.Common.{◌≡◌, ◌<◌, [], ◌∷◌, sym, ap, length, arith, ◌∙◌, subst, refl, get_or, slice_get, false, true}
-use Rattle.std.specs.Prelude.{Some, None}
+use Rattle.std.proofs.Common.{◌≡◌, [], ◌∷◌, sym, ap, arith, ◌∙◌, subst, refl, slice_get}
+use Rattle.std.specs.Prelude.{Some}
 use Rattle.text_model.specs.Properties.{bare}
 use Rattle.editor_model.specs.Values.{Str, TheProcess}
 use Rattle.plain_machine.specs.State.{new_state, Process, change_process}
 use Rattle.plain_machine.specs.Lines.{OfSentinel}
-use Rattle.plain_machine.specs.Items.{Wait, Enter}
-use Rattle.kernel_top.specs.Plain.{Kernel, IsSound}
-use Rattle.kernel_top.specs.Outside.{outside, Goes}
+use Rattle.plain_machine.specs.Items.{Wait}
+use Rattle.kernel_top.specs.Plain.{Kernel}
 use Rattle.kernel_top.specs.Hearing.{words_of_sentinel}
-use Rattle.kernel_top.specs.Standing.{Hosted, stands_at, inside, working, Comes, BreaksAt}
+use Rattle.kernel_top.specs.Standing.{Hosted, stands_at, inside}
 use Rattle.kernel_top.specs.declared.answer.Stop.TheVariants as stop
-use Rattle.kernel_top.proofs.Journeys.{goes_silently, goes_then}
+use Rattle.kernel_top.proofs.Journeys.{goes_then}
 use Rattle.kernel_top.proofs.Handling.{sentinel_entered}
 use Rattle.plain_machine.specs.Handling.{unlisted}
 use Rattle.process_table.specs.Table.{changed}
 use Rattle.kernel_top.proofs.Keeping.{hosted_changed}
-use Rattle.kernel_top.proofs.Output.{caused_later, some_text, nobody, made_one, stopped_by, stood}
-use Rattle.kernel_top.proofs.Entering.{nothing_entered, breaks_behind, filter_entered_with, entry_goes, entry_breaks, entered_breaks, sentinel_left, sentinel_left_breaks}
+use Rattle.kernel_top.proofs.Output.{caused_later, stopped_by, stood}
+use Rattle.kernel_top.proofs.Entering.{breaks_behind, entry_goes, entry_breaks, entered_breaks, sentinel_left, sentinel_left_breaks}
 use Rattle.kernel_top.proofs.handlers.enter_sentinel.Goals as goal
 
 pub returns-in_err-enter_sentinel-clause-comes : goal.returns-in_err-enter_sentinel-clause-comes

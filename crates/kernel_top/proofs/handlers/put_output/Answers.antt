@@ -1,7 +1,6 @@
 use Rattle.std.proofs.Common.{[], sym, ap, length, arith, ◌∙◌, ◌≤◌, ◌<◌, ◌+◌, subst, get_or}
 use Rattle.editor_model.specs.Limits.{longest_text}
 use Rattle.plain_machine.specs.State.{new_state}
-use Rattle.plain_machine.specs.State.{Program}
 use Rattle.kernel_top.specs.Plain.{IsSound}
 use Rattle.kernel_top.specs.Standing.{stands_at, inside}
 use Rattle.kernel_top.specs.declared.answer.Stop.TheVariants as stop

@@ -1,15 +1,11 @@
-use Rattle.std.proofs.Common.{◌≡◌, ◌<◌, ◌++◌, [], ◌∷◌, sym, ap, length, arith, ◌∙◌, subst, refl, get_or, slice_get, false, true}
-use Rattle.std.specs.Prelude.{Some, None}
-use Rattle.text_model.specs.Decoding.{characters, all_characters, tail}
-use Rattle.plain_machine.specs.State.{State, Process, change_process}
+use Rattle.std.proofs.Common.{◌++◌, sym, ap, ◌∙◌, subst, refl, true}
+use Rattle.text_model.specs.Decoding.{characters, all_characters}
+use Rattle.plain_machine.specs.State.{Process, change_process}
 use Rattle.plain_machine.specs.Waits.{more_characters}
 use Rattle.plain_machine.specs.Waits.{asked_more as asked_one}
-use Rattle.plain_machine.specs.Items.{Wait}
-use Rattle.process_table.specs.Table.{StandsFor, changed, held_by, with_held, with_drained, with_status}
-use Rattle.kernel_top.specs.Plain.{Kernel, with_table, asked_more}
-use Rattle.kernel_top.specs.Outside.{outside}
-use Rattle.kernel_top.specs.Hearing.{filter_entry}
-use Rattle.kernel_top.specs.Standing.{Hosted, stands_at, working, Comes}
+use Rattle.process_table.specs.Table.{StandsFor, changed, with_drained}
+use Rattle.kernel_top.specs.Plain.{Kernel}
+use Rattle.kernel_top.specs.Standing.{Hosted, stands_at}
 use Rattle.kernel_top.proofs.Keeping.{hosted_changed, asked_and_changed}
 use Rattle.kernel_top.proofs.Output.{kept_is}
 use Rattle.kernel_top.proofs.hearing.drain.Goals as goal

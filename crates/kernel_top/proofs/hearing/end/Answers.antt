@@ -1,12 +1,9 @@
-use Rattle.std.proofs.Common.{◌≡◌, ◌<◌, ◌++◌, [], ◌∷◌, sym, ap, length, arith, ◌∙◌, subst, refl, get_or, slice_get, false, true, take, rules, SFits, w32, to_z, of_z}
-use Rattle.std.specs.Prelude.{Some, None}
+use Rattle.std.proofs.Common.{◌∷◌, sym, subst, refl, rules, SFits, w32, to_z, of_z}
 use Rattle.std.proofs.lemmas.Int.{to_z-of_z}
-use Rattle.plain_machine.specs.State.{State, Process, change_process}
-use Rattle.plain_machine.specs.Items.{Wait, Enter}
-use Rattle.process_table.specs.Table.{StandsFor}
-use Rattle.kernel_top.specs.Plain.{Kernel, IsSound, asked_more}
-use Rattle.kernel_top.specs.Outside.{outside, Goes}
-use Rattle.kernel_top.specs.Standing.{Hosted, stands_at, working, Comes}
+use Rattle.plain_machine.specs.Items.{Wait}
+use Rattle.kernel_top.specs.Plain.{IsSound}
+use Rattle.kernel_top.specs.Outside.{outside}
+use Rattle.kernel_top.specs.Standing.{stands_at, working}
 use Rattle.kernel_top.specs.declared.answer.Stop.TheVariants as stop
 use Rattle.kernel_top.proofs.Keeping.{stays_hosted, hosted_at}
 use Rattle.kernel_top.proofs.Journeys.{breaks_here}
@@ -27,7 +24,7 @@ returns-in_err-code-clause-comes g c = λ program w v target rest u all stands a
     let k = c.args.kernel.now in
     let o = outside (g.K.Sink.state c.args.sink.now) (g.H.Host.state c.args.host.now) in
     let from = working (stands_at k u all) (Wait w target ∷ rest) in
-    rw (stopped_by c.from_residual.result stop.NoMemory c.from_residual.ensures, c.in_err-code.ensures)
+    rw (stopped_by c.from_residual.result stop.NoMemory c.from_residual.ensures, c.in_err-code.ensures.asked)
     (breaks_at program o o from k stop.NoMemory all (breaks_here program o from tt) stands refl tt refl)
 
 pub returns-in-Code-clause-comes : goal.returns-in-Code-clause-comes
@@ -38,13 +35,13 @@ returns-in-Code-clause-comes g c = λ program w v target rest u all stands asks.
     let sink = g.K.Sink.state c.args.sink.now in
     let old = g.H.Host.state c.args.host.now in
     let new = g.H.Host.state c.end.new.self in
-    let x = rw (child_of c.args.process c.kernel.view_is c.get.ensures c.child-child.ensures c.requires.asked.made) at (subst (λ e. Exchanged old new old.kills (AskEnd c.child-child.result) (ended_answer e)) c.in-Code.is c.in_ok-code.ensures) in
+    let x = rw (child_of c.args.process c.kernel.view_is c.get.ensures c.child-child.ensures c.requires.asked.made) at (subst (λ e. Exchanged old new old.kills (AskEnd c.child-child.result) (ended_answer e)) c.in-Code.is c.in_ok-code.ensures.asked) in
     comes_behind c.ended.result program (outside sink old) (outside sink new) _ _ _ _ _ (ended_by_code program k sound u all stands c.args.process w v target rest asks c.requires.asked sink old new old.kills (to_z w32 (of_z w32 c.in-Code.code)) (subst (λ n. Exchanged old new old.kills (AskEnd c.requires.asked.process.child) (Code n)) (sym (to_z-of_z w32 c.in-Code.code fits)) x)) (c.ended.ensures.comes new program v target rest u all stands)
 
 pub returns-in-Code-clause-hosted : goal.returns-in-Code-clause-hosted
 returns-in-Code-clause-hosted g c =
     let old = g.H.Host.state c.args.host.now in
-    let kills = (subst (λ e. Exchanged old (g.H.Host.state c.end.new.self) old.kills (AskEnd c.child-child.result) (ended_answer e)) c.in-Code.is c.in_ok-code.ensures).kills in
+    let kills = (subst (λ e. Exchanged old (g.H.Host.state c.end.new.self) old.kills (AskEnd c.child-child.result) (ended_answer e)) c.in-Code.is c.in_ok-code.ensures.asked).kills in
     stays_hosted c.ended.result c.args.kernel.now c.ended.new.kernel old.kills (g.H.Host.state c.end.new.self).kills c.ended.ensures.plain kills (c.ended.ensures.hosted old.kills c.requires.hosted) c.ended.ensures.count
 
 pub returns-in-Signal-clause-comes : goal.returns-in-Signal-clause-comes
@@ -54,13 +51,13 @@ returns-in-Signal-clause-comes g c = λ program w v target rest u all stands ask
     let sink = g.K.Sink.state c.args.sink.now in
     let old = g.H.Host.state c.args.host.now in
     let new = g.H.Host.state c.end.new.self in
-    let x = rw (child_of c.args.process c.kernel.view_is c.get.ensures c.child-child.ensures c.requires.asked.made) at (subst (λ e. Exchanged old new old.kills (AskEnd c.child-child.result) (ended_answer e)) c.in-Signal.is c.in_ok-code.ensures) in
+    let x = rw (child_of c.args.process c.kernel.view_is c.get.ensures c.child-child.ensures c.requires.asked.made) at (subst (λ e. Exchanged old new old.kills (AskEnd c.child-child.result) (ended_answer e)) c.in-Signal.is c.in_ok-code.ensures.asked) in
     comes_behind c.ended-in-Signal.result program (outside sink old) (outside sink new) _ _ _ _ _ (ended_by_signal program k sound u all stands c.args.process w v target rest asks c.requires.asked sink old new old.kills x) (c.ended-in-Signal.ensures.comes new program v target rest u all stands)
 
 pub returns-in-Signal-clause-hosted : goal.returns-in-Signal-clause-hosted
 returns-in-Signal-clause-hosted g c =
     let old = g.H.Host.state c.args.host.now in
-    let kills = (subst (λ e. Exchanged old (g.H.Host.state c.end.new.self) old.kills (AskEnd c.child-child.result) (ended_answer e)) c.in-Signal.is c.in_ok-code.ensures).kills in
+    let kills = (subst (λ e. Exchanged old (g.H.Host.state c.end.new.self) old.kills (AskEnd c.child-child.result) (ended_answer e)) c.in-Signal.is c.in_ok-code.ensures.asked).kills in
     stays_hosted c.ended-in-Signal.result c.args.kernel.now c.ended-in-Signal.new.kernel old.kills (g.H.Host.state c.end.new.self).kills c.ended-in-Signal.ensures.plain kills (c.ended-in-Signal.ensures.hosted old.kills c.requires.hosted) c.ended-in-Signal.ensures.count
 
 pub returns-in-Failed-clause-comes : goal.returns-in-Failed-clause-comes
@@ -70,13 +67,13 @@ returns-in-Failed-clause-comes g c = λ program w v target rest u all stands ask
     let sink = g.K.Sink.state c.args.sink.now in
     let old = g.H.Host.state c.args.host.now in
     let new = g.H.Host.state c.end.new.self in
-    let x = rw (child_of c.args.process c.kernel.view_is c.get.ensures c.child-child.ensures c.requires.asked.made) at (subst (λ e. Exchanged old new old.kills (AskEnd c.child-child.result) (ended_answer e)) c.in-Failed.is c.in_ok-code.ensures) in
+    let x = rw (child_of c.args.process c.kernel.view_is c.get.ensures c.child-child.ensures c.requires.asked.made) at (subst (λ e. Exchanged old new old.kills (AskEnd c.child-child.result) (ended_answer e)) c.in-Failed.is c.in_ok-code.ensures.asked) in
     comes_behind c.ended-in-Failed.result program (outside sink old) (outside sink new) _ _ _ _ _ (end_lost program k sound u all stands c.args.process w v target rest asks c.requires.asked sink old new old.kills x) (c.ended-in-Failed.ensures.comes new program v target rest u all stands)
 
 pub returns-in-Failed-clause-hosted : goal.returns-in-Failed-clause-hosted
 returns-in-Failed-clause-hosted g c =
     let old = g.H.Host.state c.args.host.now in
-    let kills = (subst (λ e. Exchanged old (g.H.Host.state c.end.new.self) old.kills (AskEnd c.child-child.result) (ended_answer e)) c.in-Failed.is c.in_ok-code.ensures).kills in
+    let kills = (subst (λ e. Exchanged old (g.H.Host.state c.end.new.self) old.kills (AskEnd c.child-child.result) (ended_answer e)) c.in-Failed.is c.in_ok-code.ensures.asked).kills in
     stays_hosted c.ended-in-Failed.result c.args.kernel.now c.ended-in-Failed.new.kernel old.kills (g.H.Host.state c.end.new.self).kills c.ended-in-Failed.ensures.plain kills (c.ended-in-Failed.ensures.hosted old.kills c.requires.hosted) c.ended-in-Failed.ensures.count
 
 pub returns-in-Running-clause-comes : goal.returns-in-Running-clause-comes
@@ -86,5 +83,5 @@ returns-in-Running-clause-comes g c = λ program w v target rest u all stands as
     let sink = g.K.Sink.state c.args.sink.now in
     let old = g.H.Host.state c.args.host.now in
     let new = g.H.Host.state c.end.new.self in
-    let x = rw (child_of c.args.process c.kernel.view_is c.get.ensures c.child-child.ensures c.requires.asked.made) at (subst (λ e. Exchanged old new old.kills (AskEnd c.child-child.result) (ended_answer e)) c.in-Running.is c.in_ok-code.ensures) in
+    let x = rw (child_of c.args.process c.kernel.view_is c.get.ensures c.child-child.ensures c.requires.asked.made) at (subst (λ e. Exchanged old new old.kills (AskEnd c.child-child.result) (ended_answer e)) c.in-Running.is c.in_ok-code.ensures.asked) in
     rw c.note_asked.ensures (u, all, stands, still_runs program k sound u all stands c.args.process w v target rest asks c.requires.asked sink old new old.kills x)

@@ -1,7 +1,7 @@
-use Rattle.std.proofs.Common.{◌≡◌, ◌<◌, ◌++◌, [], ◌∷◌, sym, ap, length, arith, ◌∙◌, subst, refl, get_or, slice_get, false, true}
-use Rattle.std.specs.Prelude.{Some, None}
+use Rattle.std.proofs.Common.{[], ◌∷◌, sym, ap, length, arith, ◌∙◌, subst, refl}
+use Rattle.std.specs.Prelude.{None}
 use Rattle.std.proofs.lemmas.Option.{slice_get_within}
-use Rattle.plain_machine.specs.State.{State, Process, change_process}
+use Rattle.plain_machine.specs.State.{change_process}
 use Rattle.plain_machine.specs.Waits.{asked_more as asked_one}
 use Rattle.plain_machine.specs.Items.{Wait, Enter}
 use Rattle.plain_machine.specs.Lines.{OfSentinel}
@@ -9,10 +9,10 @@ use Rattle.process_table.specs.Meaning.{status_of}
 use Rattle.process_table.specs.Table.{StandsFor, changed, with_status}
 use Rattle.text_model.specs.Properties.{bare}
 use Rattle.editor_model.specs.Values.{Str, TheProcess}
-use Rattle.kernel_top.specs.Plain.{Kernel, with_table, asked_more}
+use Rattle.kernel_top.specs.Plain.{Kernel}
 use Rattle.kernel_top.specs.Outside.{outside}
 use Rattle.kernel_top.specs.Hearing.{told_of}
-use Rattle.kernel_top.specs.Standing.{Hosted, stands_at, working, Comes}
+use Rattle.kernel_top.specs.Standing.{Hosted, stands_at, working}
 use Rattle.kernel_top.specs.declared.answer.Stop.TheVariants as stop
 use Rattle.kernel_top.proofs.Keeping.{hosted_changed, asked_and_changed, changed_length, not_running}
 use Rattle.kernel_top.proofs.Journeys.{breaks_here}

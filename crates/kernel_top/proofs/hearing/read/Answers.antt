@@ -1,16 +1,12 @@
-use Rattle.std.proofs.Common.{◌≡◌, ◌<◌, ◌≤◌, ◌++◌, [], ◌∷◌, sym, ap, length, arith, ◌∙◌, subst, refl, get_or, slice_get, false, true, take, rules, SFits, w32, to_z, of_z, append-nil}
-use Rattle.std.specs.Prelude.{Some, None}
+use Rattle.std.proofs.Common.{◌≡◌, ◌≤◌, ◌∷◌, ap, length, arith, subst, refl, false, true, take, append-nil}
 use Rattle.std.proofs.lemmas.Option.{slice_get_within}
 use Rattle.wait_loop.specs.KeptWaits.{noted}
-use Rattle.std.proofs.lemmas.Int.{to_z-of_z}
-use Rattle.plain_machine.specs.State.{State, Process, change_process}
-use Rattle.plain_machine.specs.Items.{Wait, Enter}
-use Rattle.process_table.specs.Table.{StandsFor}
-use Rattle.kernel_top.specs.Plain.{Kernel, IsSound, asked_more}
-use Rattle.kernel_top.specs.Outside.{outside, Goes}
-use Rattle.kernel_top.specs.Standing.{Hosted, stands_at, working, Comes}
+use Rattle.plain_machine.specs.Items.{Wait}
+use Rattle.kernel_top.specs.Plain.{Kernel, IsSound}
+use Rattle.kernel_top.specs.Outside.{outside}
+use Rattle.kernel_top.specs.Standing.{stands_at, working}
 use Rattle.kernel_top.specs.declared.answer.Stop.TheVariants as stop
-use Rattle.kernel_top.proofs.Keeping.{stays_hosted, hosted_at}
+use Rattle.kernel_top.proofs.Keeping.{hosted_at}
 use Rattle.kernel_top.proofs.Journeys.{breaks_here}
 use Rattle.kernel_top.proofs.Entering.{breaks_behind, goes_behind}
 use Rattle.kernel_top.proofs.Output.{stopped_by, breaks_at}

@@ -1,4 +1,3 @@
-use Rattle.kernel_top.proofs.Launching.{start_is_refused, spawn_failed, spawn_started}
 use Rattle.std.proofs.Common.{◌++◌, [], ◌∷◌, ap, sym, ◌∙◌}
 use Rattle.ek_types.specs.Seen.{ch_of}
 use Rattle.kernel_top.proofs.Starts.{characters_more}

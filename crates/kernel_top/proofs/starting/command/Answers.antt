@@ -1,4 +1,4 @@
-use Rattle.std.proofs.Common.{◌≡◌, ◌≤◌, ◌<◌, length, map, drop, sym, ap, ◌∙◌, arith, refl}
+use Rattle.std.proofs.Common.{◌≡◌, length, map, drop, sym, ap, ◌∙◌, arith, refl}
 use Rattle.text_model.specs.Properties.{bare}
 use Rattle.plain_machine.specs.Arguments.{encoded, process_name, find_process}
 use Rattle.ek_types.specs.Listing.{items_of}

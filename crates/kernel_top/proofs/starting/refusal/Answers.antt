@@ -1,5 +1,5 @@
-use Rattle.std.proofs.Common.{◌≡◌, ℕ, length, map, sym, ap, ◌∙◌, refl, true, false, arith, ◌<◌, ◌≤◌}
-use Rattle.std.specs.Prelude.{nat_lt, nat_le, ◌==◌, not, ◌||◌, if◌then◌else◌}
+use Rattle.std.proofs.Common.{◌≡◌, length, map, sym, ap, ◌∙◌, refl, true, false, arith}
+use Rattle.std.specs.Prelude.{nat_lt, nat_le, ◌==◌}
 use Rattle.std.proofs.lemmas.Bool.{lt-ltb, le-ltb, lt-leb, le-leb}
 use Rattle.editor_model.specs.Limits.{longest_name, most_markers}
 use Rattle.plain_machine.specs.Refusals.{most_processes, most_exchanges}

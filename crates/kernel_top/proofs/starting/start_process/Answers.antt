@@ -1,9 +1,8 @@
-use Rattle.std.proofs.Common.{◌≡◌, ◌+◌, ◌<◌, ◌≤◌, [], ◌∷◌, ◌++◌, map, drop, length, ap, sym, subst, ◌∙◌, refl, arith, option_map, false, string_bytes, length-append}
+use Rattle.std.proofs.Common.{◌≡◌, ◌+◌, [], ◌∷◌, ◌++◌, map, drop, length, ap, sym, subst, ◌∙◌, refl, arith, option_map, false, string_bytes, length-append}
 use Rattle.std.specs.Prelude.{Some, None}
+use Rattle.std.proofs.lemmas.Bool.{ltb-true}
 use Rattle.text_model.specs.Properties.{bare}
-use Rattle.editor_model.specs.Values.{Const, Answered, TheProcess, plain, Then, StartProcess}
-use Rattle.editor_model.specs.Arguments.{string_of}
-use Rattle.plain_machine.specs.Arguments.{encoded}
+use Rattle.editor_model.specs.Values.{Const, Answered, TheProcess}
 use Rattle.plain_machine.specs.Items.{Top}
 use Rattle.plain_machine.specs.Exchanges.{Spawn, Started}
 use Rattle.plain_machine.specs.Exchanges as model
@@ -17,14 +16,14 @@ use Rattle.ek_call.specs.Faults.{fault_of}
 use Rattle.kernel_top.specs.Plain.{Kernel, with_process, asked_more, reply_item}
 use Rattle.kernel_top.specs.Outside.{outside}
 use Rattle.kernel_top.specs.Standing.{stands_at, working}
-use Rattle.kernel_top.specs.Starting.{start_refused, buffer_of}
+use Rattle.kernel_top.specs.Starting.{buffer_of}
 use Rattle.kernel_top.specs.declared.answer.Answer.TheVariants as answer
 use Rattle.kernel_top.specs.declared.answer.Stop.TheVariants as stop
 use Rattle.kernel_top.proofs.Journeys.{breaks_here, goes_breaks}
 use Rattle.kernel_top.proofs.Output.{breaks_at, stopped_by}
 use Rattle.kernel_top.proofs.Launching.{form_first, start_is_refused, spawn_failed, spawn_started}
 use Rattle.kernel_top.proofs.HostedLemmas.{hosted_none, hosted_started}
-use Rattle.kernel_top.proofs.Refusing.{is_allowed_for, below}
+use Rattle.kernel_top.proofs.Refusing.{is_allowed_for}
 use Rattle.kernel_top.proofs.Started.{home_of, asked_of, stands_more, left_with, same_made, fault_not_made, given_not_stopped, stopped_not_made, memory_no_fault, process_no_fault}
 use Rattle.kernel_top.proofs.starting.start_process.Goals as goal
 
@@ -139,7 +138,7 @@ add-requires-clause-processes g c =
     let args = map arg_of (items_of c.args.args.now) in
     let may = sym (c.why_refused.ensures start) ∙ ap (option_map fault_of) c.in_default.is in
     let allowed = is_allowed_for k (bare start.name) (bare start.program) (drop 2 args) may in
-    rw c.note_asked.ensures (below (length k.beside.processes) most_processes allowed.few_are)
+    rw c.note_asked.ensures (ltb-true (length k.beside.processes) most_processes allowed.few_are)
 
 pub add-requires-clause-markers : goal.add-requires-clause-markers
 add-requires-clause-markers g c =
@@ -148,7 +147,7 @@ add-requires-clause-markers g c =
     let args = map arg_of (items_of c.args.args.now) in
     let may = sym (c.why_refused.ensures start) ∙ ap (option_map fault_of) c.in_default.is in
     let allowed = is_allowed_for k (bare start.name) (bare start.program) (drop 2 args) may in
-    rw c.note_asked.ensures (below (length k.beside.markers) most_markers allowed.marks_are)
+    rw c.note_asked.ensures (ltb-true (length k.beside.markers) most_markers allowed.marks_are)
 
 pub add-requires-clause-free : goal.add-requires-clause-free
 add-requires-clause-free g c = rw c.note_asked.ensures c.in_ok-command.ensures.free

@@ -1,4 +1,4 @@
-use Rattle.std.proofs.Common.{◌≡◌, ◌≤◌, ◌<◌, ◌-◌, take, length, map, drop, sym, ap, ◌∙◌, arith}
+use Rattle.std.proofs.Common.{◌-◌, take, length, map, drop, sym, ap, ◌∙◌, arith}
 use Rattle.text_model.specs.Properties.{bare}
 use Rattle.std.proofs.lemmas.List.{drop-map}
 use Rattle.ek_types.specs.Listing.{items_of}

@@ -1,15 +1,18 @@
 use Rattle.std.proofs.Common.{◌++◌, take, arith, length-append}
 use Rattle.std.proofs.lemmas.List.{length-take}
+use Rattle.kernel_top.specs.declared.top.Refused.TheVariants as refused
+use Rattle.kernel_top.proofs.Output.{stopped_by}
 use Rattle.kernel_top.proofs.Taking.{ended, consumes_kept, consumes_more}
 use Rattle.kernel_top.proofs.top.read_all.Goals as goal
 
-pub returns-in_default-clause-some : goal.returns-in_default-clause-some
-returns-in_default-clause-some g c = (
-  c.loop-piece.all.items ++ take c.in-Bytes.n c.read.new.into,
-  consumes_more _ _ _ c.loop-piece.all.items (take c.in-Bytes.n c.read.new.into) c.loop-piece.invariant.taken c.in-Bytes.ensures.bytes.2,
-  omega (arith, length-append c.loop-piece.all.items (take c.in-Bytes.n c.read.new.into), length-take c.in-Bytes.n c.read.new.into, c.loop-piece-test.true, c.len.ensures, c.len-in-loop-piece.ensures, c.min-room.ensures, c.read.auto.into, length-take c.min-room.result c.loop-piece.piece),
-  λ e. cc,
-)
+pub returns-in_err-extend_from_slice-in-Bytes-clause-some : goal.returns-in_err-extend_from_slice-in-Bytes-clause-some
+returns-in_err-extend_from_slice-in-Bytes-clause-some g c =
+    rw (stopped_by c.from_residual.result refused.NoMemory c.from_residual.ensures) (
+      c.loop-piece.all.items ++ take c.in-Bytes.n c.read.new.into,
+      consumes_more _ _ _ c.loop-piece.all.items (take c.in-Bytes.n c.read.new.into) c.loop-piece.invariant.taken c.in-Bytes.ensures.bytes.2,
+      omega (arith, length-append c.loop-piece.all.items (take c.in-Bytes.n c.read.new.into), length-take c.in-Bytes.n c.read.new.into, c.loop-piece-test.true, c.len.ensures, c.len-in-loop-piece.ensures, c.min-room.ensures, c.read.auto.into, length-take c.min-room.result c.loop-piece.piece),
+      λ e. cc,
+    )
 
 pub returns-in-End-clause-all : goal.returns-in-End-clause-all
 returns-in-End-clause-all g c = (

@@ -1,4 +1,4 @@
-use Rattle.std.proofs.Common.{◌≡◌, [], ◌∷◌, map, sym, ap, ◌∙◌, subst, refl, false}
+use Rattle.std.proofs.Common.{[], ◌∷◌, map, sym, ap, ◌∙◌, subst, refl, false}
 use Rattle.std.specs.Prelude.{None}
 use Rattle.plain_machine.specs.Run.{Reaches}
 use Rattle.kernel_top.specs.Plain.{reply_item}

@@ -1,6 +1,6 @@
-use Rattle.std.proofs.Common.{◌≡◌, ◌≤◌, ◌+◌, [], ◌∷◌, length, sym, ap, ◌∙◌, subst, arith}
-use Rattle.std.specs.Prelude.{Some, None, IfNone}
-use Rattle.plain_machine.specs.Items.{Item, Top, Wait, Nowhere}
+use Rattle.std.proofs.Common.{[], ◌∷◌, ◌∙◌, subst, arith}
+use Rattle.std.specs.Prelude.{Some}
+use Rattle.plain_machine.specs.Items.{Top, Wait, Nowhere}
 use Rattle.plain_machine.specs.Run.{stays}
 use Rattle.kernel_top.specs.Plain.{reply_item}
 use Rattle.kernel_top.specs.Answers.{replied}

@@ -1,8 +1,8 @@
-use Rattle.std.proofs.Common.{◌≡◌, ◌<◌, [], ◌∷◌, length, refl, sym, ap, ◌∙◌, subst, true, false, get_or, slice_get}
-use Rattle.std.specs.Prelude.{Some, None, nat_lt}
-use Rattle.editor_model.specs.Values.{T, Nil, ExchangesSpent}
+use Rattle.std.proofs.Common.{◌≡◌, ◌<◌, [], ◌∷◌, length, refl, sym, ◌∙◌, subst, true, false, get_or}
+use Rattle.std.specs.Prelude.{nat_lt}
+use Rattle.editor_model.specs.Values.{T, Nil}
 use Rattle.plain_machine.specs.State.{Process}
-use Rattle.plain_machine.specs.Items.{Item, Top, Wait, Nowhere}
+use Rattle.plain_machine.specs.Items.{Top, Wait, Nowhere}
 use Rattle.plain_machine.specs.Refusals.{most_exchanges}
 use Rattle.plain_machine.proofs.Composed.{reaches_then}
 use Rattle.process_table.specs.Table.{StandsFor, with_table}
@@ -12,10 +12,10 @@ use Rattle.wait_loop.specs.declared.rounds.Step.TheVariants.{Done}
 use Rattle.kernel_top.specs.Plain.{Kernel}
 use Rattle.kernel_top.specs.Outside.{outside, deepest}
 use Rattle.kernel_top.specs.Standing.{stands_at, working}
-use Rattle.kernel_top.proofs.Journeys.{goes_silently, goes_then}
+use Rattle.kernel_top.proofs.Journeys.{goes_silently}
 use Rattle.kernel_top.proofs.Entering.{breaks_behind, goes_behind}
 use Rattle.kernel_top.proofs.Output.{stopped_by, nobody, made_one}
-use Rattle.kernel_top.proofs.Turning.{waits, answers, asks_soon, spent, eligible_runs}
+use Rattle.kernel_top.proofs.Turning.{answers, asks_soon, spent, eligible_runs}
 use Rattle.kernel_top.proofs.waiting.turn.Goals as goal
 
 pub returns-in-Done-true-clause-comes : goal.returns-in-Done-true-clause-comes

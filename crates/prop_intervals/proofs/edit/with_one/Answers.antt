@@ -1,5 +1,7 @@
+use Rattle.text_model.proofs.Cases.{IfOk-weaker}
 use Rattle.prop_intervals.proofs.EditLemmas.{one_put}
 use Rattle.prop_intervals.proofs.edit.with_one.Goals as goal
 
 pub returns : goal.returns
-returns c = one_put c.args.more.now c.args.set _ c.args.i _ _ c.requires.proper c.at.ensures c.in_ok-set.ensures
+returns c =
+    IfOk-weaker _ _ (λ s e. one_put c.args.more.now c.args.set s c.args.i _ _ c.requires.proper c.at.ensures e) c.with.result c.with.ensures

@@ -8,10 +8,10 @@ pub returns-clause-sets : goal.returns-clause-sets
 returns-clause-sets c =
     let last : List Run = (c.args.set, c.args.len) ∷ [] in
     let one : c.join.result ≡ last = c.join.ensures ∙ rw (c.new.ensures, c.new-2.ensures, c.in_ok-node.ensures) refl in
-    rw (c.glue-tree.ensures, one) (sets_of-glued c.args.tree last ∙ ap (λ s. sets_of c.args.tree ++ s) (append-nil (replicate c.args.len c.args.set)))
+    rw (c.glue.ensures, one) (sets_of-glued c.args.tree last ∙ ap (λ s. sets_of c.args.tree ++ s) (append-nil (replicate c.args.len c.args.set)))
 
 pub returns-clause-apart : goal.returns-clause-apart
 returns-clause-apart c =
     let last : List Run = (c.args.set, c.args.len) ∷ [] in
     let one : c.join.result ≡ last = c.join.ensures ∙ rw (c.new.ensures, c.new-2.ensures, c.in_ok-node.ensures) refl in
-    rw (c.glue-tree.ensures, one) (apart-glued c.args.tree last c.requires.apart (c.requires.len, tt, tt))
+    rw (c.glue.ensures, one) (apart-glued c.args.tree last c.requires.apart (c.requires.len, tt, tt))

@@ -9,8 +9,8 @@ use Rattle.host_link.proofs.Plays.{rest_at, rests_step}
 use Rattle.host_link.proofs.Hosted.{answer_as, host_after}
 use Rattle.host_link.proofs.memory_host.MemoryHostHost.end.Goals as goal
 
-pub returns-clause-exact : goal.returns-clause-exact
-returns-clause-exact c =
+pub returns-clause-made : goal.returns-clause-made
+returns-clause-made c =
     let none : PlayState = record { reads = []; ends = [] } in
     let within : c.args.child < length c.self.inside.plays.items = grind (arith, common_steps) in
     let started : c.args.child < length c.self.inside.cursors.items = grind (arith, common_steps) in

@@ -3,14 +3,14 @@ use Rattle.std.proofs.lemmas.Grind.{common_steps}
 use Rattle.ek_types.specs.MemoryIo.{fails_at}
 use Rattle.plain_machine.specs.Exchanges as model
 use Rattle.host_link.specs.Meaning.{answer_of}
-use Rattle.host_link.specs.Played.{PlayState, MemoryHostState, fails_now, next_read, after_read}
+use Rattle.host_link.specs.Played.{PlayState, MemoryHostState, fails_now, next_read, after_read, room_after}
 use Rattle.host_link.specs.Cursors.{rests, rest_of}
 use Rattle.host_link.proofs.Plays.{rest_at, rests_step}
 use Rattle.host_link.proofs.Hosted.{answer_as, host_after}
 use Rattle.host_link.proofs.memory_host.MemoryHostHost.read.Goals as goal
 
-pub returns-clause-exact : goal.returns-clause-exact
-returns-clause-exact c =
+pub returns-clause-made : goal.returns-clause-made
+returns-clause-made c =
     let none : PlayState = record { reads = []; ends = [] } in
     let within : c.args.child < length c.self.inside.plays.items = grind (arith, common_steps) in
     let started : c.args.child < length c.self.inside.cursors.items = grind (arith, common_steps) in
@@ -27,3 +27,8 @@ returns-clause-exact c =
       host_after _ c.args.self.now _ c.args.self.now.kills (model.Read c.args.child) (answer_of c.in_ok-turn.turn.answer) _ _ c.self.inside.kills.items _ _ c.reserve.new.self.told _
           c.self.view_is reply plays (ap (λ (s : MemoryHostState). s.kills) c.self.view_is) c.saturating_add-self-inside.ensures c.faults_after-self-inside.ensures c.in_ok-reserve.ensures.told c.put.ensures.told,
     )
+
+pub returns-clause-room : goal.returns-clause-room
+returns-clause-room c =
+    let told = returns-clause-made c in
+    c.in_ok-turn.ensures.room ∙ ap (room_after c.args.into.now) (sym c.in_ok-turn.ensures.got ∙ told.0)

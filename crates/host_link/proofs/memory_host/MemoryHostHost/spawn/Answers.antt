@@ -8,11 +8,11 @@ use Rattle.plain_machine.specs.Exchanges.{Exchange}
 use Rattle.host_link.specs.Hosts.{spawned_answer, after_spawn}
 use Rattle.host_link.specs.Meaning.{answer_of, words_of}
 use Rattle.host_link.specs.Logged.{kills_due, due_by}
-use Rattle.host_link.specs.Played.{MemoryHostState, fails_now, spawn_reply}
+use Rattle.host_link.specs.Played.{MemoryHostState, fails_now, spawn_reply, kills_after}
 use Rattle.host_link.specs.Cursors.{rests, cursors_by}
 use Rattle.host_link.proofs.Due.{due_after_spawn, length-after_spawn, length-cursors}
 use Rattle.host_link.proofs.Plays.{length-rests, rests_by}
-use Rattle.host_link.proofs.Hosted.{host_after, spawn_as}
+use Rattle.host_link.proofs.Hosted.{host_after, spawn_as, children_after}
 use Rattle.host_link.proofs.memory_host.MemoryHostHost.spawn.Goals as goal
 
 pub invariant_of-self-2 : goal.invariant_of-self-2
@@ -28,8 +28,8 @@ invariant_of-self-2 c =
       grind (arith, common_steps, due),
     )
 
-pub returns-clause-exact : goal.returns-clause-exact
-returns-clause-exact c =
+pub returns-clause-made : goal.returns-clause-made
+returns-clause-made c =
     let fails : c.is_failing-fails.result ≡ fails_now c.args.self.now =
     c.is_failing-fails.ensures ∙ ap (λ l. fails_at l c.self.inside.calls) c.deref.ensures.value ∙ ap fails_now c.self.view_is in
     let kept : rests c.self.inside.plays.items c.self.inside.cursors.items ≡ c.args.self.now.plays = ap (λ (s : MemoryHostState). s.plays) c.self.view_is in
@@ -39,12 +39,13 @@ returns-clause-exact c =
     let plays : rests c.self.inside.plays.items c.add_child.new.cursors.items ≡ c.args.self.now.plays =
     ap (rests c.self.inside.plays.items) (c.add_child.ensures.cursors ∙ ap (λ l. l ++ cursors_by c.next_child-spawned.result) c.reserve-2.ensures.items)
     ∙ rests_by c.self.inside.plays.items c.self.inside.cursors.items c.next_child-spawned.result ∙ kept in
-    let kills : c.add_child.new.kills.items ≡ after_spawn c.args.self.now.kills c.next_child-spawned.result =
-    c.add_child.ensures.kills ∙ ap (λ k. after_spawn k c.next_child-spawned.result) (c.reserve-3.ensures.items ∙ ap (λ (s : MemoryHostState). s.kills) c.self.view_is) in
+    let kills =
+    c.add_child.ensures.kills ∙ ap (λ k. after_spawn k c.next_child-spawned.result) (c.reserve-3.ensures.items ∙ ap (λ (s : MemoryHostState). s.kills) c.self.view_is)
+    ∙ children_after c.args.self.now.kills c.args.program.now (map string_bytes c.args.args.now) c.next_child-spawned.result (spawn_reply c.args.self.now) reply in
     let ask : model.Spawn (items_of c.in_ok-program_bytes.program_bytes) (words_of c.in_ok-words.field-0) ≡ model.Spawn c.args.program.now (map string_bytes c.args.args.now) =
     ap (λ l. model.Spawn l (words_of c.in_ok-words.field-0)) (c.in_ok-program_bytes.ensures ∙ c.as_bytes.ensures.value) ∙ ap (model.Spawn c.args.program.now) c.in_ok-words.ensures in (
       reply,
-      host_after _ c.args.self.now c.args.self.now.plays (after_spawn c.args.self.now.kills c.next_child-spawned.result) _ (answer_of c.answer_to_spawn-answer.result) (spawn_reply c.args.self.now)
+      host_after _ c.args.self.now c.args.self.now.plays (kills_after c.args.self.now.kills (model.Spawn c.args.program.now (map string_bytes c.args.args.now)) (spawn_reply c.args.self.now)) _ (answer_of c.answer_to_spawn-answer.result) (spawn_reply c.args.self.now)
           _ c.add_child.new.kills.items _ _ c.reserve.new.self.told _
           c.self.view_is (c.answer_to_spawn-answer.ensures ∙ reply) plays kills c.saturating_add-self-inside.ensures c.faults_after-self-inside.ensures c.in_ok-reserve.ensures.told
           (c.put_spawn.ensures.told ∙ ap (λ a. c.reserve.new.self.told ++ (let x : Exchange = record { ask = a; answer = answer_of c.answer_to_spawn-answer.result } in x) ∷ []) ask),

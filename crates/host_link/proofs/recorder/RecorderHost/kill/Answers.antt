@@ -15,5 +15,5 @@ invariant_of-self g c =
     let counted = due_after_kill (g.H.Host.state c.args.self.now.inner).kills c.args.child c.requires in
     let same : (g.H.Host.state c.self.inside.inner).kills ≡ (g.H.Host.state c.args.self.now.inner).kills = cc in
     let due = c.self.invariant ∙ ap kills_due same in
-    let left = ap kills_due (c.kill-killed.ensures.kills ∙ ap (λ kills. slice_set kills c.args.child true) same) in
+    let left = ap kills_due (c.kill-killed.ensures.asked.kills ∙ ap (λ kills. slice_set kills c.args.child true) same) in
     omega (arith, counted, due, left, c.put_kill.ensures.due)

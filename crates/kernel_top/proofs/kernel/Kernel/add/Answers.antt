@@ -2,7 +2,7 @@ use Rattle.std.proofs.Common.{◌≡◌, ◌++◌, ◌∷◌, [], length, ap, sy
 use Rattle.std.specs.Prelude.{Some, None}
 use Rattle.process_table.specs.Table.{new_process}
 use Rattle.marker_set.specs.Numbered.{marker_at}
-use Rattle.kernel_top.specs.Plain.{Kernel, with_process}
+use Rattle.kernel_top.specs.Plain.{Kernel}
 use Rattle.kernel_top.proofs.Adding.{on_ok, mark_set, end_there, end_nowhere, process_added}
 use Rattle.kernel_top.proofs.kernel.Kernel.add.Goals.{then-is_some, else-is_some}
 use Rattle.kernel_top.proofs.kernel.Kernel.add.Goals as goal

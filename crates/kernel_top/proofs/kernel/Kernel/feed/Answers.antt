@@ -1,8 +1,6 @@
 use Rattle.std.proofs.Common.{◌++◌, sym, subst}
 use Rattle.text_model.specs.Decoding.{tail}
-use Rattle.plain_machine.specs.Handling.{unlisted}
-use Rattle.process_table.specs.Meaning.{status_of}
-use Rattle.process_table.specs.Table.{StandsFor, changed, held_by, with_held, with_drained, with_status}
+use Rattle.process_table.specs.Table.{StandsFor, held_by, with_held}
 use Rattle.kernel_top.specs.Plain.{Kernel, IsSound, with_table}
 use Rattle.kernel_top.proofs.Sound.{change_sound}
 use Rattle.kernel_top.proofs.kernel.Kernel.feed.Goals as goal

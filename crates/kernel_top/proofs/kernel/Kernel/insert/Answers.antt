@@ -1,4 +1,4 @@
-use Rattle.std.proofs.Common.{false, sym, ◌∙◌, ap, map}
+use Rattle.std.proofs.Common.{false, sym, ◌∙◌, ap}
 use Rattle.std.proofs.lemmas.List.{length-map}
 use Rattle.kernel_top.specs.Plain.{characters}
 use Rattle.kernel_top.proofs.Sound.{insertion_sound}

@@ -2,9 +2,10 @@ use Rattle.std.proofs.Common.{◌≡◌, ◌∙◌, Bool, true, false, ◌++◌,
 use Rattle.std.specs.Prelude.{not}
 use Rattle.std.proofs.lemmas.List.{length-map}
 use Rattle.text_model.specs.Properties.{PropSet, edited, same_list, same_set}
+use Rattle.text_model.proofs.Sameness.{same_list-same, same_set-same}
 use Rattle.prop_intervals.specs.Edits.{edit_of}
 use Rattle.prop_intervals.specs.Runs.{sets_of}
-use Rattle.prop_intervals.proofs.SameLemmas.{same_list-same, same_set-same, same_from, unchanged_where_equal}
+use Rattle.prop_intervals.proofs.SameLemmas.{same_from, unchanged_where_equal}
 use Rattle.prop_intervals.proofs.SetLemmas.{length-sets_of}
 use Rattle.prop_intervals.proofs.ChangeLemmas.{part_of, nothing_changed, whole_same}
 use Rattle.prop_intervals.proofs.props.Props.change.Goals as goal

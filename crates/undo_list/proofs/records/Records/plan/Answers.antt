@@ -3,9 +3,8 @@ use Rattle.std.proofs.lemmas.List.{length-map}
 use Rattle.text_model.specs.Undo.{lies_inside}
 use Rattle.undo_list.specs.Records.{entry_of}
 use Rattle.undo_list.specs.Plans.{planned_from}
-use Rattle.undo_list.specs.Walks.{walked}
 use Rattle.undo_list.proofs.Seeing.{seen_next, seen_none}
-use Rattle.undo_list.proofs.Walking.{walked-on, walked-met, walked-done, count-stepped, walk-begun}
+use Rattle.undo_list.proofs.Walking.{walked-on, walked-met, walked-done, count-stepped, walk-begun, walked}
 use Rattle.undo_list.proofs.records.Records.plan.Goals as goal
 use Rattle.undo_list.proofs.records.Records.plan.Goals.{then-walk-test+else-i-len, else-walk-test}
 

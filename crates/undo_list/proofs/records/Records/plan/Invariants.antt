@@ -1,6 +1,6 @@
 use Rattle.std.proofs.Common.{◌≡◌, ◌+◌, ◌*◌, ◌^◌, ◌-◌, ◌<◌, ◌≤◌, drop, length, map}
 use Rattle.undo_list.specs.Records.{entry_of}
-use Rattle.undo_list.specs.Walks.{walked}
+use Rattle.undo_list.proofs.Walking.{walked}
 use Rattle.undo_list.proofs.records.Records.plan.Given as goal
 
 abbrev pub invariant-walk : goal.invariant-walk

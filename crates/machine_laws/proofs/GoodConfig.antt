@@ -1,8 +1,8 @@
 -- What holds of each configuration of a run.
 use Rattle.std.specs.Prelude.{◌≡◌, ℕ, List, [], ◌∷◌, drop}
-use Rattle.machine_laws.specs.Fits.{shapes}
+use Rattle.machine_laws.proofs.Fits.{shapes}
 use Rattle.editor_model.specs.Editor.{Editor}
-use Rattle.machine_laws.specs.GoodEditor.{GoodEditor, Advances, FineWhat, FineChange}
+use Rattle.machine_laws.proofs.GoodEditor.{GoodEditor, Advances, FineWhat, FineChange}
 use Rattle.plain_machine.specs.Items.{Item, Leave, KeptExcursion, KeptRestriction, MakeChange, CommitChange, Config}
 
 -- a change is prepared only as the next item, and one that waits for its commit gives sets in order

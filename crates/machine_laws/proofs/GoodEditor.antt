@@ -1,10 +1,21 @@
 -- What holds of the editor, and of what a step does to it.
-use Rattle.std.specs.Prelude.{◌≡◌, ℕ, ◌≤◌, ◌<◌, length, Some, None}
+use Rattle.std.specs.Prelude.{◌≡◌, ℕ, ◌≤◌, ◌<◌, true, [], length, Some, None}
 use Rattle.text_model.specs.Ordered.{AreOrdered, GivesOrdered}
-use Rattle.machine_laws.specs.Good.{Passes}
-use Rattle.machine_laws.specs.Fits.{MarksFit, GoodSite, shapes}
+use Rattle.text_model.specs.Undo.{boundary_at, newer_than, rewind}
+use Rattle.text_model.specs.Commit.{Buffer}
 use Rattle.editor_model.specs.Editor.{Editor, Live, live, buffer_at}
 use Rattle.editor_model.specs.Answers.{What, Put, Props, UndoGroups, Change}
+use Rattle.machine_laws.specs.Good.{Good}
+use Rattle.machine_laws.proofs.Fits.{MarksFit, GoodSite, shapes}
+
+-- What a step does to a buffer: it stays good; where a boundary stood before and stands still, what is newer rewinds to
+-- the same text as before; and nothing is newer than a boundary that was pushed.
+pub record Passes (b c : Buffer) : Type 0 where
+  pub good : Good c
+  pub grows : b.undo.next ≤ c.undo.next
+  pub stood : (serial : ℕ) → serial < b.undo.next → boundary_at serial c.undo.entries ≡ true → boundary_at serial b.undo.entries ≡ true
+  pub back : (serial : ℕ) → serial < b.undo.next → boundary_at serial c.undo.entries ≡ true → rewind (newer_than serial c.undo.entries) c.text ≡ rewind (newer_than serial b.undo.entries) b.text
+  pub pushed : (serial : ℕ) → b.undo.next ≤ serial → boundary_at serial c.undo.entries ≡ true → newer_than serial c.undo.entries ≡ []
 
 -- each live buffer is good, and all places lie in its text; and in a buffer that isn't made yet no place lies behind 0
 pub record GoodEditor (e : Editor) : Type 0 where
