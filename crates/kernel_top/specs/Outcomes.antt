@@ -11,7 +11,7 @@ use Rattle.plain_machine.specs.Run.{lines}
 use Rattle.plain_machine.specs.WholeRuns.{Ran, BrokenOff}
 use Rattle.machine_laws.specs.Entries.{entered, heard, is_entry, has_entry}
 use Rattle.ek_types.specs.Io.{SinkState, Rose}
-use Rattle.kernel_top.specs.Outside.{deepest}
+use Rattle.kernel_top.specs.Outside.{deepest, Outside}
 use Rattle.script_read.specs.GrammarSoFar.{IsScriptSoFar, IsNoScript}
 use Rattle.kernel_top.specs.declared.status.Status.{Status}
 use Rattle.kernel_top.specs.declared.status.Status.TheVariants as status
@@ -54,11 +54,11 @@ pub record StoppedScript (script : Script) (exchanges : List Exchange) (written 
 abbrev pub OfScript : List ℕ → (Script → Type 0) → Type 0
 OfScript bytes So = (script : Script) × IsScriptSoFar bytes script × So script
 
--- `read` are the bytes taken from the source, `ended` that its end was met, and `written` the bytes put in the sink, which
--- was one thing before and is another now
-abbrev pub Outcome : Status → (words : List (List ℕ)) → (read written : List ℕ) → List Exchange → (ended : Type 0) → (before now : SinkState) → Type 0
+-- `read` are the bytes taken from the source, `ended` that its end was met, and `written` the bytes put in the sink. Where no
+-- script was begun, sink and host are now as they were before.
+abbrev pub Outcome : Status → (words : List (List ℕ)) → (read written : List ℕ) → List Exchange → (ended : Type 0) → (before now : Outside) → Type 0
 Outcome status.Done words read written exchanges ended before now =
-    IsRun words × ended × OfScript read (λ script. RanScript script exchanges written before now)
+    IsRun words × ended × OfScript read (λ script. RanScript script exchanges written before.sink now.sink)
 Outcome status.Usage words read written exchanges ended before now =
     (IsRun words → ⊥) × (read ≡ []) × (written ≡ []) × (exchanges ≡ []) × (now ≡ before)
 Outcome (status.Script line) words read written exchanges ended before now =
@@ -66,18 +66,11 @@ Outcome (status.Script line) words read written exchanges ended before now =
 Outcome status.ReadFault words read written exchanges ended before now =
     IsRun words × (written ≡ []) × (exchanges ≡ []) × (now ≡ before)
 Outcome status.WriteFault words read written exchanges ended before now =
-    IsRun words × ended × OfScript read (λ script. StoppedScript script exchanges written before now)
+    IsRun words × ended × OfScript read (λ script. StoppedScript script exchanges written before.sink now.sink)
 Outcome status.NoMemory words read written exchanges ended before now =
-    IsRun words × (((written ≡ []) × (exchanges ≡ []) × (now ≡ before)) ⊎ (ended × OfScript read (λ script. StoppedScript script exchanges written before now)))
+    IsRun words × (((written ≡ []) × (exchanges ≡ []) × (now ≡ before)) ⊎ (ended × OfScript read (λ script. StoppedScript script exchanges written before.sink now.sink)))
 
 -- a source that told what was left has told its end
 abbrev pub HasEnded : (before now : Option (List ℕ)) → Type 0
 HasEnded None now = Unit {0}
 HasEnded (Some left) now = IsAtEnd now
-
--- the run ended before anything could be asked of the host
-abbrev pub IsUnasked : Status → Type 0
-IsUnasked status.Usage = Unit {0}
-IsUnasked status.ReadFault = Unit {0}
-IsUnasked (status.Script line) = Unit {0}
-IsUnasked _ = ⊥

@@ -6,8 +6,8 @@ ghost use Rattle.plain_machine.specs.Grammar.{longest_script};
 ghost use Rattle.ek_types.specs.Io.{HasCause, Rose};
 ghost use Rattle.script_read.specs.GrammarSoFar.{IsScriptSoFar};
 ghost use Rattle.plain_machine.specs.Exchanges.{Exchange};
-ghost use Rattle.kernel_top.specs.Outside.{Tells};
-ghost use Rattle.kernel_top.specs.Outcomes.{IsRun, HasEnded, Outcome, IsUnasked};
+ghost use Rattle.kernel_top.specs.Outside.{outside, Tells};
+ghost use Rattle.kernel_top.specs.Outcomes.{IsRun, HasEnded, Outcome};
 
 use crate::answer::Stop;
 use crate::forms::run_script;
@@ -74,9 +74,8 @@ fn run_bytes<K: Sink, H: Host>(alloc: Global, bytes: &[u8], host: &mut H, sink: 
     requires { length (H.state host.old).kills ≤ 2 ^ 31 }
     ensures outcome { (written : List ℕ) × (exchanges : List Exchange) × Appends (K.state sink.old).held (K.state sink.new).held written
         × Tells (H.state host.old).told (H.state host.new).told exchanges
-        × Outcome result (codes "run" ∷ []) bytes.now written exchanges (Unit {0}) (K.state sink.old) (K.state sink.new) }
+        × Outcome result (codes "run" ∷ []) bytes.now written exchanges (Unit {0}) (outside (K.state sink.old) (H.state host.old)) (outside (K.state sink.new) (H.state host.new)) }
     ensures no_read { result ≡ Status.ReadFault → ⊥ }
-    ensures unasked { IsUnasked result → H.state host.new ≡ H.state host.old }
     ensures write_fault { HasCause (K.state sink.old).faults (K.state sink.new).faults (result ≡ Status.WriteFault) }
 {
     match read(alloc, bytes) {
@@ -102,9 +101,9 @@ fn run_words<S: Source, K: Sink, H: Host>(
         × Appends (K.state sink.old).held (K.state sink.new).held written
         × Tells (H.state host.old).told (H.state host.new).told exchanges
         × Outcome result (map string_bytes words.now) read written exchanges
-        (HasEnded (S.state source.old).left (S.state source.new).left) (K.state sink.old) (K.state sink.new) }
-    ensures untouched { result ≡ Status.Usage → (S.state source.new ≡ S.state source.old) × (K.state sink.new ≡ K.state sink.old) }
-    ensures unasked { IsUnasked result → H.state host.new ≡ H.state host.old }
+        (HasEnded (S.state source.old).left (S.state source.new).left)
+        (outside (K.state sink.old) (H.state host.old)) (outside (K.state sink.new) (H.state host.new)) }
+    ensures untouched { result ≡ Status.Usage → S.state source.new ≡ S.state source.old }
     ensures read_fault { HasCause (S.state source.old).faults (S.state source.new).faults (result ≡ Status.ReadFault) }
     ensures write_fault { HasCause (K.state sink.old).faults (K.state sink.new).faults (result ≡ Status.WriteFault) }
     ensures unfailing { IsTrue (S.state source.old).unfailing → (S.state source.new).faults ≡ (S.state source.old).faults }
@@ -139,9 +138,9 @@ pub fn run<S: Source, K: Sink, H: Host>(
         × Appends (K.state sink.old).held (K.state sink.new).held written
         × Tells (H.state host.old).told (H.state host.new).told exchanges
         × Outcome result (map string_bytes words.now) read written exchanges
-        (HasEnded (S.state source.old).left (S.state source.new).left) (K.state sink.old) (K.state sink.new) }
-    ensures untouched { result ≡ Status.Usage → (S.state source.new ≡ S.state source.old) × (K.state sink.new ≡ K.state sink.old) }
-    ensures unasked { IsUnasked result → H.state host.new ≡ H.state host.old }
+        (HasEnded (S.state source.old).left (S.state source.new).left)
+        (outside (K.state sink.old) (H.state host.old)) (outside (K.state sink.new) (H.state host.new)) }
+    ensures untouched { result ≡ Status.Usage → S.state source.new ≡ S.state source.old }
     ensures read_fault { HasCause (S.state source.old).faults (S.state source.new).faults (result ≡ Status.ReadFault) }
     ensures write_fault { HasCause (K.state sink.old).faults (K.state sink.new).faults (result ≡ Status.WriteFault) }
     ensures unfailing { IsTrue (S.state source.old).unfailing → (S.state source.new).faults ≡ (S.state source.old).faults }
