@@ -124,6 +124,9 @@ fn waited_for<P: OpenProcess>(child: &mut Child<P>) -> io::Result<Ended>
 impl<'a, R: Processes> Host for RealHost<'a, R> {
     ghost state = { λ h. untold h.faults h.kills.items };
 
+    // Each answer that is a fault counts once, and no other answer counts.
+    ghost made = { λ old new ask room answer. new.faults ≡ faults_after answer old.faults };
+
     /// Want of memory inside the system's own call counts as a refusal.
     fn spawn(&mut self, program: &str, args: &[String]) -> Mem<Spawned>
         requires { length self.old.kills.items < 2 ^ 32 - 1 }
@@ -208,7 +211,7 @@ impl<'a, R: Processes> Host for RealHost<'a, R> {
         requires { child < length self.old.kills.items }
         ensures asked { Asked (untold self.old.faults self.old.kills.items) (untold self.new.faults self.new.kills.items)
             (λ _. self.old.kills.items) (Close child) (λ _. Closed) result }
-        ensures faults { self.new.faults ≡ self.old.faults }
+        ensures faults { OnOk result (self.new.faults ≡ faults_after Closed self.old.faults) }
         ensures closed { OnOk result (of_child (λ c. c.stdin) self.new.children.items child ≡ None) }
     {
         self.children[child as usize].stdin = None;
