@@ -13,7 +13,7 @@ use Rattle.plain_machine.specs.WholeRuns.{IsBetweenEntries}
 use Rattle.plain_machine.proofs.Composed.{reaches_then}
 use Rattle.ek_types.specs.Io.{SinkState, Writes}
 use Rattle.host_link.specs.Hosts.{HostState, Exchanged}
-use Rattle.kernel_top.specs.Outside.{deepest, Outside, outside, Tells, HasRoomLeft, Goes, Breaks}
+use Rattle.kernel_top.specs.Outside.{deepest, Outside, outside, Tells, Goes, Breaks}
 
 -- LINES
 pub lines_then : (first second : List Said) → lines (first ++ second) ≡ lines first ++ lines second
