@@ -70,7 +70,8 @@ pub trait Host {
         ensures asked { Asked (state self.old) (state self.new) (after_spawn (state self.old).kills)
             (Spawn program.now (map string_bytes args.now)) spawned_answer result }
         ensures number { IfOk result (IsNumbered (length (state self.old).kills)) }
-        ensures made { IfOk result (λ s. made self.old self.new (Spawn program.now (map string_bytes args.now)) 0 (spawned_answer s)) };
+        ensures made { IfOk result (λ s. made self.old self.new (Spawn program.now (map string_bytes args.now)) 0 (spawned_answer s)) }
+        ensures unchanged { OnErr result (self.new ≡ self.old) };
 
     /// Takes bytes of a child's output to the front of `into`, which isn't empty. `NoMemory` leaves `into` as it was.
     fn read(&mut self, child: u32, into: &mut [u8]) -> Mem<Got>
@@ -80,28 +81,32 @@ pub trait Host {
             (Read child) (got_answer into.new) result }
         ensures fits { IfOk result (Fits (length into.new)) }
         ensures made { IfOk result (λ got. made self.old self.new (Read child) (length into.old) (got_answer into.new got)) }
-        ensures room_kept { OnErr result (into.new ≡ into.old) };
+        ensures room_kept { OnErr result (into.new ≡ into.old) }
+        ensures unchanged { OnErr result (self.new ≡ self.old) };
 
     /// Asks how a child has ended.
     fn end(&mut self, child: u32) -> Mem<Ended>
         requires { child < length (state self.old).kills }
         ensures asked { Asked (state self.old) (state self.new) (λ _. (state self.old).kills) (AskEnd child)
             ended_answer result }
-        ensures made { IfOk result (λ ended. made self.old self.new (AskEnd child) 0 (ended_answer ended)) };
+        ensures made { IfOk result (λ ended. made self.old self.new (AskEnd child) 0 (ended_answer ended)) }
+        ensures unchanged { OnErr result (self.new ≡ self.old) };
 
     /// Sends bytes to a child's input.
     fn send(&mut self, child: u32, bytes: &[u8]) -> Mem<SendAnswer>
         requires { child < length (state self.old).kills }
         ensures asked { Asked (state self.old) (state self.new) (λ _. (state self.old).kills)
             (Send child bytes.now) send_answer result }
-        ensures made { IfOk result (λ sent. made self.old self.new (Send child bytes.now) 0 (send_answer sent)) };
+        ensures made { IfOk result (λ sent. made self.old self.new (Send child bytes.now) 0 (send_answer sent)) }
+        ensures unchanged { OnErr result (self.new ≡ self.old) };
 
     /// Closes a child's input.
     fn close(&mut self, child: u32) -> Mem<()>
         requires { child < length (state self.old).kills }
         ensures asked { Asked (state self.old) (state self.new) (λ _. (state self.old).kills) (Close child)
             (λ _. Closed) result }
-        ensures made { OnOk result (made self.old self.new (Close child) 0 Closed) };
+        ensures made { OnOk result (made self.old self.new (Close child) 0 Closed) }
+        ensures unchanged { OnErr result (self.new ≡ self.old) };
 
     /// The exchanges so far, exactly where the host tells.
     fn told(&self) -> Option<&Exchanges>

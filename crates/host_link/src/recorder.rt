@@ -65,6 +65,7 @@ impl<H: Host> Host for Recorder<H> {
             (Spawn program.now (map string_bytes args.now)) spawned_answer result }
         ensures made { IfOk result (λ s. H.made self.old.inner self.new.inner
             (Spawn program.now (map string_bytes args.now)) 0 (spawned_answer s)) }
+        ensures unchanged { OnErr result (self.new ≡ self.old) }
     {
         let alloc = self.log.allocator();
         let program_bytes = list_of(alloc, program.as_bytes())?;
@@ -87,6 +88,7 @@ impl<H: Host> Host for Recorder<H> {
         ensures made { IfOk result (λ got. H.made self.old.inner self.new.inner (Read child)
             (length into.old) (got_answer into.new got)) }
         ensures room_kept { OnErr result (into.new ≡ into.old) }
+        ensures unchanged { OnErr result (self.new ≡ self.old) }
     {
         let alloc = self.log.allocator();
         let mut room = ListOf::new(alloc);
@@ -107,6 +109,7 @@ impl<H: Host> Host for Recorder<H> {
             self.new.told (λ _. (H.state self.old.inner).kills) (AskEnd child) ended_answer result }
         ensures made { IfOk result (λ ended. H.made self.old.inner self.new.inner (AskEnd child) 0
             (ended_answer ended)) }
+        ensures unchanged { OnErr result (self.new ≡ self.old) }
     {
         self.log.reserve(1)?;
         let ended = self.inner.end(child)?;
@@ -123,6 +126,7 @@ impl<H: Host> Host for Recorder<H> {
             self.new.told (λ _. (H.state self.old.inner).kills) (Send child bytes.now) send_answer result }
         ensures made { IfOk result (λ sent. H.made self.old.inner self.new.inner (Send child bytes.now) 0
             (send_answer sent)) }
+        ensures unchanged { OnErr result (self.new ≡ self.old) }
     {
         let sent_bytes = list_of(self.log.allocator(), bytes)?;
         self.log.reserve(1)?;
@@ -140,6 +144,7 @@ impl<H: Host> Host for Recorder<H> {
         ensures inner { RecordsOnce (H.state self.old.inner) (H.state self.new.inner) self.old.told
             self.new.told (λ _. (H.state self.old.inner).kills) (Close child) (λ _. Closed) result }
         ensures made { OnOk result (H.made self.old.inner self.new.inner (Close child) 0 Closed) }
+        ensures unchanged { OnErr result (self.new ≡ self.old) }
     {
         self.log.reserve(1)?;
         self.inner.close(child)?;
