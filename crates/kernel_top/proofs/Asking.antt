@@ -1,5 +1,5 @@
 -- What asking a process in a wait comes to, by the host's answer.
-use Rattle.std.proofs.Common.{◌≡◌, ℕ, suc, ◌≤◌, ◌<◌, ◌+◌, Bool, true, false, List, [], ◌∷◌, ◌++◌, length, refl, ap, sym, ◌∙◌, subst, slice_get, take, arith}
+use Rattle.std.proofs.Common.{◌≡◌, ℕ, suc, ◌≤◌, ◌<◌, Bool, true, false, List, [], ◌∷◌, ◌++◌, length, refl, ap, sym, ◌∙◌, subst, slice_get, take, arith}
 use Rattle.std.specs.Prelude.{ℤ, Some, None, nat_lt, All}
 use Rattle.std.specs.List.{list_all}
 use Rattle.std.specs.declared.option.Option.{Option}
@@ -22,13 +22,12 @@ use Rattle.plain_machine.specs.Step.{step}
 use Rattle.process_table.specs.Table.{StandsFor, with_status}
 use Rattle.wait_loop.specs.KeptWaits.{noted}
 use Rattle.wait_loop.specs.Rounds.{AsksProcess}
-use Rattle.host_link.specs.Hosts.{HostState, Exchanged}
 use Rattle.ek_types.specs.Io.{SinkState}
 use Rattle.kernel_top.specs.Plain.{Kernel, asked_more, IsSound, IsOrdinary}
-use Rattle.kernel_top.specs.Outside.{deepest, outside, Goes}
+use Rattle.kernel_top.specs.Outside.{deepest, Past, outside, Goes}
 use Rattle.kernel_top.specs.Standing.{stands_at, working}
 use Rattle.kernel_top.specs.Hearing.{filter_entry, told_of, IsAsked}
-use Rattle.kernel_top.proofs.Journeys.{asked}
+use Rattle.kernel_top.proofs.Journeys.{asked, AddsOne}
 use Rattle.kernel_top.proofs.Output.{Stood, stood}
 
 -- the entry of a process whose filter is the default one
@@ -68,16 +67,16 @@ module _ (program : Program) (k : Kernel) (sound : IsSound k) (u : Undo) (all : 
         ∙ ap (λ b. ask_next b s v target rest p y.one) drained_is
 
   -- OUTPUT
-  module _ (may : IsAsked k p false) (sink : SinkState) (old new : HostState) (children : List Bool) where
+  module _ (may : IsAsked k p false) (sink : SinkState) (old new : Past) where
     abbrev one : Process
     one = (y false may).one
 
-    reads : (answer : Answer) (n : Next) → read_answer s v target rest p one answer ≡ Some n → n.said ≡ [] → Exchanged old new children (Read may.process.child) answer → Goes program (outside sink old) (outside sink new) from n.config
+    reads : (answer : Answer) (n : Next) → read_answer s v target rest p one answer ≡ Some n → n.said ≡ [] → AddsOne old new (Read may.process.child) answer → Goes program (outside sink old) (outside sink new) from n.config
     reads answer n e said x =
-        asked program sink old new from (Read one.child) answer (read_answer s v target rest p one) n children (step_is false may) e said
-        (subst (λ c. Exchanged old new children (Read c) answer) (sym (child_is false may)) x)
+        asked program sink old new from (Read one.child) answer (read_answer s v target rest p one) n (step_is false may) e said
+        (subst (λ c. AddsOne old new (Read c) answer) (sym (child_is false may)) x)
 
-    pub heard_bytes : (bytes : List ℕ) → is_room bytes ≡ true → Exchanged old new children (Read may.process.child) (Bytes bytes) →
+    pub heard_bytes : (bytes : List ℕ) → is_room bytes ≡ true → AddsOne old new (Read may.process.child) (Bytes bytes) →
         Goes program (outside sink old) (outside sink new) from
         (working (change_process p (λ z. record z { bytes = one.bytes ++ bytes }) (asked_one s)) (filter_entry p (more_characters (characters one.bytes) (characters (one.bytes ++ bytes))) (Wait (noted p true v) target ∷ rest)))
     heard_bytes bytes room x =
@@ -86,36 +85,36 @@ module _ (program : Program) (k : Kernel) (sound : IsSound k) (u : Undo) (all : 
         subst (λ work. Goes program (outside sink old) (outside sink new) from (working state work)) (entered_default s p one text (Wait (noted p true v) target ∷ rest) (filter_is false may))
         (reads (Bytes bytes) (record { said = []; config = working state (entry_of s p one text (Wait (noted p true v) target ∷ rest)) }) (ap (λ b. hear b s v target rest p one bytes) room) refl x)
 
-    pub heard_nothing : Exchanged old new children (Read may.process.child) exchange.Nothing → Goes program (outside sink old) (outside sink new) from (working (stands_at (asked_more k) u all) (Wait v target ∷ rest))
+    pub heard_nothing : AddsOne old new (Read may.process.child) exchange.Nothing → Goes program (outside sink old) (outside sink new) from (working (stands_at (asked_more k) u all) (Wait v target ∷ rest))
     heard_nothing x = reads exchange.Nothing (record { said = []; config = working (asked_one s) (Wait v target ∷ rest) }) refl refl x
 
     abbrev drained_config : Config
     drained_config = working (change_process p (λ z. record z { drained = true }) (asked_one s)) (filter_entry p (more_characters (characters one.bytes) (all_characters one.bytes)) (Wait v target ∷ rest))
 
-    drains : (answer : Answer) → read_answer s v target rest p one answer ≡ read_answer s v target rest p one End → Exchanged old new children (Read may.process.child) answer → Goes program (outside sink old) (outside sink new) from drained_config
+    drains : (answer : Answer) → read_answer s v target rest p one answer ≡ read_answer s v target rest p one End → AddsOne old new (Read may.process.child) answer → Goes program (outside sink old) (outside sink new) from drained_config
     drains answer e x =
         let text = more_characters (characters one.bytes) (all_characters one.bytes) in
         let state = change_process p (λ z. record z { drained = true }) (asked_one s) in
         subst (λ work. Goes program (outside sink old) (outside sink new) from (working state work)) (entered_default s p one text (Wait v target ∷ rest) (filter_is false may))
         (reads answer (record { said = []; config = working state (entry_of s p one text (Wait v target ∷ rest)) }) e refl x)
 
-    pub heard_end : Exchanged old new children (Read may.process.child) End → Goes program (outside sink old) (outside sink new) from drained_config
+    pub heard_end : AddsOne old new (Read may.process.child) End → Goes program (outside sink old) (outside sink new) from drained_config
     heard_end x = drains End refl x
 
-    pub heard_failure : Exchanged old new children (Read may.process.child) exchange.Failed → Goes program (outside sink old) (outside sink new) from drained_config
+    pub heard_failure : AddsOne old new (Read may.process.child) exchange.Failed → Goes program (outside sink old) (outside sink new) from drained_config
     heard_failure x = drains exchange.Failed refl x
 
   -- ENDS
-  module _ (may : IsAsked k p true) (sink : SinkState) (old new : HostState) (children : List Bool) where
+  module _ (may : IsAsked k p true) (sink : SinkState) (old new : Past) where
     abbrev over : Process
     over = (y true may).one
 
-    asks_end : (answer : Answer) (n : Next) → end_answer s v target rest p over answer ≡ Some n → n.said ≡ [] → Exchanged old new children (AskEnd may.process.child) answer → Goes program (outside sink old) (outside sink new) from n.config
+    asks_end : (answer : Answer) (n : Next) → end_answer s v target rest p over answer ≡ Some n → n.said ≡ [] → AddsOne old new (AskEnd may.process.child) answer → Goes program (outside sink old) (outside sink new) from n.config
     asks_end answer n e said x =
-        asked program sink old new from (AskEnd over.child) answer (end_answer s v target rest p over) n children (step_is true may) e said
-        (subst (λ c. Exchanged old new children (AskEnd c) answer) (sym (child_is true may)) x)
+        asked program sink old new from (AskEnd over.child) answer (end_answer s v target rest p over) n (step_is true may) e said
+        (subst (λ c. AddsOne old new (AskEnd c) answer) (sym (child_is true may)) x)
 
-    pub still_runs : Exchanged old new children (AskEnd may.process.child) Running → Goes program (outside sink old) (outside sink new) from (working (stands_at (asked_more k) u all) (Wait v target ∷ rest))
+    pub still_runs : AddsOne old new (AskEnd may.process.child) Running → Goes program (outside sink old) (outside sink new) from (working (stands_at (asked_more k) u all) (Wait v target ∷ rest))
     still_runs x = asks_end Running (record { said = []; config = working (asked_one s) (Wait v target ∷ rest) }) refl refl x
 
     abbrev pub ended_config : Status → Config
@@ -124,18 +123,18 @@ module _ (program : Program) (k : Kernel) (sound : IsSound k) (u : Undo) (all : 
     abbrev entered_by : Status → Option ℕ → Config
     entered_by status sentinel = working (change_process p (with_status status) (asked_one s)) (Enter (OfSentinel p) sentinel (TheProcess p ∷ Str (bare (told_of status)) ∷ []) ∷ Wait v target ∷ rest)
 
-    ends_as : (answer : Answer) (status : Status) → end_answer s v target rest p over answer ≡ Some (record { said = []; config = entered_by status over.sentinel }) → Exchanged old new children (AskEnd may.process.child) answer → Goes program (outside sink old) (outside sink new) from (ended_config status)
+    ends_as : (answer : Answer) (status : Status) → end_answer s v target rest p over answer ≡ Some (record { said = []; config = entered_by status over.sentinel }) → AddsOne old new (AskEnd may.process.child) answer → Goes program (outside sink old) (outside sink new) from (ended_config status)
     ends_as answer status e x =
         subst (λ h. Goes program (outside sink old) (outside sink new) from (entered_by status h)) (sentinel_is true may)
         (asks_end answer (record { said = []; config = entered_by status over.sentinel }) e refl x)
 
-    pub ended_by_code : (n : ℤ) → Exchanged old new children (AskEnd may.process.child) (Code n) → Goes program (outside sink old) (outside sink new) from (ended_config (Exited n))
+    pub ended_by_code : (n : ℤ) → AddsOne old new (AskEnd may.process.child) (Code n) → Goes program (outside sink old) (outside sink new) from (ended_config (Exited n))
     ended_by_code n x = ends_as (Code n) (Exited n) refl x
 
-    pub ended_by_signal : Exchanged old new children (AskEnd may.process.child) Signal → Goes program (outside sink old) (outside sink new) from (ended_config Signalled)
+    pub ended_by_signal : AddsOne old new (AskEnd may.process.child) Signal → Goes program (outside sink old) (outside sink new) from (ended_config Signalled)
     ended_by_signal x = ends_as Signal Signalled refl x
 
-    pub end_lost : Exchanged old new children (AskEnd may.process.child) exchange.Failed → Goes program (outside sink old) (outside sink new) from (ended_config Lost)
+    pub end_lost : AddsOne old new (AskEnd may.process.child) exchange.Failed → Goes program (outside sink old) (outside sink new) from (ended_config Lost)
     end_lost x = ends_as exchange.Failed Lost refl x
 
 -- the child that the host knows is the machine's

@@ -17,15 +17,14 @@ use Rattle.plain_machine.specs.Handling.{put_output, put_in, output_in, process_
 use Rattle.plain_machine.specs.WholeRuns.{IsBetweenEntries}
 use Rattle.plain_machine.specs.Run.{stays}
 use Rattle.process_table.specs.Table.{StandsFor}
-use Rattle.host_link.specs.Hosts.{HostState}
 use Rattle.ek_types.specs.Io.{SinkState, Writes}
 use Rattle.kernel_top.specs.Plain.{Kernel, with_table}
-use Rattle.kernel_top.specs.Outside.{Outside, outside, Goes, Breaks}
+use Rattle.kernel_top.specs.Outside.{Past, Outside, outside, unasked, Goes, Breaks}
 use Rattle.kernel_top.specs.Standing.{stands_at, inside, working, Comes, GoesTo, BreaksAt, IsBeforeTheEnd}
 use Rattle.kernel_top.specs.Hearing.{filter_entry}
 use Rattle.kernel_top.specs.declared.answer.Stop.{Stop}
 use Rattle.kernel_top.specs.declared.answer.Stop.TheVariants as stop
-use Rattle.kernel_top.proofs.Journeys.{goes_silently, goes_then, breaks_here, goes_breaks, says, says_front}
+use Rattle.kernel_top.proofs.Journeys.{adds_nothing, goes_silently, goes_then, breaks_here, goes_breaks, says, says_front}
 use Rattle.kernel_top.proofs.Keeping.{only_processes}
 use Rattle.kernel_top.proofs.Output.{breaks_at}
 
@@ -46,7 +45,7 @@ output_inside : (s : State) (o : Option ℕ) (mark : ℕ) (text : List Cell) (ki
 output_inside s None mark text kind h b f rest = record { between = tt; before_end = tt; processes = refl }
 output_inside s (Some id) mark text kind h b f rest = put_inside (current id s) (prepare_output s.editor id mark text) kind h b f rest
 
-module _ (program : Program) (host : HostState) (k : Kernel) (u : Undo) (all : List Process) (stands : StandsFor k.beside.processes all) (p : ℕ) (w : Waiting) (target : Target) (rest : List Item) where
+module _ (program : Program) (past : Past) (k : Kernel) (u : Undo) (all : List Process) (stands : StandsFor k.beside.processes all) (p : ℕ) (w : Waiting) (target : Target) (rest : List Item) where
   abbrev behind : List Item
   behind = Wait w target ∷ rest
 
@@ -64,32 +63,32 @@ module _ (program : Program) (host : HostState) (k : Kernel) (u : Undo) (all : L
     within : IsInside entered all
     within = output_inside (inside s) (process_buffer_of (inside s) p) (mark_of_process (inside s) p) (bare text) kind None 0 false behind
 
-    pub entry_goes : {T E : Type 0} (old new : SinkState) (value : T) → Writes {T = T} {E = E} old new (Ok value) (line program.symbols s (Entered 0 kind None args)) → Goes program (outside old host) (outside new host) entry entered
-    entry_goes old new value w = subst (λ c. Goes program (outside old host) (outside new host) entry c) is (says program old new host entry (enter program s kind None args behind) _ value refl refl w)
+    pub entry_goes : {T E : Type 0} (old new : SinkState) (value : T) → Writes {T = T} {E = E} old new (Ok value) (line program.symbols s (Entered 0 kind None args)) → Goes program (outside old past) (outside new past) entry entered
+    entry_goes old new value w = subst (λ c. Goes program (outside old past) (outside new past) entry c) is (says program old new past entry (enter program s kind None args behind) _ value refl refl w)
 
-    pub entry_breaks : {T E : Type 0} (old new : SinkState) (fault : E) → Writes {T = T} {E = E} old new (Err fault) (line program.symbols s (Entered 0 kind None args)) → BreaksAt program (outside old host) (outside new host) entry k stop.WriteFault
+    pub entry_breaks : {T E : Type 0} (old new : SinkState) (fault : E) → Writes {T = T} {E = E} old new (Err fault) (line program.symbols s (Entered 0 kind None args)) → BreaksAt program (outside old past) (outside new past) entry k stop.WriteFault
     entry_breaks old new fault w =
         let at : Config = (enter program s kind None args behind).config in
         let between : IsBetweenEntries at = subst IsBetweenEntries (sym is) within.between in
-        let b : Breaks program (outside old host) (outside new host) entry = says_front program old new host entry (enter program s kind None args behind) _ fault refl refl between w in
-        breaks_at program (outside old host) (outside new host) entry k stop.WriteFault all b stands refl (subst IsBeforeTheEnd (sym is) within.before_end) (ap (λ (c : Config). c.state.processes) is ∙ within.processes)
+        let b : Breaks program (outside old past) (outside new past) entry = says_front program old new past entry (enter program s kind None args behind) _ fault refl refl between w in
+        breaks_at program (outside old past) (outside new past) entry k stop.WriteFault all b stands refl (subst IsBeforeTheEnd (sym is) within.before_end) (ap (λ (c : Config). c.state.processes) is ∙ within.processes)
 
     -- broken off behind the entry
-    pub entered_breaks : (old new : SinkState) → Goes program (outside old host) (outside new host) entry entered → BreaksAt program (outside old host) (outside new host) entry k stop.NoMemory
+    pub entered_breaks : (old new : SinkState) → Goes program (outside old past) (outside new past) entry entered → BreaksAt program (outside old past) (outside new past) entry k stop.NoMemory
     entered_breaks old new g =
-        breaks_at program (outside old host) (outside new host) entry k stop.NoMemory all (goes_breaks program (outside old host) (outside new host) (outside new host) entry entered g (breaks_here program (outside new host) entered within.between)) stands refl within.before_end within.processes
+        breaks_at program (outside old past) (outside new past) entry k stop.NoMemory all (goes_breaks program (outside old past) (outside new past) (outside new past) entry entered g (breaks_here program (outside new past) entered within.between)) stands refl within.before_end within.processes
 
   -- LEAVING
   module _ (faulted : Bool) where
     abbrev pub leaving : Kind → Config
     leaving kind = working (inside s) (Exit kind None 0 faulted ∷ behind)
 
-    pub filter_left : {T E : Type 0} (old new : SinkState) (value : T) → Writes {T = T} {E = E} old new (Ok value) (line program.symbols (inside s) (Left 0 None)) → Goes program (outside old host) (outside new host) (leaving (OfFilter p)) (working s behind)
-    filter_left old new value w = says program old new host (leaving (OfFilter p)) (exit program (inside s) (OfFilter p) None 0 faulted behind) _ value refl refl w
+    pub filter_left : {T E : Type 0} (old new : SinkState) (value : T) → Writes {T = T} {E = E} old new (Ok value) (line program.symbols (inside s) (Left 0 None)) → Goes program (outside old past) (outside new past) (leaving (OfFilter p)) (working s behind)
+    filter_left old new value w = says program old new past (leaving (OfFilter p)) (exit program (inside s) (OfFilter p) None 0 faulted behind) _ value refl refl w
 
-    pub filter_left_breaks : {T E : Type 0} (old new : SinkState) (fault : E) → Writes {T = T} {E = E} old new (Err fault) (line program.symbols (inside s) (Left 0 None)) → BreaksAt program (outside old host) (outside new host) (leaving (OfFilter p)) k stop.WriteFault
+    pub filter_left_breaks : {T E : Type 0} (old new : SinkState) (fault : E) → Writes {T = T} {E = E} old new (Err fault) (line program.symbols (inside s) (Left 0 None)) → BreaksAt program (outside old past) (outside new past) (leaving (OfFilter p)) k stop.WriteFault
     filter_left_breaks old new fault w =
-        breaks_at program (outside old host) (outside new host) (leaving (OfFilter p)) k stop.WriteFault all (says_front program old new host (leaving (OfFilter p)) (exit program (inside s) (OfFilter p) None 0 faulted behind) _ fault refl refl tt w) stands refl tt refl
+        breaks_at program (outside old past) (outside new past) (leaving (OfFilter p)) k stop.WriteFault all (says_front program old new past (leaving (OfFilter p)) (exit program (inside s) (OfFilter p) None 0 faulted behind) _ fault refl refl tt w) stands refl tt refl
 
     -- a sentinel's process goes off the list as it is left
     abbrev unlisted_all : List Process
@@ -102,14 +101,14 @@ module _ (program : Program) (host : HostState) (k : Kernel) (u : Undo) (all : L
       unlisted_kernel : change_process p unlisted s ≡ stands_at new_kernel u unlisted_all
       unlisted_kernel = unlisted_state ∙ ap (λ (n : Kernel). stands_at n u unlisted_all) (sym is)
 
-      pub sentinel_left : {T E : Type 0} (old new : SinkState) (value : T) → Writes {T = T} {E = E} old new (Ok value) (line program.symbols (inside s) (Left 0 None)) → Goes program (outside old host) (outside new host) (leaving (OfSentinel p)) (working (stands_at new_kernel u unlisted_all) behind)
+      pub sentinel_left : {T E : Type 0} (old new : SinkState) (value : T) → Writes {T = T} {E = E} old new (Ok value) (line program.symbols (inside s) (Left 0 None)) → Goes program (outside old past) (outside new past) (leaving (OfSentinel p)) (working (stands_at new_kernel u unlisted_all) behind)
       sentinel_left old new value w =
-          subst (λ t. Goes program (outside old host) (outside new host) (leaving (OfSentinel p)) (working t behind)) unlisted_kernel
-          (says program old new host (leaving (OfSentinel p)) (exit program (inside s) (OfSentinel p) None 0 faulted behind) _ value refl refl w)
+          subst (λ t. Goes program (outside old past) (outside new past) (leaving (OfSentinel p)) (working t behind)) unlisted_kernel
+          (says program old new past (leaving (OfSentinel p)) (exit program (inside s) (OfSentinel p) None 0 faulted behind) _ value refl refl w)
 
-      pub sentinel_left_breaks : {T E : Type 0} (old new : SinkState) (fault : E) → Writes {T = T} {E = E} old new (Err fault) (line program.symbols (inside s) (Left 0 None)) → BreaksAt program (outside old host) (outside new host) (leaving (OfSentinel p)) new_kernel stop.WriteFault
+      pub sentinel_left_breaks : {T E : Type 0} (old new : SinkState) (fault : E) → Writes {T = T} {E = E} old new (Err fault) (line program.symbols (inside s) (Left 0 None)) → BreaksAt program (outside old past) (outside new past) (leaving (OfSentinel p)) new_kernel stop.WriteFault
       sentinel_left_breaks old new fault w =
-          breaks_at program (outside old host) (outside new host) (leaving (OfSentinel p)) new_kernel stop.WriteFault unlisted_all (says_front program old new host (leaving (OfSentinel p)) (exit program (inside s) (OfSentinel p) None 0 faulted behind) _ fault refl refl tt w) stands_now refl tt refl
+          breaks_at program (outside old past) (outside new past) (leaving (OfSentinel p)) new_kernel stop.WriteFault unlisted_all (says_front program old new past (leaving (OfSentinel p)) (exit program (inside s) (OfSentinel p) None 0 faulted behind) _ fault refl refl tt w) stands_now refl tt refl
 
 -- the entry of a filter with some output
 pub filter_entered_with : (p : ℕ) (text : List Ch) (rest : List Item) → 0 < length text → filter_entry p text rest ≡ Enter (OfFilter p) None (TheProcess p ∷ Str (bare text) ∷ []) ∷ rest
@@ -131,3 +130,43 @@ goes_behind program a b c x y k to g (v, all, stands, h) = (v, all, stands, goes
 pub comes_behind : {T : Type 0} (result : Result T Stop) (program : Program) (a b c : Outside) (x y : Config) (k : Kernel) (to : T → Undo → List Process → Config) → Goes program a b x y → Comes result program b c y k to → Comes result program a c x k to
 comes_behind (Ok t) program a b c x y k to g h = goes_behind program a b c x y k (to t) g h
 comes_behind (Err why) program a b c x y k to g h = breaks_behind program a b c x y k why g h
+
+-- NOTHING ASKED
+-- what needed no exchange is so whatever was made before
+pub goes_unasked : (program : Program) (old new : SinkState) (past : Past) (x y : Config) → Goes program (unasked old) (unasked new) x y → Goes program (outside old past) (outside new past) x y
+goes_unasked program old new past x y g = record {
+  made = g.made;
+  said = g.said;
+  run = g.run;
+  written = g.written;
+  adds = rw (g.adds [] refl) (adds_nothing past);
+  later = g.later;
+  roomy = g.roomy;
+}
+
+pub unasked_breaks : (program : Program) (old new : SinkState) (past : Past) (x : Config) (k : Kernel) (why : Stop) → BreaksAt program (unasked old) (unasked new) x k why → BreaksAt program (outside old past) (outside new past) x k why
+unasked_breaks program old new past x k why h = record {
+  breaks = record {
+    made = h.breaks.made;
+    said = h.breaks.said;
+    last = h.breaks.last;
+    run = h.breaks.run;
+    between = h.breaks.between;
+    bytes = h.breaks.bytes;
+    front = h.breaks.front;
+    written = h.breaks.written;
+    adds = rw (h.breaks.adds [] refl) (adds_nothing past);
+    later = h.breaks.later;
+    whole = h.breaks.whole;
+    roomy = h.breaks.roomy;
+  };
+  before_end = h.before_end;
+  left = h.left;
+}
+
+pub unasked_goes : (program : Program) (old new : SinkState) (past : Past) (x : Config) (k : Kernel) (to : Undo → List Process → Config) → GoesTo program (unasked old) (unasked new) x k to → GoesTo program (outside old past) (outside new past) x k to
+unasked_goes program old new past x k to (v, all, stands, g) = (v, all, stands, goes_unasked program old new past x (to v all) g)
+
+pub unasked_comes : {T : Type 0} (result : Result T Stop) (program : Program) (old new : SinkState) (past : Past) (x : Config) (k : Kernel) (to : T → Undo → List Process → Config) → Comes result program (unasked old) (unasked new) x k to → Comes result program (outside old past) (outside new past) x k to
+unasked_comes (Ok t) program old new past x k to h = unasked_goes program old new past x k (to t) h
+unasked_comes (Err why) program old new past x k to h = unasked_breaks program old new past x k why h

@@ -1,12 +1,12 @@
 -- The end of a run: which children are left, and how the machine kills them.
-use Rattle.std.proofs.Common.{◌≡◌, ℕ, zero, suc, ◌+◌, ◌<◌, Bool, true, false, List, [], ◌∷◌, ◌++◌, length, drop, All, slice_get, slice_set, refl, ap, sym, ◌∙◌, subst, arith, append-nil, append_assoc}
-use Rattle.std.specs.Prelude.{Some, if◌then◌else◌}
+use Rattle.std.proofs.Common.{◌≡◌, ℕ, zero, suc, ◌+◌, ◌<◌, Bool, true, false, List, [], ◌∷◌, ◌++◌, length, drop, All, slice_get, slice_set, refl, ap, sym, ◌∙◌, subst, arith, append-nil, append_assoc, inl, inr}
+use Rattle.std.specs.Prelude.{Some, ◌⊎◌, if◌then◌else◌}
 use Rattle.std.proofs.lemmas.Bool.{lt-ltb, false≢true}
 use Rattle.text_model.specs.Properties.{insert_name}
 use Rattle.plain_machine.specs.Exchanges.{rising}
 use Rattle.plain_machine.specs.State.{Process}
 use Rattle.plain_machine.specs.Arguments.{runs}
-use Rattle.plain_machine.specs.Exchanges.{Exchange, Answer, Kill}
+use Rattle.plain_machine.specs.Exchanges.{Exchange, Answer, Kill, Killed, Failed}
 use Rattle.plain_machine.specs.State.{State, Status, Runs, Exited, Signalled, Lost, Program}
 use Rattle.plain_machine.specs.Lines.{KilledLast, line}
 use Rattle.plain_machine.specs.Items.{Finish, Said, Config, Next, Asks}
@@ -18,19 +18,19 @@ use Rattle.plain_machine.specs.Run.{Reaches, stays, goes}
 use Rattle.plain_machine.specs.WholeRuns.{AreKills}
 use Rattle.text_model.specs.Undo.{Undo}
 use Rattle.std.proofs.lemmas.List.{drop-map}
+use Rattle.std.proofs.lemmas.List.Elements.{All-nil, All-cons, All-append}
 use Rattle.text_model.proofs.Lists.{drop_at}
 use Rattle.process_table.specs.Table.{StandsFor, kept}
 use Rattle.machine_laws.specs.Children.{to_kill}
-use Rattle.host_link.specs.Hosts.{HostState, Exchanged}
 use Rattle.host_link.specs.Hosts.{kill_answer as told_kill}
 use Rattle.host_link.specs.declared.host.KillAnswer.{KillAnswer}
 use Rattle.host_link.specs.declared.host.KillAnswer.TheVariants as killed
 use Rattle.ek_types.specs.Io.{SinkState}
 use Rattle.kernel_top.specs.Plain.{Kernel}
-use Rattle.kernel_top.specs.Outside.{deepest, Outside, outside, Breaks}
+use Rattle.kernel_top.specs.Outside.{deepest, Past, Outside, outside, Breaks}
 use Rattle.kernel_top.specs.Standing.{stands_at, working, Hosted, children, running}
-use Rattle.kernel_top.specs.Ending.{Halts}
-use Rattle.kernel_top.proofs.Journeys.{tells_then}
+use Rattle.kernel_top.specs.Ending.{IsAnsweredKill, Halts}
+use Rattle.kernel_top.proofs.Journeys.{AddsOne, adds_then}
 use Rattle.kernel_top.proofs.Output.{Stood, stood, running_alike}
 
 -- CHILDREN BY RISING NUMBER
@@ -105,10 +105,14 @@ more_kills [] (x ∷ kills) c answer h = absurd h
 more_kills (d ∷ done) [] c answer h = absurd h
 more_kills (d ∷ done) (x ∷ kills) c answer (first, rest) = (first, more_kills done kills c answer rest)
 
-pub halts_kill : (program : Program) (before : Outside) (sink : SinkState) (old new : HostState) (from : Config) (list : List Bool) (c : ℕ) (left : List ℕ) (answer : Answer) → Exchanged old new list (Kill c) answer → Halts program before (outside sink old) from (c ∷ left) → Halts program before (outside sink new) from left
-halts_kill program before sink old new from list c left answer x h = record {
+answered_so : (r : KillAnswer) → (told_kill r ≡ Killed) ⊎ (told_kill r ≡ Failed)
+answered_so killed.Killed = inl refl
+answered_so killed.Failed = inr refl
+
+pub halts_kill : (program : Program) (before : Outside) (sink : SinkState) (old new : Past) (from : Config) (c : ℕ) (left : List ℕ) (r : KillAnswer) → AddsOne old new (Kill c) (told_kill r) → Halts program before (outside sink old) from (c ∷ left) → Halts program before (outside sink new) from left
+halts_kill program before sink old new from c left r x h = record {
   made = h.made;
-  kills = h.kills ++ record { ask = Kill c; answer = answer } ∷ [];
+  kills = h.kills ++ record { ask = Kill c; answer = told_kill r } ∷ [];
   said = h.said;
   last = h.last;
   run = h.run;
@@ -116,12 +120,13 @@ halts_kill program before sink old new from list c left answer x h = record {
   bytes = h.bytes;
   front = h.front;
   written = h.written;
-  told = rw (append_assoc h.made h.kills (record { ask = Kill c; answer = answer } ∷ [])) at (tells_then before.host.told old.told new.told (h.made ++ h.kills) (record { ask = Kill c; answer = answer } ∷ []) h.told x.told);
+  adds = rw (append_assoc h.made h.kills (record { ask = Kill c; answer = told_kill r } ∷ [])) at (adds_then before.past old new (h.made ++ h.kills) (record { ask = Kill c; answer = told_kill r } ∷ []) h.adds x);
   later = h.later;
   whole = h.whole;
   roomy = h.roomy;
   done = h.done ++ c ∷ [];
-  killed = more_kills h.done h.kills c answer h.killed;
+  killed = more_kills h.done h.kills c (told_kill r) h.killed;
+  answered = All-append IsAnsweredKill h.kills (record { ask = Kill c; answer = told_kill r } ∷ []) h.answered (All-cons IsAnsweredKill (record { ask = Kill c; answer = told_kill r }) [] (answered_so r) (All-nil IsAnsweredKill));
   living = h.living ∙ sym (append_assoc h.done (c ∷ []) left);
 }
 
@@ -133,6 +138,7 @@ pub halts_of : (program : Program) (before now : Outside) (from : Config) (left 
 halts_of program before now from left b e = record {
   made = b.made;
   kills = [];
+  answered = All-nil IsAnsweredKill;
   said = b.said;
   last = b.last;
   run = b.run;
@@ -140,7 +146,7 @@ halts_of program before now from left b e = record {
   bytes = b.bytes;
   front = b.front;
   written = b.written;
-  told = rw append-nil b.told;
+  adds = rw append-nil b.adds;
   later = b.later;
   whole = b.whole;
   roomy = b.roomy;

@@ -1,5 +1,5 @@
 -- How what a run does to the outside is put together of its steps.
-use Rattle.std.proofs.Common.{◌≡◌, ◌+◌, List, [], ◌∷◌, ◌++◌, length, Ok, Err, Some, None, sym, ap, ◌∙◌, append-nil, append_assoc, refl, arith, length-append, option_map}
+use Rattle.std.proofs.Common.{◌≡◌, ◌+◌, List, [], ◌∷◌, ◌++◌, length, Ok, Err, Some, sym, ap, ◌∙◌, append-nil, append_assoc, refl, arith, length-append, subst}
 use Rattle.std.specs.declared.option.Option.{Option}
 use Rattle.std.proofs.KnownBytes.{Appends-nil, Appends-trans}
 use Rattle.std.proofs.lemmas.Bool.{false≢true}
@@ -12,8 +12,7 @@ use Rattle.plain_machine.specs.Run.{Reaches, stays, goes, asks, lines}
 use Rattle.plain_machine.specs.WholeRuns.{IsBetweenEntries}
 use Rattle.plain_machine.proofs.Composed.{reaches_then}
 use Rattle.ek_types.specs.Io.{SinkState, Writes}
-use Rattle.host_link.specs.Hosts.{HostState, Exchanged}
-use Rattle.kernel_top.specs.Outside.{deepest, Outside, outside, Tells, Goes, Breaks}
+use Rattle.kernel_top.specs.Outside.{deepest, Past, Outside, outside, Adds, Goes, Breaks}
 
 -- LINES
 pub lines_then : (first second : List Said) → lines (first ++ second) ≡ lines first ++ lines second
@@ -26,13 +25,15 @@ pub said_in_all : (first second : List Said) → length (lines (first ++ second)
 said_in_all first second = ap length (lines_then first second) ∙ length-append (lines first) (lines second)
 
 -- EXCHANGES
-pub tells_nothing : (told : Option (List Exchange)) → Tells told told []
-tells_nothing None = refl
-tells_nothing (Some list) = ap Some (sym (append-nil list))
+pub adds_nothing : (past : Past) → Adds past past []
+adds_nothing past = λ exchanges h. subst past (sym (append-nil exchanges)) h
 
-pub tells_then : (a b c : Option (List Exchange)) (first second : List Exchange) → Tells a b first → Tells b c second → Tells a c (first ++ second)
-tells_then None b c first second h k = rw h at k
-tells_then (Some list) b c first second h k = rw (h, option_map) at k ∙ ap Some (append_assoc list first second)
+pub adds_then : (a b c : Past) (first second : List Exchange) → Adds a b first → Adds b c second → Adds a c (first ++ second)
+adds_then a b c first second h k = λ exchanges x. subst c (append_assoc exchanges first second) (k (exchanges ++ first) (h exchanges x))
+
+-- one exchange more was made
+abbrev pub AddsOne : (old new : Past) → Ask → Answer → Type 0
+AddsOne old new ask answer = Adds old new (record { ask = ask; answer = answer } ∷ [])
 
 module _ (program : Program) where
   -- STEPS THAT SAY NOTHING
@@ -42,7 +43,7 @@ module _ (program : Program) where
     said = [];
     run = run;
     written = Appends-nil o.sink.held;
-    told = tells_nothing o.host.told;
+    adds = adds_nothing o.past;
     later = omega arith;
     roomy = λ few. record { faults = refl; room = omega arith };
   }
@@ -53,7 +54,7 @@ module _ (program : Program) where
     said = g.said ++ h.said;
     run = reaches_then program deepest x y z g.made h.made g.said h.said g.run h.run;
     written = rw (lines_then g.said h.said) (Appends-trans a.sink.held b.sink.held c.sink.held (lines g.said) (lines h.said) g.written h.written);
-    told = tells_then a.host.told b.host.told c.host.told g.made h.made g.told h.told;
+    adds = adds_then a.past b.past c.past g.made h.made g.adds h.adds;
     later = omega (arith, g.later, h.later);
     roomy = λ few.
         let size = said_in_all g.said h.said in
@@ -73,7 +74,7 @@ module _ (program : Program) where
     bytes = [];
     front = ([], refl);
     written = Appends-nil o.sink.held;
-    told = tells_nothing o.host.told;
+    adds = adds_nothing o.past;
     later = omega arith;
     whole = λ fine. refl;
     roomy = λ few. refl;
@@ -89,7 +90,7 @@ module _ (program : Program) where
     bytes = lines g.said ++ h.bytes;
     front = (h.front.0, append_assoc (lines g.said) h.bytes h.front.0 ∙ ap (λ l. lines g.said ++ l) h.front.1 ∙ sym (lines_then g.said h.said));
     written = Appends-trans a.sink.held b.sink.held c.sink.held (lines g.said) h.bytes g.written h.written;
-    told = tells_then a.host.told b.host.told c.host.told g.made h.made g.told h.told;
+    adds = adds_then a.past b.past c.past g.made h.made g.adds h.adds;
     later = omega (arith, g.later, h.later);
     whole = λ fine. ap (λ l. lines g.said ++ l) (h.whole (λ rose. fine (omega (arith, g.later, rose)))) ∙ sym (lines_then g.said h.said);
     roomy = λ few.
@@ -106,14 +107,14 @@ module _ (program : Program) where
   said_one c n x e said = rw (said) at (rw append-nil at (one c n e))
 
   -- a line that the machine says is written
-  pub says : {T E : Type 0} (old new : SinkState) (host : HostState) (c : Config) (n : Next) (x : Said) (value : T) → step program deepest c ≡ Steps n → n.said ≡ x ∷ [] →
-      Writes {T = T} {E = E} old new (Ok value) x.line → Goes program (outside old host) (outside new host) c n.config
-  says old new host c n x value e said w = record {
+  pub says : {T E : Type 0} (old new : SinkState) (past : Past) (c : Config) (n : Next) (x : Said) (value : T) → step program deepest c ≡ Steps n → n.said ≡ x ∷ [] →
+      Writes {T = T} {E = E} old new (Ok value) x.line → Goes program (outside old past) (outside new past) c n.config
+  says old new past c n x value e said w = record {
     made = [];
     said = x ∷ [];
     run = said_one c n x e said;
     written = rw (lines_of_one x) w.ok;
-    told = tells_nothing host.told;
+    adds = adds_nothing past;
     later = w.later;
     roomy = λ few.
         let takes = w.roomy (rw (lines_of_one x) at few) in
@@ -121,9 +122,9 @@ module _ (program : Program) where
   }
 
   -- or a front of it
-  abbrev pub says_front : {T E : Type 0} (old new : SinkState) (host : HostState) (c : Config) (n : Next) (x : Said) (fault : E) → step program deepest c ≡ Steps n → n.said ≡ x ∷ [] → IsBetweenEntries n.config →
-      Writes {T = T} {E = E} old new (Err fault) x.line → Breaks program (outside old host) (outside new host) c
-  says_front old new host c n x fault e said between w = record {
+  abbrev pub says_front : {T E : Type 0} (old new : SinkState) (past : Past) (c : Config) (n : Next) (x : Said) (fault : E) → step program deepest c ≡ Steps n → n.said ≡ x ∷ [] → IsBetweenEntries n.config →
+      Writes {T = T} {E = E} old new (Err fault) x.line → Breaks program (outside old past) (outside new past) c
+  says_front old new past c n x fault e said between w = record {
     made = [];
     said = x ∷ [];
     last = n.config;
@@ -132,7 +133,7 @@ module _ (program : Program) where
     bytes = w.err.0;
     front = (w.err.1.0, sym w.err.1.1 ∙ sym (lines_of_one x));
     written = w.err.2;
-    told = tells_nothing host.told;
+    adds = adds_nothing past;
     later = w.later;
     whole = λ fine. absurd (fine w.rose);
     roomy = λ few. absurd (false≢true (w.roomy (rw (lines_of_one x) at few)).ok);
@@ -145,14 +146,14 @@ module _ (program : Program) where
       let run : Reaches program deepest c (record { ask = ask; answer = answer } ∷ []) (n.said ++ []) n.config = asks e k stays in
       rw append-nil at run
 
-  pub asked : (sink : SinkState) (old new : HostState) (c : Config) (ask : Ask) (answer : Answer) (next : Answer → Option Next) (n : Next) (children : _) →
-      step program deepest c ≡ Asks ask next → next answer ≡ Some n → n.said ≡ [] → Exchanged old new children ask answer → Goes program (outside sink old) (outside sink new) c n.config
-  asked sink old new c ask answer next n children e k said x = record {
+  pub asked : (sink : SinkState) (old new : Past) (c : Config) (ask : Ask) (answer : Answer) (next : Answer → Option Next) (n : Next) →
+      step program deepest c ≡ Asks ask next → next answer ≡ Some n → n.said ≡ [] → AddsOne old new ask answer → Goes program (outside sink old) (outside sink new) c n.config
+  asked sink old new c ask answer next n e k said x = record {
     made = record { ask = ask; answer = answer } ∷ [];
     said = [];
     run = rw said at (one_asked c ask answer next n e k);
     written = Appends-nil sink.held;
-    told = x.told;
+    adds = x;
     later = omega arith;
     roomy = λ few. record { faults = refl; room = omega arith };
   }
@@ -162,25 +163,25 @@ module _ (program : Program) where
       Reaches program deepest c (record { ask = ask; answer = answer } ∷ []) (x ∷ []) n.config
   said_asked c ask answer next n x e k said = rw said at (one_asked c ask answer next n e k)
 
-  pub asked_says : {T E : Type 0} (old new : SinkState) (host_old host_new : HostState) (children : _) (c : Config) (ask : Ask) (answer : Answer) (next : Answer → Option Next) (n : Next) (x : Said) (value : T) →
-      step program deepest c ≡ Asks ask next → next answer ≡ Some n → n.said ≡ x ∷ [] → Exchanged host_old host_new children ask answer → Writes {T = T} {E = E} old new (Ok value) x.line →
-      Goes program (outside old host_old) (outside new host_new) c n.config
-  asked_says old new host_old host_new children c ask answer next n x value e k said exchange w = record {
+  pub asked_says : {T E : Type 0} (old new : SinkState) (past now : Past) (c : Config) (ask : Ask) (answer : Answer) (next : Answer → Option Next) (n : Next) (x : Said) (value : T) →
+      step program deepest c ≡ Asks ask next → next answer ≡ Some n → n.said ≡ x ∷ [] → AddsOne past now ask answer → Writes {T = T} {E = E} old new (Ok value) x.line →
+      Goes program (outside old past) (outside new now) c n.config
+  asked_says old new past now c ask answer next n x value e k said exchange w = record {
     made = record { ask = ask; answer = answer } ∷ [];
     said = x ∷ [];
     run = said_asked c ask answer next n x e k said;
     written = rw (lines_of_one x) w.ok;
-    told = exchange.told;
+    adds = exchange;
     later = w.later;
     roomy = λ few.
         let takes = w.roomy (rw (lines_of_one x) at few) in
         record { faults = takes.faults; room = rw (lines_of_one x) takes.room };
   }
 
-  abbrev pub asked_front : {T E : Type 0} (old new : SinkState) (host_old host_new : HostState) (children : _) (c : Config) (ask : Ask) (answer : Answer) (next : Answer → Option Next) (n : Next) (x : Said) (fault : E) →
-      step program deepest c ≡ Asks ask next → next answer ≡ Some n → n.said ≡ x ∷ [] → IsBetweenEntries n.config → Exchanged host_old host_new children ask answer → Writes {T = T} {E = E} old new (Err fault) x.line →
-      Breaks program (outside old host_old) (outside new host_new) c
-  asked_front old new host_old host_new children c ask answer next n x fault e k said between exchange w = record {
+  abbrev pub asked_front : {T E : Type 0} (old new : SinkState) (past now : Past) (c : Config) (ask : Ask) (answer : Answer) (next : Answer → Option Next) (n : Next) (x : Said) (fault : E) →
+      step program deepest c ≡ Asks ask next → next answer ≡ Some n → n.said ≡ x ∷ [] → IsBetweenEntries n.config → AddsOne past now ask answer → Writes {T = T} {E = E} old new (Err fault) x.line →
+      Breaks program (outside old past) (outside new now) c
+  asked_front old new past now c ask answer next n x fault e k said between exchange w = record {
     made = record { ask = ask; answer = answer } ∷ [];
     said = x ∷ [];
     last = n.config;
@@ -189,7 +190,7 @@ module _ (program : Program) where
     bytes = w.err.0;
     front = (w.err.1.0, sym w.err.1.1 ∙ sym (lines_of_one x));
     written = w.err.2;
-    told = exchange.told;
+    adds = exchange;
     later = w.later;
     whole = λ fine. absurd (fine w.rose);
     roomy = λ few. absurd (false≢true (w.roomy (rw (lines_of_one x) at few)).ok);

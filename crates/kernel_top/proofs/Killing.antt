@@ -17,16 +17,16 @@ use Rattle.plain_machine.specs.Lines.{line, KilledLast, Dumped}
 use Rattle.text_model.specs.Undo.{Undo}
 use Rattle.text_model.proofs.Lists.{drop_at}
 use Rattle.process_table.specs.Table.{StandsFor, kept}
-use Rattle.host_link.specs.Hosts.{HostState, Exchanged, kill_answer}
+use Rattle.host_link.specs.Hosts.{kill_answer}
 use Rattle.host_link.specs.declared.host.KillAnswer.{KillAnswer}
 use Rattle.ek_types.specs.Io.{SinkState, Writes}
 use Rattle.kernel_top.specs.Plain.{Kernel}
-use Rattle.kernel_top.specs.Outside.{deepest, Outside, outside, Goes}
+use Rattle.kernel_top.specs.Outside.{deepest, Past, Outside, outside, Goes}
 use Rattle.kernel_top.specs.Standing.{stands_at, working, Comes, IsBeforeTheEnd, unmade, with_unmade, Hosted, children, running}
 use Rattle.kernel_top.specs.Ending.{IsAtEnd, Halts}
 use Rattle.kernel_top.specs.declared.answer.Stop.{Stop}
 use Rattle.kernel_top.specs.declared.answer.Stop.TheVariants as stop
-use Rattle.kernel_top.proofs.Journeys.{goes_silently, goes_then, goes_breaks, says, says_front, asked_says, asked_front}
+use Rattle.kernel_top.proofs.Journeys.{AddsOne, goes_silently, goes_then, goes_breaks, says, says_front, asked_says, asked_front}
 use Rattle.kernel_top.proofs.Finishing.{sorted_children, hosted_split, hosted_killed, first_lives, halts_as, halts_of, halts_kill, left_skip, left_kill, left_behind, skips, kills_it, killing, kill_said, finishing, answered_kill}
 
 tail_hosted : (x : Process) (list : List Process) (kills : List Bool) → Hosted (x ∷ list) kills → Hosted list kills
@@ -56,9 +56,9 @@ module _ (k : Kernel) (p : ℕ) (x : Process) (made : slice_get k.beside.process
     end_skip (Ok t) now e (v, all, stands, gone) = (v, all, stands, goes_then program before now now from (finishing program k v all stands p x made p) (finishing program k v all stands p x made (p + 1)) gone (goes_silently program now (finishing program k v all stands p x made p) (finishing program k v all stands p x made (p + 1)) (skips program k v all stands p x made e)))
     end_skip (Err why) now e h = halts_as program before now from _ _ (left_skip list p x made (unmade why) e) h
 
-    module _ (runs_it : runs x.status ≡ true) (old new : HostState) (kills : List Bool) (r : KillAnswer) (exchange : Exchanged old new kills (Kill x.child) (kill_answer r)) where
+    module _ (runs_it : runs x.status ≡ true) (old new : Past) (r : KillAnswer) (exchange : AddsOne old new (Kill x.child) (kill_answer r)) where
       pub end_broken : (why : Stop) (sink : SinkState) → Halts program before (outside sink old) from (children (running (drop p list ++ unmade why))) → Halts program before (outside sink new) from (children (running (drop (p + 1) list ++ unmade why)))
-      end_broken why sink h = halts_kill program before sink old new from kills x.child _ (kill_answer r) exchange (halts_as program before (outside sink old) from _ _ (left_kill list p x made (unmade why) runs_it) h)
+      end_broken why sink h = halts_kill program before sink old new from x.child _ r exchange (halts_as program before (outside sink old) from _ _ (left_kill list p x made (unmade why) runs_it) h)
 
       module _ (v : Undo) (all : List Process) (stands : StandsFor list all) (sink_old sink_new : SinkState) where
         abbrev at : ℕ → Config
@@ -69,11 +69,11 @@ module _ (k : Kernel) (p : ℕ) (x : Process) (made : slice_get k.beside.process
 
         pub end_kills : {E : Type 0} → Goes program before (outside sink_old old) from (at p) → Writes {T = Unit {0}} {E = E} sink_old sink_new (Ok tt) said_line → Goes program before (outside sink_new new) from (at (p + 1))
         end_kills gone w = goes_then program before (outside sink_old old) (outside sink_new new) from (at p) (at (p + 1)) gone
-            (asked_says program sink_old sink_new old new kills (at p) (Kill x.child) (kill_answer r) _ (killing program k v all stands p x made) (kill_said program k v all stands p x made) tt (kills_it program k v all stands p x made runs_it) (answered_kill (killing program k v all stands p x made) r) refl exchange w)
+            (asked_says program sink_old sink_new old new (at p) (Kill x.child) (kill_answer r) _ (killing program k v all stands p x made) (kill_said program k v all stands p x made) tt (kills_it program k v all stands p x made runs_it) (answered_kill (killing program k v all stands p x made) r) refl exchange w)
 
         pub end_kill_broken : {E : Type 0} (fault : E) (lists : List Bool) → Hosted (drop (p + 1) list) lists → Goes program before (outside sink_old old) from (at p) → Writes {T = Unit {0}} {E = E} sink_old sink_new (Err fault) said_line → Halts program before (outside sink_new new) from (children (running (drop (p + 1) list ++ [])))
         end_kill_broken fault lists hosted gone w =
-            let broken = asked_front program sink_old sink_new old new kills (at p) (Kill x.child) (kill_answer r) _ (killing program k v all stands p x made) (kill_said program k v all stands p x made) fault (kills_it program k v all stands p x made runs_it) (answered_kill (killing program k v all stands p x made) r) refl tt exchange w in
+            let broken = asked_front program sink_old sink_new old new (at p) (Kill x.child) (kill_answer r) _ (killing program k v all stands p x made) (kill_said program k v all stands p x made) fault (kills_it program k v all stands p x made runs_it) (answered_kill (killing program k v all stands p x made) r) refl tt exchange w in
             halts_of program before (outside sink_new new) from _ (goes_breaks program before (outside sink_old old) (outside sink_new new) from (at p) gone broken)
             (left_behind program k v all stands p x made lists hosted ∙ ap (λ l. children (running l)) (sym (append-nil (drop (p + 1) list))))
 
@@ -123,7 +123,7 @@ module _ (program : Program) (before : Outside) (from : Config) (k : Kernel) whe
   at_first (Err why) now kills hosted b =
       halts_of program before now from (children (running (k.beside.processes ++ unmade why))) b.breaks (before_the_end b.breaks.last b.before_end ∙ ap rising b.left ∙ sorted_children (k.beside.processes ++ unmade why) kills hosted)
 
-  module _ (v : Undo) (all : List Process) (stands : StandsFor k.beside.processes all) (host : HostState) (old new : SinkState) where
+  module _ (v : Undo) (all : List Process) (stands : StandsFor k.beside.processes all) (past : Past) (old new : SinkState) where
     abbrev s : State
     s = stands_at k v all
 
@@ -133,22 +133,22 @@ module _ (program : Program) (before : Outside) (from : Config) (k : Kernel) whe
     abbrev dumping : Config
     dumping = working s (WriteDump ∷ [])
 
-    to_dump : Goes program before (outside old host) from done_with → Goes program before (outside old host) from dumping
-    to_dump gone = goes_then program before (outside old host) (outside old host) from done_with dumping gone
-        (goes_silently program (outside old host) done_with dumping (goes (ap (λ o. finish_one program s (length k.beside.processes) o) (none_after k.beside.processes all stands)) stays))
+    to_dump : Goes program before (outside old past) from done_with → Goes program before (outside old past) from dumping
+    to_dump gone = goes_then program before (outside old past) (outside old past) from done_with dumping gone
+        (goes_silently program (outside old past) done_with dumping (goes (ap (λ o. finish_one program s (length k.beside.processes) o) (none_after k.beside.processes all stands)) stays))
 
     abbrev dumped : Said
     dumped = record { event = Dumped; line = line program.symbols s Dumped }
 
-    pub ends_whole : {E : Type 0} → Goes program before (outside old host) from done_with → Writes {T = Unit {0}} {E = E} old new (Ok tt) (line program.symbols s Dumped) →
-        (last : Config) × (step program deepest last ≡ Ended) × Goes program before (outside new host) from last
+    pub ends_whole : {E : Type 0} → Goes program before (outside old past) from done_with → Writes {T = Unit {0}} {E = E} old new (Ok tt) (line program.symbols s Dumped) →
+        (last : Config) × (step program deepest last ≡ Ended) × Goes program before (outside new past) from last
     ends_whole gone w = (
       working s [],
       refl,
-      goes_then program before (outside old host) (outside new host) from dumping (working s []) (to_dump gone)
-          (says program old new host dumping (machine_says program s Dumped s []) dumped tt refl refl w),
+      goes_then program before (outside old past) (outside new past) from dumping (working s []) (to_dump gone)
+          (says program old new past dumping (machine_says program s Dumped s []) dumped tt refl refl w),
     )
 
-    pub ends_broken : {E : Type 0} (fault : E) → Goes program before (outside old host) from done_with → Writes {T = Unit {0}} {E = E} old new (Err fault) (line program.symbols s Dumped) → Halts program before (outside new host) from []
-    ends_broken fault gone w = halts_of program before (outside new host) from [] (goes_breaks program before (outside old host) (outside new host) from dumping (to_dump gone)
-        (says_front program old new host dumping (machine_says program s Dumped s []) dumped fault refl refl tt w)) refl
+    pub ends_broken : {E : Type 0} (fault : E) → Goes program before (outside old past) from done_with → Writes {T = Unit {0}} {E = E} old new (Err fault) (line program.symbols s Dumped) → Halts program before (outside new past) from []
+    ends_broken fault gone w = halts_of program before (outside new past) from [] (goes_breaks program before (outside old past) (outside new past) from dumping (to_dump gone)
+        (says_front program old new past dumping (machine_says program s Dumped s []) dumped fault refl refl tt w)) refl

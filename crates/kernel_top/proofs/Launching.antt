@@ -26,16 +26,14 @@ use Rattle.plain_machine.specs.Step.{step}
 use Rattle.plain_machine.specs.Run.{Reaches, stays, goes}
 use Rattle.script_read.specs.GrammarSoFar.{IsBufferSoFar}
 use Rattle.process_table.specs.Table.{StandsFor, kept, new_process}
-use Rattle.host_link.specs.Hosts.{HostState, Exchanged}
 use Rattle.ek_types.specs.Io.{SinkState}
 use Rattle.kernel_top.specs.Plain.{Kernel, characters, with_process, asked_more, reply_item}
 use Rattle.kernel_top.specs.Answers.{called}
-use Rattle.kernel_top.specs.Outside.{deepest, Outside, outside, Goes}
+use Rattle.kernel_top.specs.Outside.{deepest, Past, Outside, outside, Goes}
 use Rattle.kernel_top.specs.Standing.{stands_at, working, Hosted}
 use Rattle.kernel_top.specs.Calls.{AreOfStart}
 use Rattle.kernel_top.specs.Starting.{is_word_argument, are_words, buffer_of, start_refused}
-use Rattle.kernel_top.specs.declared.answer.Stop.TheVariants as stop
-use Rattle.kernel_top.proofs.Journeys.{goes_silently, goes_then, asked}
+use Rattle.kernel_top.proofs.Journeys.{AddsOne, goes_silently, goes_then, asked}
 use Rattle.kernel_top.proofs.HostedLemmas.{next_is_new}
 
 -- ARGUMENTS
@@ -162,16 +160,16 @@ module _ (program : Program) (k : Kernel) (u : Undo) (all : List Process) (stand
         (goes_silently program o calling (working s (Refuse f ∷ Top fs ∷ [])) (goes (step_by (Some f) e) stays))
 
     -- ASKED
-    module _ (may : start_refused k (bare r.name) (bare r.program) (drop 2 args) ≡ None) (sink : SinkState) (old new : HostState) (kids : List Bool) where
+    module _ (may : start_refused k (bare r.name) (bare r.program) (drop 2 args) ≡ None) (sink : SinkState) (old new : Past) where
       abbrev ask : Ask
       ask = Spawn (encoded (bare r.program)) (map (λ v. encoded (string_of v)) (map plain r.arguments))
 
-      goes_asked : (answer : Answer) (n : Next) → spawned s Nowhere (Top fs ∷ []) (plain r.name) r.buffer answer ≡ Some n → n.said ≡ [] → Exchanged old new kids ask answer → Goes program (outside sink old) (outside sink new) from n.config
+      goes_asked : (answer : Answer) (n : Next) → spawned s Nowhere (Top fs ∷ []) (plain r.name) r.buffer answer ≡ Some n → n.said ≡ [] → AddsOne old new ask answer → Goes program (outside sink old) (outside sink new) from n.config
       goes_asked answer n e said x =
           goes_then program (outside sink old) (outside sink old) (outside sink new) from calling n.config (goes_silently program (outside sink old) from calling called_at)
-          (asked program sink old new calling ask answer (spawned s Nowhere (Top fs ∷ []) (plain r.name) r.buffer) n kids (step_by None may) e said x)
+          (asked program sink old new calling ask answer (spawned s Nowhere (Top fs ∷ []) (plain r.name) r.buffer) n (step_by None may) e said x)
 
-      pub spawn_failed : Exchanged old new kids ask model.Refused → Goes program (outside sink old) (outside sink new) from (working (stands_at (asked_more k) u all) (reply_item (Refused SpawnFailed) ∷ Top fs ∷ []))
+      pub spawn_failed : AddsOne old new ask model.Refused → Goes program (outside sink old) (outside sink new) from (working (stands_at (asked_more k) u all) (reply_item (Refused SpawnFailed) ∷ Top fs ∷ []))
       spawn_failed x = goes_asked model.Refused (silent (record s { asked = s.asked + 1 }) (Refuse SpawnFailed ∷ Top fs ∷ [])) refl refl x
 
       abbrev with_one : (name : Name) → (child : ℕ) → List Process
@@ -182,10 +180,10 @@ module _ (program : Program) (k : Kernel) (u : Undo) (all : List Process) (stand
       started_is buffer (inl e) child = rw e refl
       started_is buffer (inr e) child = rw e refl
 
-      pub spawn_started : (name : Name) (child : ℕ) → name ≡ process_name all (characters (bare r.name)) → Hosted k.beside.processes old.kills → child ≡ length old.kills → Exchanged old new kids ask (Started child) →
+      pub spawn_started : (kills : List Bool) (name : Name) (child : ℕ) → name ≡ process_name all (characters (bare r.name)) → Hosted k.beside.processes kills → child ≡ length kills → AddsOne old new ask (Started child) →
           Goes program (outside sink old) (outside sink new) from (working (stands_at (with_process (asked_more k) name child (buffer_of (Const r.buffer))) u (with_one name child)) (reply_item (Answered (TheProcess (length k.beside.processes))) ∷ Top fs ∷ []))
-      spawn_started name child n hosted c x =
-          let fresh : is_new_child s child ≡ true = ap (λ m. not (list_any (λ y. y.child == m) all)) c ∙ ap not (next_is_new all old.kills (subst (λ l. Hosted l old.kills) stands hosted)) in
+      spawn_started kills name child n hosted c x =
+          let fresh : is_new_child s child ≡ true = ap (λ m. not (list_any (λ y. y.child == m) all)) c ∙ ap not (next_is_new all kills (subst (λ l. Hosted l kills) stands hosted)) in
           let answer : spawned s Nowhere (Top fs ∷ []) (plain r.name) r.buffer (Started child) ≡ Some (silent (started s (plain r.name) r.buffer child) (GiveAnswer (TheProcess (length all)) Nowhere ∷ Top fs ∷ [])) =
           ap (λ b. spawned_child b s Nowhere (Top fs ∷ []) (plain r.name) r.buffer child) fresh in
           let gone = goes_asked (Started child) (silent (started s (plain r.name) r.buffer child) (GiveAnswer (TheProcess (length all)) Nowhere ∷ Top fs ∷ [])) answer refl x in

@@ -12,6 +12,7 @@ pub mod Handling
 pub mod Keeping
 pub mod Outcomes
 pub mod Output
+pub mod HostCalls
 pub mod HostedLemmas
 pub mod Journeys
 pub mod Launching

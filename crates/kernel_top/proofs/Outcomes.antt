@@ -7,8 +7,7 @@ use Rattle.editor_model.specs.Values.{Script}
 use Rattle.plain_machine.specs.Exchanges.{Exchange}
 use Rattle.plain_machine.specs.Grammar.{longest_script}
 use Rattle.script_read.specs.GrammarSoFar.{IsScriptSoFar, IsNoScript}
-use Rattle.kernel_top.specs.Outside.{Outside}
-use Rattle.kernel_top.specs.Outcomes.{IsRun, Outcome, HasEnded}
+use Rattle.kernel_top.specs.Outcomes.{IsRun, Seen, Outcome, HasEnded}
 use Rattle.kernel_top.specs.declared.status.Status.{Status}
 use Rattle.kernel_top.specs.declared.status.Status.TheVariants as status
 
@@ -26,7 +25,7 @@ no_script_read : (bytes read : List ℕ) (script : Script) (now : Option (List �
 no_script_read bytes read script now taken (inl end) is none = none script (rw (all_read bytes read now taken end) at is)
 no_script_read bytes read script now taken (inr long) is none = omega (arith, long, front_only bytes read now taken, is.of_machine.short)
 
-module _ (words : List (List ℕ)) (read written bytes : List ℕ) (exchanges : List Exchange) (before now : Option (List ℕ)) (old new : Outside) (failed_reading failed_writing : Type 0) (script : Script) (run : IsRun words) (taken : Consumes before now read)
+module _ (words : List (List ℕ)) (read written bytes : List ℕ) (exchanges : List Exchange) (before now : Option (List ℕ)) (old new : Seen) (failed_reading failed_writing : Type 0) (script : Script) (run : IsRun words) (taken : Consumes before now read)
     (told : before ≡ Some bytes) (is : IsScriptSoFar bytes script) where
   -- where neither source nor sink failed, a script is run to its end, or memory was wanting
   pub completes : (answer : Status) → Outcome answer words read written exchanges (HasEnded before now) old new → (answer ≡ status.ReadFault → failed_reading) → (answer ≡ status.WriteFault → failed_writing) →

@@ -17,7 +17,6 @@ use Rattle.plain_machine.specs.Forms.{refused}
 use Rattle.plain_machine.specs.Handling.{put_output}
 use Rattle.plain_machine.specs.Run.{Reaches, stays}
 use Rattle.process_table.specs.Table.{StandsFor, kept, new_process}
-use Rattle.host_link.specs.Hosts.{HostState}
 use Rattle.ek_types.specs.Io.{SinkState, Writes, HasCause}
 use Rattle.text_model.specs.Commit.{Buffer}
 use Rattle.text_model.specs.Marks.{Spot}
@@ -27,7 +26,7 @@ use Rattle.std.proofs.lemmas.Option.{unwrap_or-slice_get}
 use Rattle.std.proofs.lemmas.List.Elements.{All-get_or}
 use Rattle.text_model.proofs.Lists.{All-slice_get}
 use Rattle.kernel_top.specs.Plain.{Kernel, whole, buffer_with, plain_state, inserted_at, marked, with_output, output_place, place_at, IsSound, IsOrdinary, IsWithin}
-use Rattle.kernel_top.specs.Outside.{deepest, Outside, outside, Goes, Breaks}
+use Rattle.kernel_top.specs.Outside.{Past, deepest, Outside, outside, Goes, Breaks}
 use Rattle.kernel_top.specs.Standing.{stands_at, inside, working, GoesTo, BreaksAt, children, running, unmade, IsBeforeTheEnd}
 use Rattle.kernel_top.specs.declared.answer.Stop.{Stop}
 use Rattle.kernel_top.specs.declared.answer.Stop.TheVariants as stop
@@ -99,7 +98,7 @@ spot_here : (size : ℕ) (spot : Option Spot) (b : Buffer) → b.end ≡ size �
 spot_here size None b e h = sym e
 spot_here size (Some s) b e h = ap (λ n. if n == 0 then s.place else b.end) (sym h.0)
 
-module _ (program : Program) (host : HostState) (k : Kernel) (u : Undo) (all : List Process) (stands : StandsFor k.beside.processes all) (sound : IsSound k) (p : ℕ) (x : Process) (made : slice_get k.beside.processes p ≡ Some x) (kind : Kind) (rest : List Item) (text : List Ch) where
+module _ (program : Program) (past : Past) (k : Kernel) (u : Undo) (all : List Process) (stands : StandsFor k.beside.processes all) (sound : IsSound k) (p : ℕ) (x : Process) (made : slice_get k.beside.processes p ≡ Some x) (kind : Kind) (rest : List Item) (text : List Ch) where
   abbrev ending : Bool → List Item
   ending faulted = Exit kind None 0 faulted ∷ rest
 
@@ -116,11 +115,11 @@ module _ (program : Program) (host : HostState) (k : Kernel) (u : Undo) (all : L
   place_is = ap (λ (o : Option Process). elim o [ None ↦ None | Some x ↦ option_map (λ b. place_at (length k.content.text) (marker_at k.beside.markers x.mark).spot) x.buffer ]) made
 
   -- it has no buffer
-  pub put_nowhere : (sink : SinkState) → output_place k p ≡ None → Put (outside sink host) (outside sink host) k
+  pub put_nowhere : (sink : SinkState) → output_place k p ≡ None → Put (outside sink past) (outside sink past) k
   put_nowhere sink empty =
       let none : y.one.buffer ≡ None = ap (λ (z : Process). z.buffer) y.same ∙ buffer_none (λ b. place_at (length k.content.text) (marker_at k.beside.markers x.mark).spot) x.buffer (sym place_is ∙ empty) in
       let is : start ≡ working (inside (stands_at k u all)) (ending false) = nowhere_put program k u all (ending false) p y.one text y.found none in
-      (false, (u, all, stands, subst (λ c. Goes program (outside sink host) (outside sink host) start c) is (goes_silently program (outside sink host) start start stays)))
+      (false, (u, all, stands, subst (λ c. Goes program (outside sink past) (outside sink past) start c) is (goes_silently program (outside sink past) start start stays)))
 
   module _ (at : ℕ) (some : output_place k p ≡ Some at) where
     ordinary : IsOrdinary (length k.beside.markers) x
@@ -153,15 +152,15 @@ module _ (program : Program) (host : HostState) (k : Kernel) (u : Undo) (all : L
         abbrev refusal : Next
         refusal = refused program (inside (stands_at k u all)) BufferFull (ending false)
 
-        pub put_refused : {T E : Type 0} (old new : SinkState) (value : T) → Writes {T = T} {E = E} old new (Ok value) (line program.symbols (inside (stands_at k u all)) (Replied 1 (Refused BufferFull))) → Put (outside old host) (outside new host) k
+        pub put_refused : {T E : Type 0} (old new : SinkState) (value : T) → Writes {T = T} {E = E} old new (Ok value) (line program.symbols (inside (stands_at k u all)) (Replied 1 (Refused BufferFull))) → Put (outside old past) (outside new past) k
         put_refused old new value w =
-            (true, (u, all, stands, subst (λ c. Goes program (outside old host) (outside new host) c (working (inside (stands_at k u all)) (ending true))) (sym start_refuses) (says program old new host refusing refusal _ value refl refl w)))
+            (true, (u, all, stands, subst (λ c. Goes program (outside old past) (outside new past) c (working (inside (stands_at k u all)) (ending true))) (sym start_refuses) (says program old new past refusing refusal _ value refl refl w)))
 
-        pub put_refusal_breaks : {T E : Type 0} (old new : SinkState) (fault : E) → Writes {T = T} {E = E} old new (Err fault) (line program.symbols (inside (stands_at k u all)) (Replied 1 (Refused BufferFull))) → BreaksAt program (outside old host) (outside new host) start k stop.WriteFault
+        pub put_refusal_breaks : {T E : Type 0} (old new : SinkState) (fault : E) → Writes {T = T} {E = E} old new (Err fault) (line program.symbols (inside (stands_at k u all)) (Replied 1 (Refused BufferFull))) → BreaksAt program (outside old past) (outside new past) start k stop.WriteFault
         put_refusal_breaks old new fault w =
-            let b : Breaks program (outside old host) (outside new host) refusing = says_front program old new host refusing refusal _ fault refl refl tt w in
-            let there : BreaksAt program (outside old host) (outside new host) refusing k stop.WriteFault = breaks_at program (outside old host) (outside new host) refusing k stop.WriteFault all b stands refl tt refl in
-            subst (λ c. BreaksAt program (outside old host) (outside new host) c k stop.WriteFault) (sym start_refuses) there
+            let b : Breaks program (outside old past) (outside new past) refusing = says_front program old new past refusing refusal _ fault refl refl tt w in
+            let there : BreaksAt program (outside old past) (outside new past) refusing k stop.WriteFault = breaks_at program (outside old past) (outside new past) refusing k stop.WriteFault all b stands refl tt refl in
+            subst (λ c. BreaksAt program (outside old past) (outside new past) c k stop.WriteFault) (sym start_refuses) there
 
       -- it is put in
       module _ (sink : SinkState) (fits : length k.content.text + length text ≤ longest_text) (inside_text : at ≤ length k.content.text) where
@@ -174,10 +173,10 @@ module _ (program : Program) (host : HostState) (k : Kernel) (u : Undo) (all : L
             ∙ ap (λ q. working (inside (stands_at k u all)) (MakeChange (change (output_at q y.one.mark text)) ∷ ending false)) (sym here)
             ∙ ap (λ m. working (inside (stands_at k u all)) (MakeChange (change (output_at at m text)) ∷ ending false)) mark_is
 
-        pub put_breaks : BreaksAt program (outside sink host) (outside sink host) start k stop.NoMemory
+        pub put_breaks : BreaksAt program (outside sink past) (outside sink past) start k stop.NoMemory
         put_breaks =
-            let there : BreaksAt program (outside sink host) (outside sink host) changing k stop.NoMemory = breaks_at program (outside sink host) (outside sink host) changing k stop.NoMemory all (breaks_here program (outside sink host) changing tt) stands refl tt refl in
-            subst (λ c. BreaksAt program (outside sink host) (outside sink host) c k stop.NoMemory) (sym start_changes) there
+            let there : BreaksAt program (outside sink past) (outside sink past) changing k stop.NoMemory = breaks_at program (outside sink past) (outside sink past) changing k stop.NoMemory all (breaks_here program (outside sink past) changing tt) stands refl tt refl in
+            subst (λ c. BreaksAt program (outside sink past) (outside sink past) c k stop.NoMemory) (sym start_changes) there
 
         abbrev undone : Undo
         undone = (put (whole k all) (buffer_with k.content u) (output_at at x.mark text)).buffer.undo
@@ -190,16 +189,16 @@ module _ (program : Program) (host : HostState) (k : Kernel) (u : Undo) (all : L
             ∙ ap (λ n. inside (plain_state (record (whole k all) { markers = marked k.beside.markers x.mark at n }) (buffer_with (inserted_at at (d ∷ more) k.content) (put (whole k all) (buffer_with k.content u) (output_at at x.mark (d ∷ more))).buffer.undo))) (bare_length (d ∷ more))
             ∙ ap (λ (o : Option Process). inside (plain_state (record (whole k all) { markers = marked k.beside.markers (elim o [ None ↦ 0 | Some x ↦ x.mark ]) at (length (d ∷ more)) }) (buffer_with (inserted_at at (d ∷ more) k.content) (put (whole k all) (buffer_with k.content u) (output_at at x.mark (d ∷ more))).buffer.undo))) (sym made))
 
-        pub put_done : Put (outside sink host) (outside sink host) (with_output k p at text)
+        pub put_done : Put (outside sink past) (outside sink past) (with_output k p at text)
         put_done = by text refl nonempty
           where
-            by : (t : List Ch) → text ≡ t → 0 < length t → Put (outside sink host) (outside sink host) (with_output k p at text)
+            by : (t : List Ch) → text ≡ t → 0 < length t → Put (outside sink past) (outside sink past) (with_output k p at text)
             by [] e h = absurd (omega arith)
             by (d ∷ more) e h =
                 let made = change_made program (whole k all) (buffer_with k.content u) 1 ([] ∷ []) (output_at at x.mark text) (ending false) (room_at_commit program k u all rest at x.mark text fits) in
                 let run : Reaches program deepest changing [] [] (working (inside (stands_at (with_output k p at text) undone all)) (ending false)) =
                 subst (λ s. Reaches program deepest changing [] [] (working s (ending false))) (put_content d more e) made in
-                (false, (undone, all, stands, subst (λ c. Goes program (outside sink host) (outside sink host) c (working (inside (stands_at (with_output k p at text) undone all)) (ending false))) (sym start_changes) (goes_silently program (outside sink host) changing (working (inside (stands_at (with_output k p at text) undone all)) (ending false)) run)))
+                (false, (undone, all, stands, subst (λ c. Goes program (outside sink past) (outside sink past) c (working (inside (stands_at (with_output k p at text) undone all)) (ending false))) (sym start_changes) (goes_silently program (outside sink past) changing (working (inside (stands_at (with_output k p at text) undone all)) (ending false)) run)))
 
 -- a text that isn't empty
 pub some_text : (text : List Ch) → (length text == 0) ≡ false → 0 < length text

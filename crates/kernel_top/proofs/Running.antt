@@ -5,7 +5,7 @@ use Rattle.std.specs.Io.KnownBytes.{Appends}
 use Rattle.std.proofs.lemmas.List.{length-map, drop_all}
 use Rattle.text_model.proofs.Lists.{drop_at, mapped_at}
 use Rattle.editor_model.specs.Values.{Script, NoForms, Then}
-use Rattle.plain_machine.specs.Exchanges.{Exchange, living}
+use Rattle.plain_machine.specs.Exchanges.{Exchange, Ask, Answer}
 use Rattle.plain_machine.specs.Items.{Said, Config}
 use Rattle.plain_machine.specs.Run.{Reaches, lines, start}
 use Rattle.plain_machine.specs.WholeRuns.{Ran, BrokenOff, AreKills}
@@ -13,10 +13,14 @@ use Rattle.machine_laws.specs.Children.{KillsLeft}
 use Rattle.machine_laws.specs.Entries.{RanEntries, BrokenEntries, Sentinels}
 use Rattle.ek_call.specs.declared.form.Form.{Form}
 use Rattle.ek_call.specs.Meaning.{form_of, joined}
-use Rattle.kernel_top.specs.Outside.{deepest, Outside, Tells}
+use Rattle.host_link.specs.Hosts.{HostState}
+use Rattle.ek_types.specs.Io.{SinkState}
+use Rattle.kernel_top.specs.HostCalls.{CallsSince}
+use Rattle.kernel_top.specs.Outside.{deepest, Outside, outside}
 use Rattle.kernel_top.specs.Ending.{IsOver}
 use Rattle.kernel_top.specs.Outcomes.{program_for, SentinelsComeLast, RanScript, StoppedScript}
 use Rattle.kernel_top.specs.declared.answer.Stop.{Stop}
+use Rattle.kernel_top.proofs.HostCalls.{all_calls}
 
 -- the forms that are left
 pub next_form : (forms : List Form) (i : ℕ) (f : Form) → slice_get forms i ≡ Some f → joined (drop i (map form_of forms)) ≡ Then (form_of f) (joined (drop (i + 1) (map form_of forms)))
@@ -25,7 +29,13 @@ next_form forms i f h = ap joined (drop_at (map form_of forms) i (form_of f) (ma
 pub no_form : (forms : List Form) (i : ℕ) → length forms ≤ i → joined (drop i (map form_of forms)) ≡ NoForms
 no_form forms i h = ap joined (drop_all i (map form_of forms) (rw length-map h))
 
-module _ (script : Script) (o n : Outside) where
+module _ (script : Script) {H : Type 0} (state : H → HostState) (made : H → H → Ask → ℕ → Answer → Type 0) (start_host now : H) (old new : SinkState) where
+  abbrev o : Outside
+  o = outside old (CallsSince state made start_host start_host)
+
+  abbrev n : Outside
+  n = outside new (CallsSince state made start_host now)
+
   -- the entries of sentinels among what was said
   sentinels_last : Sentinels (program_for script) deepest (start script) → (exchanges : List Exchange) (said : List Said) (last : Config) → Reaches (program_for script) deepest (start script) exchanges said last →
       SentinelsComeLast said
@@ -33,13 +43,13 @@ module _ (script : Script) (o n : Outside) where
 
   -- a whole run
   pub ran : {T : Type 0} (r : Result T Stop) → RanEntries (program_for script) deepest script → Sentinels (program_for script) deepest (start script) → IsOver r (program_for script) o n (start script) →
-      OnOk r ((written : List ℕ) × (exchanges : List Exchange) × Appends o.sink.held n.sink.held written × Tells o.host.told n.host.told exchanges × RanScript script exchanges written o.sink n.sink)
+      OnOk r ((written : List ℕ) × (exchanges : List Exchange) × Appends old.held new.held written × CallsSince state made start_host now exchanges × RanScript script exchanges written old new)
   ran (Ok x) hear come (last, ended, gone) =
       let run : Ran (program_for script) deepest script gone.made (lines gone.said) = record { said = gone.said; last = last; run = gone.run; ended = ended; bytes = refl } in (
         lines gone.said,
         gone.made,
         gone.written,
-        gone.told,
+        all_calls state made start_host now gone.made gone.adds,
         record {
           ran = run;
           entries = hear gone.made (lines gone.said) run;
@@ -52,7 +62,7 @@ module _ (script : Script) (o n : Outside) where
   -- one that was broken off
   pub stopped : {T : Type 0} (r : Result T Stop) → KillsLeft (program_for script) deepest (start script) → BrokenEntries (program_for script) deepest script →
       Sentinels (program_for script) deepest (start script) → IsOver r (program_for script) o n (start script) →
-      OnErr r ((written : List ℕ) × (exchanges : List Exchange) × Appends o.sink.held n.sink.held written × Tells o.host.told n.host.told exchanges × StoppedScript script exchanges written o.sink n.sink)
+      OnErr r ((written : List ℕ) × (exchanges : List Exchange) × Appends old.held new.held written × CallsSince state made start_host now exchanges × StoppedScript script exchanges written old new)
   stopped (Ok x) left hear come h = tt
   stopped (Err why) left hear come h =
       let broken : BrokenOff (program_for script) deepest script (h.made ++ h.kills) h.bytes = record {
@@ -69,9 +79,10 @@ module _ (script : Script) (o n : Outside) where
         h.bytes,
         h.made ++ h.kills,
         h.written,
-        h.told,
+        all_calls state made start_host now (h.made ++ h.kills) h.adds,
         record {
           broken = broken;
+          answered = h.answered;
           whole = h.whole;
           entries = hear (h.made ++ h.kills) h.bytes broken;
           sentinels = sentinels_last come h.made h.said h.last h.run;

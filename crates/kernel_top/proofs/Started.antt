@@ -1,5 +1,5 @@
 -- What a kernel has when a child was started.
-use Rattle.std.proofs.Common.{◌≡◌, ℕ, ◌+◌, Bool, List, [], ◌∷◌, ◌++◌, refl, ap, sym, ◌∙◌, subst, Ok, Err, Result, inl, inr}
+use Rattle.std.proofs.Common.{◌≡◌, ℕ, List, [], ◌∷◌, ◌++◌, refl, ap, sym, ◌∙◌, subst, Ok, Err, Result, inl, inr}
 use Rattle.std.specs.Prelude.{None, IfSome}
 use Rattle.std.specs.declared.option.Option.{Option}
 use Rattle.std.proofs.lemmas.List.{map-append}
@@ -9,14 +9,15 @@ use Rattle.plain_machine.specs.State.{Process}
 use Rattle.plain_machine.specs.Exchanges.{Spawn, Answer as Told}
 use Rattle.script_read.specs.GrammarSoFar.{IsBufferSoFar}
 use Rattle.process_table.specs.Table.{StandsFor, kept, new_process}
-use Rattle.host_link.specs.Hosts.{HostState, Exchanged}
 use Rattle.ek_call.specs.declared.fault.Fault.{Fault}
+use Rattle.kernel_top.specs.Outside.{Past}
 use Rattle.kernel_top.specs.Standing.{children, running}
 use Rattle.kernel_top.specs.Starting.{buffer_of}
 use Rattle.kernel_top.specs.declared.answer.Answer.{Answer}
 use Rattle.kernel_top.specs.declared.answer.Answer.TheVariants as answer
 use Rattle.kernel_top.specs.declared.answer.Stop.{Stop}
 use Rattle.kernel_top.specs.declared.answer.Stop.TheVariants as stop
+use Rattle.kernel_top.proofs.Journeys.{AddsOne}
 use Rattle.kernel_top.proofs.Output.{running_alike}
 use Rattle.kernel_top.proofs.HostedLemmas.{children_then}
 
@@ -24,8 +25,8 @@ pub home_of : (v : Value) → IsBufferSoFar v → IfSome (buffer_of (Const v)) (
 home_of v (inl e) = rw e tt
 home_of v (inr e) = rw e refl
 
-pub asked_of : (old new : HostState) (kids : List Bool) (b b2 : List ℕ) (w w2 : List (List ℕ)) (told : Told) → b ≡ b2 → w ≡ w2 → Exchanged old new kids (Spawn b w) told → Exchanged old new kids (Spawn b2 w2) told
-asked_of old new kids b b2 w w2 told e h x = subst (λ y. Exchanged old new kids (Spawn y w2) told) e (subst (λ y. Exchanged old new kids (Spawn b y) told) h x)
+pub asked_of : (old new : Past) (b b2 : List ℕ) (w w2 : List (List ℕ)) (told : Told) → b ≡ b2 → w ≡ w2 → AddsOne old new (Spawn b w) told → AddsOne old new (Spawn b2 w2) told
+asked_of old new b b2 w w2 told e h x = subst (λ y. AddsOne old new (Spawn y w2) told) e (subst (λ y. AddsOne old new (Spawn b y) told) h x)
 
 pub stands_more : (table all : List Process) (name : Name) (child : ℕ) (buffer : Option ℕ) (mark : ℕ) → StandsFor table all → StandsFor (table ++ new_process name child buffer mark ∷ []) (all ++ new_process name child buffer mark ∷ [])
 stands_more table all name child buffer mark stands =

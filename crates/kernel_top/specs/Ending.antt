@@ -1,8 +1,8 @@
 -- The end of a run: children that run are killed, with a line for each and the dump, or in silence where the run was
 -- broken off.
-use Rattle.std.specs.Prelude.{◌≡◌, ℕ, ◌≤◌, List, [], ◌∷◌, ◌++◌, drop, length, Result, MatchResult}
+use Rattle.std.specs.Prelude.{◌≡◌, ℕ, ◌≤◌, ◌⊎◌, All, List, [], ◌∷◌, ◌++◌, drop, length, Result, MatchResult}
 use Rattle.std.specs.Io.KnownBytes.{Appends}
-use Rattle.plain_machine.specs.Exchanges.{Exchange}
+use Rattle.plain_machine.specs.Exchanges.{Exchange, Killed, Failed}
 use Rattle.plain_machine.specs.State.{Program}
 use Rattle.plain_machine.specs.Items.{Finish, Said, Config, Ended}
 use Rattle.plain_machine.specs.Step.{step}
@@ -11,9 +11,13 @@ use Rattle.plain_machine.specs.WholeRuns.{IsBetweenEntries, IsPrefixOf, AreKills
 use Rattle.machine_laws.specs.Children.{to_kill}
 use Rattle.ek_types.specs.Io.{Rose}
 use Rattle.kernel_top.specs.Plain.{Kernel}
-use Rattle.kernel_top.specs.Outside.{deepest, Outside, Tells, Goes}
+use Rattle.kernel_top.specs.Outside.{deepest, Outside, Adds, Goes}
 use Rattle.kernel_top.specs.Standing.{stands_at, working, GoesTo, unmade, running, children}
 use Rattle.kernel_top.specs.declared.answer.Stop.{Stop}
+
+-- a host says of a kill only whether it was made
+abbrev pub IsAnsweredKill : Exchange → Type 0
+IsAnsweredKill x = (x.answer ≡ Killed) ⊎ (x.answer ≡ Failed)
 
 -- The run was broken off, and of the children that live by the machine all but some are killed.
 pub record Halts (program : Program) (before now : Outside) (from : Config) (left : List ℕ) : Type 0 where
@@ -26,12 +30,13 @@ pub record Halts (program : Program) (before now : Outside) (from : Config) (lef
   pub bytes : List ℕ
   pub front : IsPrefixOf bytes (lines said)
   pub written : Appends before.sink.held now.sink.held bytes
-  pub told : Tells before.host.told now.host.told (made ++ kills)
+  pub adds : Adds before.past now.past (made ++ kills)
   pub later : before.sink.faults ≤ now.sink.faults
   pub whole : (Rose before.sink.faults now.sink.faults → ⊥) → bytes ≡ lines said
   pub roomy : length (lines said) ≤ before.sink.room → now.sink.faults ≡ before.sink.faults
   pub done : List ℕ
   pub killed : AreKills done kills
+  pub answered : All IsAnsweredKill kills
   pub living : to_kill last ≡ done ++ left
 
 -- processes below p are dealt with

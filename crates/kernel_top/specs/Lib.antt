@@ -3,6 +3,7 @@ pub mod Calls
 pub mod Ending
 pub mod Forms
 pub mod Hearing
+pub mod HostCalls
 pub mod Outcomes
 pub mod Outside
 pub mod Plain

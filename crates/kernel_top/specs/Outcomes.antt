@@ -1,5 +1,5 @@
 -- What the top call claims, by its status: of the bytes read, of the bytes written, and of the exchanges made.
-use Rattle.std.specs.Prelude.{◌≡◌, ℕ, ◌<◌, ◌≤◌, true, false, List, [], ◌∷◌, ◌++◌, length, codes, slice_get, ◌⊎◌, Option, Some, None}
+use Rattle.std.specs.Prelude.{◌≡◌, ℕ, ◌<◌, ◌≤◌, true, false, All, List, [], ◌∷◌, ◌++◌, length, codes, slice_get, ◌⊎◌, Option, Some, None}
 use Rattle.std.specs.Io.KnownBytes.{IsAtEnd}
 use Rattle.editor_model.specs.Values.{Script}
 use Rattle.plain_machine.specs.Exchanges.{Exchange, children_started}
@@ -11,7 +11,9 @@ use Rattle.plain_machine.specs.Run.{lines}
 use Rattle.plain_machine.specs.WholeRuns.{Ran, BrokenOff}
 use Rattle.machine_laws.specs.Entries.{entered, heard, is_entry, has_entry}
 use Rattle.ek_types.specs.Io.{SinkState, Rose}
-use Rattle.kernel_top.specs.Outside.{deepest, Outside}
+use Rattle.host_link.specs.Hosts.{HostState}
+use Rattle.kernel_top.specs.Outside.{deepest}
+use Rattle.kernel_top.specs.Ending.{IsAnsweredKill}
 use Rattle.script_read.specs.GrammarSoFar.{IsScriptSoFar, IsNoScript}
 use Rattle.kernel_top.specs.declared.status.Status.{Status}
 use Rattle.kernel_top.specs.declared.status.Status.TheVariants as status
@@ -45,6 +47,7 @@ pub record RanScript (script : Script) (exchanges : List Exchange) (written : Li
 -- off between a read and the entry that this causes. The sink hasn't failed where it had room for all that was said.
 pub record StoppedScript (script : Script) (exchanges : List Exchange) (written : List ℕ) (before now : SinkState) : Type 0 where
   pub broken : BrokenOff (program_for script) deepest script exchanges written
+  pub answered : All IsAnsweredKill broken.kills
   pub whole : (Rose before.faults now.faults → ⊥) → written ≡ lines broken.said
   pub entries : AreHeard broken.made broken.said
   pub sentinels : SentinelsComeLast broken.said
@@ -54,9 +57,17 @@ pub record StoppedScript (script : Script) (exchanges : List Exchange) (written 
 abbrev pub OfScript : List ℕ → (Script → Type 0) → Type 0
 OfScript bytes So = (script : Script) × IsScriptSoFar bytes script × So script
 
+-- what a sink and a host mean
+pub record Seen : Type 0 where
+  pub sink : SinkState
+  pub host : HostState
+
+abbrev pub seen : SinkState → HostState → Seen
+seen sink host = record { sink = sink; host = host }
+
 -- `read` are the bytes taken from the source, `ended` that its end was met, and `written` the bytes put in the sink. Where no
 -- script was begun, sink and host are now as they were before.
-abbrev pub Outcome : Status → (words : List (List ℕ)) → (read written : List ℕ) → List Exchange → (ended : Type 0) → (before now : Outside) → Type 0
+abbrev pub Outcome : Status → (words : List (List ℕ)) → (read written : List ℕ) → List Exchange → (ended : Type 0) → (before now : Seen) → Type 0
 Outcome status.Done words read written exchanges ended before now =
     IsRun words × ended × OfScript read (λ script. RanScript script exchanges written before.sink now.sink)
 Outcome status.Usage words read written exchanges ended before now =

@@ -1,6 +1,6 @@
 -- What a run does to the outside while the machine goes on: the sink has just what it says, and the host was asked just
 -- what it asks.
-use Rattle.std.specs.Prelude.{◌≡◌, ℕ, ◌+◌, ◌≤◌, List, ◌++◌, length, Option, option_map}
+use Rattle.std.specs.Prelude.{◌≡◌, ℕ, ◌+◌, ◌≤◌, List, [], ◌++◌, length}
 use Rattle.std.specs.Io.KnownBytes.{Appends}
 use Rattle.plain_machine.specs.Exchanges.{Exchange}
 use Rattle.plain_machine.specs.State.{Program}
@@ -8,23 +8,33 @@ use Rattle.plain_machine.specs.Items.{Said, Config}
 use Rattle.plain_machine.specs.Run.{Reaches, lines}
 use Rattle.plain_machine.specs.WholeRuns.{IsBetweenEntries, IsPrefixOf}
 use Rattle.ek_types.specs.Io.{SinkState, Rose}
-use Rattle.host_link.specs.Hosts.{HostState}
 
 -- how deep handlers may be nested
 abbrev pub deepest : ℕ
 deepest = 16
 
--- what a sink and a host mean
-pub record Outside : Type 0 where
+-- which exchanges may be those that were made so far
+abbrev pub Past : Type 1
+Past = List Exchange → Type 0
+
+-- what a sink means, and what was made of exchanges
+pub record Outside : Type 1 where
   pub sink : SinkState
-  pub host : HostState
+  pub past : Past
 
-abbrev pub outside : SinkState → HostState → Outside
-outside sink host = record { sink = sink; host = host }
+abbrev pub outside : SinkState → Past → Outside
+outside sink past = record { sink = sink; past = past }
 
--- these exchanges are told behind those before, where the host tells
-abbrev pub Tells : (old new : Option (List Exchange)) → List Exchange → Type 0
-Tells old new made = new ≡ option_map (λ list. list ++ made) old
+-- nothing was asked
+abbrev pub nothing : Past
+nothing exchanges = exchanges ≡ []
+
+abbrev pub unasked : SinkState → Outside
+unasked sink = outside sink nothing
+
+-- whatever was made before, these exchanges were made behind it
+abbrev pub Adds : (old new : Past) → List Exchange → Type 0
+Adds old new made = (exchanges : List Exchange) → old exchanges → new (exchanges ++ made)
 
 -- the sink has not failed, and has the room left that these bytes didn't use
 pub record HasRoomLeft (old new : SinkState) (written : List ℕ) : Type 0 where
@@ -37,7 +47,7 @@ pub record Goes (program : Program) (old new : Outside) (from to : Config) : Typ
   pub said : List Said
   pub run : Reaches program deepest from made said to
   pub written : Appends old.sink.held new.sink.held (lines said)
-  pub told : Tells old.host.told new.host.told made
+  pub adds : Adds old.past new.past made
   pub later : old.sink.faults ≤ new.sink.faults
   pub roomy : length (lines said) ≤ old.sink.room → HasRoomLeft old.sink new.sink (lines said)
 
@@ -52,7 +62,7 @@ pub record Breaks (program : Program) (old new : Outside) (from : Config) : Type
   pub bytes : List ℕ
   pub front : IsPrefixOf bytes (lines said)
   pub written : Appends old.sink.held new.sink.held bytes
-  pub told : Tells old.host.told new.host.told made
+  pub adds : Adds old.past new.past made
   pub later : old.sink.faults ≤ new.sink.faults
   pub whole : (Rose old.sink.faults new.sink.faults → ⊥) → bytes ≡ lines said
   pub roomy : length (lines said) ≤ old.sink.room → new.sink.faults ≡ old.sink.faults

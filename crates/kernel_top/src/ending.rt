@@ -4,8 +4,9 @@ ghost use Rattle.editor_model.specs.Values.{NoForms};
 ghost use Rattle.plain_machine.specs.State.{Program};
 ghost use Rattle.plain_machine.specs.Arguments.{runs};
 ghost use Rattle.plain_machine.specs.Items.{Config, Top};
-ghost use Rattle.ek_types.specs.Io.{HasCause};
-ghost use Rattle.kernel_top.specs.Outside.{Outside, outside};
+ghost use Rattle.ek_types.specs.Io.{SinkState, HasCause};
+ghost use Rattle.kernel_top.specs.HostCalls.{CallsSince};
+ghost use Rattle.kernel_top.specs.Outside.{outside};
 ghost use Rattle.kernel_top.specs.Standing.{stands_at, working, Comes, Hosted, with_unmade};
 ghost use Rattle.kernel_top.specs.Ending.{IsAtEnd, IsOver};
 
@@ -24,9 +25,9 @@ pub fn finish<K: Sink, H: Host>(
     sink: &mut K,
 ) -> Result<(), Stop>
     requires { Hosted (with_unmade so_far kernel.now.beside.processes) (H.state host.old).kills }
-    ensures over { (program : Program) (before : Outside) (from : Config) →
-        Comes so_far program before (outside (K.state sink.old) (H.state host.old)) from kernel.now (λ _ v all. working (stands_at kernel.now v all) (Top NoForms ∷ [])) →
-        IsOver result program before (outside (K.state sink.new) (H.state host.new)) from }
+    ensures over { (program : Program) (before : SinkState) (start : H) (from : Config) →
+        Comes so_far program (outside before (CallsSince H.state H.made start start)) (outside (K.state sink.old) (CallsSince H.state H.made start host.old)) from kernel.now (λ _ v all. working (stands_at kernel.now v all) (Top NoForms ∷ [])) →
+        IsOver result program (outside before (CallsSince H.state H.made start start)) (outside (K.state sink.new) (CallsSince H.state H.made start host.new)) from }
     ensures cause { (faults : ℕ) → HasCause faults (K.state sink.old).faults (so_far ≡ Err Stop.WriteFault) → HasCause faults (K.state sink.new).faults (result ≡ Err Stop.WriteFault) }
 {
     let mut state = so_far;
@@ -44,9 +45,9 @@ fn leave<K: Sink, H: Host>(
     sink: &mut K,
 ) -> Result<(), Stop>
     requires { Hosted (with_unmade so_far []) (H.state host.old).kills }
-    ensures over { (program : Program) (before : Outside) (from : Config) →
-        IsAtEnd so_far program before (outside (K.state sink.old) (H.state host.old)) from kernel.now (length kernel.now.beside.processes) →
-        IsOver result program before (outside (K.state sink.new) (H.state host.new)) from }
+    ensures over { (program : Program) (before : SinkState) (start : H) (from : Config) →
+        IsAtEnd so_far program (outside before (CallsSince H.state H.made start start)) (outside (K.state sink.old) (CallsSince H.state H.made start host.old)) from kernel.now (length kernel.now.beside.processes) →
+        IsOver result program (outside before (CallsSince H.state H.made start start)) (outside (K.state sink.new) (CallsSince H.state H.made start host.new)) from }
     ensures cause { (faults : ℕ) → HasCause faults (K.state sink.old).faults (so_far ≡ Err Stop.WriteFault) → HasCause faults (K.state sink.new).faults (result ≡ Err Stop.WriteFault) }
 {
     match so_far {
@@ -74,9 +75,9 @@ fn finish_one<K: Sink, H: Host>(
 ) -> Result<(), Stop>
     requires made { p < length kernel.now.beside.processes }
     requires hosted { Hosted (with_unmade so_far (drop p kernel.now.beside.processes)) (H.state host.old).kills }
-    ensures over { (program : Program) (before : Outside) (from : Config) →
-        IsAtEnd so_far program before (outside (K.state sink.old) (H.state host.old)) from kernel.now p →
-        IsAtEnd result program before (outside (K.state sink.new) (H.state host.new)) from kernel.now (p + 1) }
+    ensures over { (program : Program) (before : SinkState) (start : H) (from : Config) →
+        IsAtEnd so_far program (outside before (CallsSince H.state H.made start start)) (outside (K.state sink.old) (CallsSince H.state H.made start host.old)) from kernel.now p →
+        IsAtEnd result program (outside before (CallsSince H.state H.made start start)) (outside (K.state sink.new) (CallsSince H.state H.made start host.new)) from kernel.now (p + 1) }
     ensures hosted { Hosted (with_unmade result (drop (p + 1) kernel.now.beside.processes)) (H.state host.new).kills }
     ensures cause { (faults : ℕ) → HasCause faults (K.state sink.old).faults (so_far ≡ Err Stop.WriteFault) → HasCause faults (K.state sink.new).faults (result ≡ Err Stop.WriteFault) }
 {

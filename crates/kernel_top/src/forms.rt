@@ -13,7 +13,8 @@ ghost use Rattle.ek_types.specs.Listing.{items_of};
 ghost use Rattle.ek_call.specs.Meaning.{arg_of, call_of, form_of, script_of};
 ghost use Rattle.ek_call.specs.Primitives.{prim_of};
 ghost use Rattle.kernel_top.specs.Forms.{IsFormSoFar, AreFormsSoFar};
-ghost use Rattle.kernel_top.specs.Outside.{outside, Tells};
+ghost use Rattle.kernel_top.specs.HostCalls.{CallsSince};
+ghost use Rattle.kernel_top.specs.Outside.{outside};
 ghost use Rattle.kernel_top.specs.Standing.{stands_at, working, Comes, Hosted, StaysHosted};
 ghost use Rattle.kernel_top.specs.Calls.{ComesToReply};
 ghost use Rattle.kernel_top.specs.Outcomes.{RanScript, StoppedScript};
@@ -40,8 +41,8 @@ fn make<K: Sink, H: Host>(
     requires call { IsCallSoFar (call_of call.now) }
     requires hosted { Hosted kernel.old.beside.processes (H.state host.old).kills }
     requires few { length (H.state host.old).kills < 2 ^ 32 - 1 }
-    ensures comes { ComesToReply result (prim_of call.now.prim) (map arg_of (items_of call.now.args))
-        (outside (K.state sink.old) (H.state host.old)) (outside (K.state sink.new) (H.state host.new)) kernel.old kernel.new }
+    ensures comes { (start : H) → ComesToReply result (prim_of call.now.prim) (map arg_of (items_of call.now.args))
+        (outside (K.state sink.old) (CallsSince H.state H.made start host.old)) (outside (K.state sink.new) (CallsSince H.state H.made start host.new)) kernel.old kernel.new }
     ensures cause { HasCause (K.state sink.old).faults (K.state sink.new).faults (result ≡ Err Stop.WriteFault) }
     ensures hosted { StaysHosted result kernel.old (H.state host.old).kills kernel.new (H.state host.new).kills }
     ensures made { (p : ℕ) → result ≡ Ok (Answer.Process p) → p < length kernel.new.beside.processes }
@@ -77,8 +78,8 @@ fn run_form<K: Sink, H: Host>(
     requires form { IsFormSoFar (form_of form.now) }
     requires hosted { Hosted kernel.old.beside.processes (H.state host.old).kills }
     requires few { length (H.state host.old).kills < 2 ^ 32 - 1 }
-    ensures comes { (program : Program) (fs : Forms) (u : Undo) (all : List Process) → StandsFor kernel.old.beside.processes all →
-        Comes result program (outside (K.state sink.old) (H.state host.old)) (outside (K.state sink.new) (H.state host.new))
+    ensures comes { (start : H) (program : Program) (fs : Forms) (u : Undo) (all : List Process) → StandsFor kernel.old.beside.processes all →
+        Comes result program (outside (K.state sink.old) (CallsSince H.state H.made start host.old)) (outside (K.state sink.new) (CallsSince H.state H.made start host.new))
         (working (stands_at kernel.old u all) (Top (Then (form_of form.now) fs) ∷ [])) kernel.new (λ _ v more. working (stands_at kernel.new v more) (Top fs ∷ [])) }
     ensures cause { HasCause (K.state sink.old).faults (K.state sink.new).faults (result ≡ Err Stop.WriteFault) }
     ensures hosted { StaysHosted result kernel.old (H.state host.old).kills kernel.new (H.state host.new).kills }
@@ -98,8 +99,8 @@ fn run_forms<K: Sink, H: Host>(
     requires forms { AreFormsSoFar (script_of script.now).forms }
     requires hosted { Hosted kernel.old.beside.processes (H.state host.old).kills }
     requires few { length (H.state host.old).kills ≤ 2 ^ 31 + length kernel.old.beside.processes }
-    ensures comes { (program : Program) (u : Undo) (all : List Process) → StandsFor kernel.old.beside.processes all →
-        Comes result program (outside (K.state sink.old) (H.state host.old)) (outside (K.state sink.new) (H.state host.new))
+    ensures comes { (start : H) (program : Program) (u : Undo) (all : List Process) → StandsFor kernel.old.beside.processes all →
+        Comes result program (outside (K.state sink.old) (CallsSince H.state H.made start host.old)) (outside (K.state sink.new) (CallsSince H.state H.made start host.new))
         (working (stands_at kernel.old u all) (Top (script_of script.now).forms ∷ [])) kernel.new (λ _ v more. working (stands_at kernel.new v more) (Top NoForms ∷ [])) }
     ensures cause { HasCause (K.state sink.old).faults (K.state sink.new).faults (result ≡ Err Stop.WriteFault) }
     ensures hosted { StaysHosted result kernel.old (H.state host.old).kills kernel.new (H.state host.new).kills }
@@ -122,9 +123,9 @@ pub fn run_script<K: Sink, H: Host>(
     requires forms { AreFormsSoFar (script_of script.now).forms }
     requires few { length (H.state host.old).kills ≤ 2 ^ 31 }
     ensures ok { OnOk result ((written : List ℕ) × (exchanges : List Exchange) × Appends (K.state sink.old).held (K.state sink.new).held written
-        × Tells (H.state host.old).told (H.state host.new).told exchanges × RanScript (script_of script.now) exchanges written (K.state sink.old) (K.state sink.new)) }
+        × CallsSince H.state H.made host.old host.new exchanges × RanScript (script_of script.now) exchanges written (K.state sink.old) (K.state sink.new)) }
     ensures err { OnErr result ((written : List ℕ) × (exchanges : List Exchange) × Appends (K.state sink.old).held (K.state sink.new).held written
-        × Tells (H.state host.old).told (H.state host.new).told exchanges
+        × CallsSince H.state H.made host.old host.new exchanges
         × StoppedScript (script_of script.now) exchanges written (K.state sink.old) (K.state sink.new)) }
     ensures cause { HasCause (K.state sink.old).faults (K.state sink.new).faults (result ≡ Err Stop.WriteFault) }
 {

@@ -8,9 +8,8 @@ ghost use Rattle.plain_machine.specs.Lines.{Kind, OfSentinel};
 ghost use Rattle.plain_machine.specs.Items.{Item, Enter, Exit, Wait, Waiting, Target};
 ghost use Rattle.plain_machine.specs.Handling.{put_output as output};
 ghost use Rattle.process_table.specs.Table.{StandsFor};
-ghost use Rattle.host_link.specs.Hosts.{HostState};
 ghost use Rattle.ek_types.specs.Io.{HasCause};
-ghost use Rattle.kernel_top.specs.Outside.{outside};
+ghost use Rattle.kernel_top.specs.Outside.{unasked};
 ghost use Rattle.kernel_top.specs.Standing.{stands_at, inside, working, Comes, Hosted, unmade};
 ghost use Rattle.kernel_top.specs.Hearing.{filter_entry, words_of_sentinel, OutputComes};
 
@@ -31,8 +30,8 @@ pub fn enter_filter<K: Sink>(
     text: &Chars,
 ) -> Result<(), Stop>
     requires { process < length kernel.old.beside.processes }
-    ensures comes { (host : HostState) (program : Program) (w : Waiting) (target : Target) (rest : List Item) (u : Undo) (all : List Process) → StandsFor kernel.old.beside.processes all →
-        Comes result program (outside (K.state sink.old) host) (outside (K.state sink.new) host) (working (stands_at kernel.old u all) (filter_entry process text.now.items (Wait w target ∷ rest)))
+    ensures comes { (program : Program) (w : Waiting) (target : Target) (rest : List Item) (u : Undo) (all : List Process) → StandsFor kernel.old.beside.processes all →
+        Comes result program (unasked (K.state sink.old)) (unasked (K.state sink.new)) (working (stands_at kernel.old u all) (filter_entry process text.now.items (Wait w target ∷ rest)))
         kernel.new (λ _ v all. working (stands_at kernel.new v all) (Wait w target ∷ rest)) }
     ensures plain { IfErr result (λ why. unmade why ≡ []) }
     ensures cause { HasCause (K.state sink.old).faults (K.state sink.new).faults (result ≡ Err Stop.WriteFault) }
@@ -58,8 +57,8 @@ pub fn enter_sentinel<K: Sink>(
 ) -> Result<(), Stop>
     requires made { process < length kernel.old.beside.processes }
     requires some { 0 < length told.now.items }
-    ensures comes { (host : HostState) (program : Program) (w : Waiting) (target : Target) (rest : List Item) (u : Undo) (all : List Process) → StandsFor kernel.old.beside.processes all →
-        Comes result program (outside (K.state sink.old) host) (outside (K.state sink.new) host)
+    ensures comes { (program : Program) (w : Waiting) (target : Target) (rest : List Item) (u : Undo) (all : List Process) → StandsFor kernel.old.beside.processes all →
+        Comes result program (unasked (K.state sink.old)) (unasked (K.state sink.new))
         (working (stands_at kernel.old u all) (Enter (OfSentinel process) None (TheProcess process ∷ Str (bare told.now.items) ∷ []) ∷ Wait w target ∷ rest))
         kernel.new (λ _ v all. working (stands_at kernel.new v all) (Wait w target ∷ rest)) }
     ensures plain { IfErr result (λ why. unmade why ≡ []) }
@@ -109,8 +108,8 @@ fn put_output<K: Sink>(
 ) -> Result<(), Stop>
     requires made { process < length kernel.old.beside.processes }
     requires some { 0 < length text.now.items }
-    ensures comes { (host : HostState) (program : Program) (kind : Kind) (rest : List Item) (u : Undo) (all : List Process) → StandsFor kernel.old.beside.processes all →
-        OutputComes result program (outside (K.state sink.old) host) (outside (K.state sink.new) host)
+    ensures comes { (program : Program) (kind : Kind) (rest : List Item) (u : Undo) (all : List Process) → StandsFor kernel.old.beside.processes all →
+        OutputComes result program (unasked (K.state sink.old)) (unasked (K.state sink.new))
         (output (inside (stands_at kernel.old u all)) process (bare text.now.items) (Exit kind None 0 false ∷ rest)) kind rest kernel.new }
     ensures plain { IfErr result (λ why. unmade why ≡ []) }
     ensures cause { HasCause (K.state sink.old).faults (K.state sink.new).faults (result ≡ Err Stop.WriteFault) }

@@ -8,14 +8,14 @@ ghost use Rattle.plain_machine.specs.State.{Process, Program, change_process};
 ghost use Rattle.plain_machine.specs.Lines.{OfSentinel};
 ghost use Rattle.plain_machine.specs.Waits.{more_characters};
 ghost use Rattle.plain_machine.specs.Waits.{asked_more as asked_one};
-ghost use Rattle.host_link.specs.Hosts.{HostState};
 ghost use Rattle.plain_machine.specs.Items.{Item, Enter, Wait, Target, Waiting};
 ghost use Rattle.process_table.specs.Table.{StandsFor, with_status};
 ghost use Rattle.process_table.specs.Meaning.{status_of};
 ghost use Rattle.wait_loop.specs.KeptWaits.{noted};
 ghost use Rattle.wait_loop.specs.Rounds.{AsksProcess};
 ghost use Rattle.ek_types.specs.Io.{HasCause};
-ghost use Rattle.kernel_top.specs.Outside.{outside};
+ghost use Rattle.kernel_top.specs.HostCalls.{CallsSince};
+ghost use Rattle.kernel_top.specs.Outside.{outside, unasked};
 ghost use Rattle.kernel_top.specs.Standing.{stands_at, working, Comes, Hosted, StaysHosted, unmade};
 ghost use Rattle.text_model.specs.Characters.{Scalar};
 ghost use Rattle.plain_machine.specs.Waits.{exit_text};
@@ -48,8 +48,8 @@ fn hear<K: Sink>(
     requires asked { IsAsked kernel.old process false }
     requires empty { text.old.items ≡ [] }
     requires room { length bytes.now + 3 ≤ text.old.spare }
-    ensures comes { (host : HostState) (program : Program) (w : Waiting) (target : Target) (rest : List Item) (u : Undo) (all : List Process) (y : Process) → StandsFor kernel.old.beside.processes all → slice_get all process ≡ Some y →
-        Comes result program (outside (K.state sink.old) host) (outside (K.state sink.new) host)
+    ensures comes { (program : Program) (w : Waiting) (target : Target) (rest : List Item) (u : Undo) (all : List Process) (y : Process) → StandsFor kernel.old.beside.processes all → slice_get all process ≡ Some y →
+        Comes result program (unasked (K.state sink.old)) (unasked (K.state sink.new))
         (working (change_process process (λ z. record z { bytes = y.bytes ++ bytes.now }) (asked_one (stands_at kernel.old u all))) (filter_entry process (more_characters (characters y.bytes) (characters (y.bytes ++ bytes.now))) (Wait w target ∷ rest)))
         kernel.new (λ _ v2 all2. working (stands_at kernel.new v2 all2) (Wait w target ∷ rest)) }
     ensures plain { IfErr result (λ why. unmade why ≡ []) }
@@ -74,8 +74,8 @@ fn drain<K: Sink>(
     requires asked { IsAsked kernel.old process false }
     requires empty { text.old.items ≡ [] }
     requires room { 3 ≤ text.old.spare }
-    ensures comes { (host : HostState) (program : Program) (w : Waiting) (target : Target) (rest : List Item) (u : Undo) (all : List Process) (y : Process) → StandsFor kernel.old.beside.processes all → slice_get all process ≡ Some y →
-        Comes result program (outside (K.state sink.old) host) (outside (K.state sink.new) host)
+    ensures comes { (program : Program) (w : Waiting) (target : Target) (rest : List Item) (u : Undo) (all : List Process) (y : Process) → StandsFor kernel.old.beside.processes all → slice_get all process ≡ Some y →
+        Comes result program (unasked (K.state sink.old)) (unasked (K.state sink.new))
         (working (change_process process (λ z. record z { drained = true }) (asked_one (stands_at kernel.old u all))) (filter_entry process (more_characters (characters y.bytes) (all_characters y.bytes)) (Wait w target ∷ rest)))
         kernel.new (λ _ v2 all2. working (stands_at kernel.new v2 all2) (Wait w target ∷ rest)) }
     ensures plain { IfErr result (λ why. unmade why ≡ []) }
@@ -99,9 +99,9 @@ pub fn read<K: Sink, H: Host>(
 ) -> Result<bool, Stop>
     requires asked { IsAsked kernel.old process false }
     requires hosted { Hosted kernel.old.beside.processes (H.state host.old).kills }
-    ensures comes { (program : Program) (w v : Waiting) (target : Target) (rest : List Item) (u : Undo) (all : List Process) → StandsFor kernel.old.beside.processes all →
+    ensures comes { (start : H) (program : Program) (w v : Waiting) (target : Target) (rest : List Item) (u : Undo) (all : List Process) → StandsFor kernel.old.beside.processes all →
         AsksProcess (stands_at kernel.old u all) w process v →
-        Comes result program (outside (K.state sink.old) (H.state host.old)) (outside (K.state sink.new) (H.state host.new)) (working (stands_at kernel.old u all) (Wait w target ∷ rest))
+        Comes result program (outside (K.state sink.old) (CallsSince H.state H.made start host.old)) (outside (K.state sink.new) (CallsSince H.state H.made start host.new)) (working (stands_at kernel.old u all) (Wait w target ∷ rest))
         kernel.new (λ bytes v2 all2. working (stands_at kernel.new v2 all2) (Wait (noted process bytes v) target ∷ rest)) }
     ensures cause { HasCause (K.state sink.old).faults (K.state sink.new).faults (result ≡ Err Stop.WriteFault) }
     ensures hosted { StaysHosted result kernel.old (H.state host.old).kills kernel.new (H.state host.new).kills }
@@ -141,8 +141,8 @@ fn ended<K: Sink>(
 ) -> Result<(), Stop>
     requires asked { IsAsked kernel.old process true }
     requires over { status ≢ Status.Run }
-    ensures comes { (host : HostState) (program : Program) (w : Waiting) (target : Target) (rest : List Item) (u : Undo) (all : List Process) → StandsFor kernel.old.beside.processes all →
-        Comes result program (outside (K.state sink.old) host) (outside (K.state sink.new) host)
+    ensures comes { (program : Program) (w : Waiting) (target : Target) (rest : List Item) (u : Undo) (all : List Process) → StandsFor kernel.old.beside.processes all →
+        Comes result program (unasked (K.state sink.old)) (unasked (K.state sink.new))
         (working (change_process process (with_status (status_of status)) (asked_one (stands_at kernel.old u all))) (Enter (OfSentinel process) None (TheProcess process ∷ Str (bare (told_of (status_of status))) ∷ []) ∷ Wait w target ∷ rest))
         kernel.new (λ _ v2 all2. working (stands_at kernel.new v2 all2) (Wait w target ∷ rest)) }
     ensures plain { IfErr result (λ why. unmade why ≡ []) }
@@ -167,9 +167,9 @@ pub fn end<K: Sink, H: Host>(
 ) -> Result<(), Stop>
     requires asked { IsAsked kernel.old process true }
     requires hosted { Hosted kernel.old.beside.processes (H.state host.old).kills }
-    ensures comes { (program : Program) (w v : Waiting) (target : Target) (rest : List Item) (u : Undo) (all : List Process) → StandsFor kernel.old.beside.processes all →
+    ensures comes { (start : H) (program : Program) (w v : Waiting) (target : Target) (rest : List Item) (u : Undo) (all : List Process) → StandsFor kernel.old.beside.processes all →
         AsksProcess (stands_at kernel.old u all) w process v →
-        Comes result program (outside (K.state sink.old) (H.state host.old)) (outside (K.state sink.new) (H.state host.new)) (working (stands_at kernel.old u all) (Wait w target ∷ rest))
+        Comes result program (outside (K.state sink.old) (CallsSince H.state H.made start host.old)) (outside (K.state sink.new) (CallsSince H.state H.made start host.new)) (working (stands_at kernel.old u all) (Wait w target ∷ rest))
         kernel.new (λ _ v2 all2. working (stands_at kernel.new v2 all2) (Wait v target ∷ rest)) }
     ensures cause { HasCause (K.state sink.old).faults (K.state sink.new).faults (result ≡ Err Stop.WriteFault) }
     ensures hosted { StaysHosted result kernel.old (H.state host.old).kills kernel.new (H.state host.new).kills }

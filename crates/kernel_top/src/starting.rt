@@ -13,6 +13,7 @@ ghost use Rattle.ek_types.specs.Seen.{ch_of};
 ghost use Rattle.ek_call.specs.Meaning.{arg_of};
 ghost use Rattle.ek_call.specs.Faults.{fault_of};
 ghost use Rattle.kernel_top.specs.Plain.{characters as characters_of};
+ghost use Rattle.kernel_top.specs.HostCalls.{CallsSince};
 ghost use Rattle.kernel_top.specs.Outside.{outside};
 ghost use Rattle.kernel_top.specs.Standing.{Hosted, StaysHosted};
 ghost use Rattle.kernel_top.specs.Calls.{AreOfStart, ComesToReply};
@@ -218,8 +219,8 @@ pub fn start_process<H: Host>(
     requires start { AreOfStart (map arg_of (items_of args.now)) }
     requires hosted { Hosted kernel.old.beside.processes (H.state host.old).kills }
     requires few { length (H.state host.old).kills < 2 ^ 32 - 1 }
-    ensures comes { (sink : SinkState) → ComesToReply result StartProcess (map arg_of (items_of args.now))
-        (outside sink (H.state host.old)) (outside sink (H.state host.new)) kernel.old kernel.new }
+    ensures comes { (sink : SinkState) (start : H) → ComesToReply result StartProcess (map arg_of (items_of args.now))
+        (outside sink (CallsSince H.state H.made start host.old)) (outside sink (CallsSince H.state H.made start host.new)) kernel.old kernel.new }
     ensures hosted { StaysHosted result kernel.old (H.state host.old).kills kernel.new (H.state host.new).kills }
     ensures made { (p : ℕ) → result ≡ Ok (Answer.Process p) → p < length kernel.new.beside.processes }
     ensures fault { result ≡ Err Stop.WriteFault → ⊥ }

@@ -6,8 +6,8 @@ ghost use Rattle.plain_machine.specs.Grammar.{longest_script};
 ghost use Rattle.ek_types.specs.Io.{HasCause, Rose};
 ghost use Rattle.script_read.specs.GrammarSoFar.{IsScriptSoFar};
 ghost use Rattle.plain_machine.specs.Exchanges.{Exchange};
-ghost use Rattle.kernel_top.specs.Outside.{outside, Tells};
-ghost use Rattle.kernel_top.specs.Outcomes.{IsRun, HasEnded, Outcome};
+ghost use Rattle.kernel_top.specs.HostCalls.{CallsSince, Tells};
+ghost use Rattle.kernel_top.specs.Outcomes.{IsRun, HasEnded, seen, Outcome};
 
 use crate::answer::Stop;
 use crate::forms::run_script;
@@ -73,8 +73,8 @@ fn read_all<S: Source>(alloc: Global, source: &mut S) -> Result<Vec<u8>, Refused
 fn run_bytes<K: Sink, H: Host>(alloc: Global, bytes: &[u8], host: &mut H, sink: &mut K) -> Status
     requires { length (H.state host.old).kills ≤ 2 ^ 31 }
     ensures outcome { (written : List ℕ) × (exchanges : List Exchange) × Appends (K.state sink.old).held (K.state sink.new).held written
-        × Tells (H.state host.old).told (H.state host.new).told exchanges
-        × Outcome result (codes "run" ∷ []) bytes.now written exchanges (Unit {0}) (outside (K.state sink.old) (H.state host.old)) (outside (K.state sink.new) (H.state host.new)) }
+        × CallsSince H.state H.made host.old host.new exchanges
+        × Outcome result (codes "run" ∷ []) bytes.now written exchanges (Unit {0}) (seen (K.state sink.old) (H.state host.old)) (seen (K.state sink.new) (H.state host.new)) }
     ensures no_read { result ≡ Status.ReadFault → ⊥ }
     ensures write_fault { HasCause (K.state sink.old).faults (K.state sink.new).faults (result ≡ Status.WriteFault) }
 {
@@ -99,10 +99,10 @@ fn run_words<S: Source, K: Sink, H: Host>(
     requires { length (H.state host.old).kills ≤ 2 ^ 31 }
     ensures outcome { (read written : List ℕ) × (exchanges : List Exchange) × Consumes (S.state source.old).left (S.state source.new).left read × (length read ≤ longest_script + 1)
         × Appends (K.state sink.old).held (K.state sink.new).held written
-        × Tells (H.state host.old).told (H.state host.new).told exchanges
+        × CallsSince H.state H.made host.old host.new exchanges
         × Outcome result (map string_bytes words.now) read written exchanges
         (HasEnded (S.state source.old).left (S.state source.new).left)
-        (outside (K.state sink.old) (H.state host.old)) (outside (K.state sink.new) (H.state host.new)) }
+        (seen (K.state sink.old) (H.state host.old)) (seen (K.state sink.new) (H.state host.new)) }
     ensures untouched { result ≡ Status.Usage → S.state source.new ≡ S.state source.old }
     ensures read_fault { HasCause (S.state source.old).faults (S.state source.new).faults (result ≡ Status.ReadFault) }
     ensures write_fault { HasCause (K.state sink.old).faults (K.state sink.new).faults (result ≡ Status.WriteFault) }
@@ -136,10 +136,10 @@ pub fn run<S: Source, K: Sink, H: Host>(
     requires { length (H.state host.old).kills ≤ 2 ^ 31 }
     ensures outcome { (read written : List ℕ) × (exchanges : List Exchange) × Consumes (S.state source.old).left (S.state source.new).left read × (length read ≤ longest_script + 1)
         × Appends (K.state sink.old).held (K.state sink.new).held written
-        × Tells (H.state host.old).told (H.state host.new).told exchanges
+        × CallsSince H.state H.made host.old host.new exchanges × Tells (H.state host.old).told (H.state host.new).told exchanges
         × Outcome result (map string_bytes words.now) read written exchanges
         (HasEnded (S.state source.old).left (S.state source.new).left)
-        (outside (K.state sink.old) (H.state host.old)) (outside (K.state sink.new) (H.state host.new)) }
+        (seen (K.state sink.old) (H.state host.old)) (seen (K.state sink.new) (H.state host.new)) }
     ensures untouched { result ≡ Status.Usage → S.state source.new ≡ S.state source.old }
     ensures read_fault { HasCause (S.state source.old).faults (S.state source.new).faults (result ≡ Status.ReadFault) }
     ensures write_fault { HasCause (K.state sink.old).faults (K.state sink.new).faults (result ≡ Status.WriteFault) }

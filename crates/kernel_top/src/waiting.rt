@@ -12,6 +12,7 @@ ghost use Rattle.ek_types.specs.Listing.{items_of};
 ghost use Rattle.ek_call.specs.Meaning.{arg_of};
 ghost use Rattle.kernel_top.specs.Plain.{reply_item};
 ghost use Rattle.kernel_top.specs.Answers.{replied};
+ghost use Rattle.kernel_top.specs.HostCalls.{CallsSince};
 ghost use Rattle.kernel_top.specs.Outside.{outside};
 ghost use Rattle.kernel_top.specs.Standing.{stands_at, working, Comes, Hosted, StaysHosted};
 ghost use Rattle.kernel_top.specs.Hearing.{MayBeAsked};
@@ -61,8 +62,8 @@ fn turn<K: Sink, H: Host>(
 ) -> Result<Option<Answer>, Stop>
     requires room { wait.old.room ≡ 256 }
     requires hosted { Hosted kernel.old.beside.processes (H.state host.old).kills }
-    ensures comes { (program : Program) (fs : Forms) (u : Undo) (all : List Process) → StandsFor kernel.old.beside.processes all →
-        Comes result program (outside (K.state sink.old) (H.state host.old)) (outside (K.state sink.new) (H.state host.new))
+    ensures comes { (start : H) (program : Program) (fs : Forms) (u : Undo) (all : List Process) → StandsFor kernel.old.beside.processes all →
+        Comes result program (outside (K.state sink.old) (CallsSince H.state H.made start host.old)) (outside (K.state sink.new) (CallsSince H.state H.made start host.new))
         (working (stands_at kernel.old u all) (Waits wait.old.waiting Nowhere ∷ Top fs ∷ [])) kernel.new
         (λ answer v2 all2. working (stands_at kernel.new v2 all2) (turn_item answer wait.new.waiting ∷ Top fs ∷ [])) }
     ensures cause { HasCause (K.state sink.old).faults (K.state sink.new).faults (result ≡ Err Stop.WriteFault) }
@@ -96,8 +97,8 @@ fn take_turns<K: Sink, H: Host>(
 ) -> Result<Answer, Stop>
     requires room { wait.old.room ≡ 256 }
     requires hosted { Hosted kernel.old.beside.processes (H.state host.old).kills }
-    ensures comes { (program : Program) (fs : Forms) (u : Undo) (all : List Process) → StandsFor kernel.old.beside.processes all →
-        Comes result program (outside (K.state sink.old) (H.state host.old)) (outside (K.state sink.new) (H.state host.new))
+    ensures comes { (start : H) (program : Program) (fs : Forms) (u : Undo) (all : List Process) → StandsFor kernel.old.beside.processes all →
+        Comes result program (outside (K.state sink.old) (CallsSince H.state H.made start host.old)) (outside (K.state sink.new) (CallsSince H.state H.made start host.new))
         (working (stands_at kernel.old u all) (Waits wait.old.waiting Nowhere ∷ Top fs ∷ [])) kernel.new
         (λ answer v2 all2. working (stands_at kernel.new v2 all2) (reply_item (replied answer) ∷ Top fs ∷ [])) }
     ensures cause { HasCause (K.state sink.old).faults (K.state sink.new).faults (result ≡ Err Stop.WriteFault) }
@@ -121,8 +122,8 @@ pub fn accept_process_output<K: Sink, H: Host>(
 ) -> Result<Answer, Stop>
     requires rounds { AreRounds (map arg_of (items_of args.now)) }
     requires hosted { Hosted kernel.old.beside.processes (H.state host.old).kills }
-    ensures comes { ComesToReply result AcceptProcessOutput (map arg_of (items_of args.now))
-        (outside (K.state sink.old) (H.state host.old)) (outside (K.state sink.new) (H.state host.new)) kernel.old kernel.new }
+    ensures comes { (start : H) → ComesToReply result AcceptProcessOutput (map arg_of (items_of args.now))
+        (outside (K.state sink.old) (CallsSince H.state H.made start host.old)) (outside (K.state sink.new) (CallsSince H.state H.made start host.new)) kernel.old kernel.new }
     ensures cause { HasCause (K.state sink.old).faults (K.state sink.new).faults (result ≡ Err Stop.WriteFault) }
     ensures answer { IfOk result IsPlain }
     ensures hosted { StaysHosted result kernel.old (H.state host.old).kills kernel.new (H.state host.new).kills }
@@ -145,9 +146,9 @@ fn ask<K: Sink, H: Host>(
 ) -> Result<(), Stop>
     requires asked { MayBeAsked kernel.old process }
     requires hosted { Hosted kernel.old.beside.processes (H.state host.old).kills }
-    ensures comes { (program : Program) (w : Waiting) (target : Target) (rest : List Item) (u : Undo) (all : List Process) → StandsFor kernel.old.beside.processes all →
+    ensures comes { (start : H) (program : Program) (w : Waiting) (target : Target) (rest : List Item) (u : Undo) (all : List Process) → StandsFor kernel.old.beside.processes all →
         AsksProcess (stands_at kernel.old u all) w process wait.old.waiting →
-        Comes result program (outside (K.state sink.old) (H.state host.old)) (outside (K.state sink.new) (H.state host.new)) (working (stands_at kernel.old u all) (Waits w target ∷ rest))
+        Comes result program (outside (K.state sink.old) (CallsSince H.state H.made start host.old)) (outside (K.state sink.new) (CallsSince H.state H.made start host.new)) (working (stands_at kernel.old u all) (Waits w target ∷ rest))
         kernel.new (λ _ v2 all2. working (stands_at kernel.new v2 all2) (Waits wait.new.waiting target ∷ rest)) }
     ensures cause { HasCause (K.state sink.old).faults (K.state sink.new).faults (result ≡ Err Stop.WriteFault) }
     ensures hosted { StaysHosted result kernel.old (H.state host.old).kills kernel.new (H.state host.new).kills }

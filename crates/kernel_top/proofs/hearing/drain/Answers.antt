@@ -11,7 +11,7 @@ use Rattle.kernel_top.proofs.Output.{kept_is}
 use Rattle.kernel_top.proofs.hearing.drain.Goals as goal
 
 pub returns-clause-comes : goal.returns-clause-comes
-returns-clause-comes g c = λ host program w target rest u all y stands found.
+returns-clause-comes g c = λ program w target rest u all y stands found.
     let k = c.args.kernel.now in
     let p = c.args.process in
     let s = asked_one (stands_at k u all) in
@@ -20,7 +20,7 @@ returns-clause-comes g c = λ host program w target rest u all y stands found.
     let mid = c.note_asked.new.self in
     let state = asked_and_changed k mid c.drain.new.self (changed p with_drained mid.beside.processes) u all p (λ z. record z { drained = true }) c.note_asked.ensures c.drain.ensures.table in
     let said = c.drain.ensures.heard s y stands1 found drained ∙ ap (λ l. l ++ more_characters (characters y.bytes) (all_characters y.bytes)) c.requires.empty in
-    let after = c.enter_filter.ensures.comes host program w target rest u (change_process p (λ z. record z { drained = true }) s).processes (c.drain.ensures.machine s stands1) in
+    let after = c.enter_filter.ensures.comes program w target rest u (change_process p (λ z. record z { drained = true }) s).processes (c.drain.ensures.machine s stands1) in
     rw (state, ← said) after
 
 pub returns-clause-hosted : goal.returns-clause-hosted

@@ -10,7 +10,7 @@ use Rattle.process_table.specs.Table.{StandsFor, changed, with_status}
 use Rattle.text_model.specs.Properties.{bare}
 use Rattle.editor_model.specs.Values.{Str, TheProcess}
 use Rattle.kernel_top.specs.Plain.{Kernel}
-use Rattle.kernel_top.specs.Outside.{outside}
+use Rattle.kernel_top.specs.Outside.{unasked}
 use Rattle.kernel_top.specs.Hearing.{told_of}
 use Rattle.kernel_top.specs.Standing.{Hosted, stands_at, working}
 use Rattle.kernel_top.specs.declared.answer.Stop.TheVariants as stop
@@ -20,11 +20,11 @@ use Rattle.kernel_top.proofs.Output.{stopped_by, breaks_at}
 use Rattle.kernel_top.proofs.hearing.ended.Goals as goal
 
 pub returns-in_err-told-clause-comes : goal.returns-in_err-told-clause-comes
-returns-in_err-told-clause-comes g c = λ host program w target rest u all stands.
+returns-in_err-told-clause-comes g c = λ program w target rest u all stands.
     let k = c.args.kernel.now in
     let p = c.args.process in
     let s = asked_one (stands_at k u all) in
-    let o = outside (g.K.Sink.state c.args.sink.now) host in
+    let o = unasked (g.K.Sink.state c.args.sink.now) in
     let stands1 : StandsFor c.note_asked.new.self.beside.processes all = subst (λ (n : Kernel). StandsFor n.beside.processes all) (sym c.note_asked.ensures) stands in
     let stands2 = c.note_end.ensures.machine s stands1 in
     let from = working (change_process p (with_status (status_of c.args.status)) s) (Enter (OfSentinel p) None (TheProcess p ∷ Str (bare (told_of (status_of c.args.status))) ∷ []) ∷ Wait w target ∷ rest) in
@@ -42,7 +42,7 @@ enter_sentinel-requires-clause-made g c =
     omega (arith, size, slice_get_within c.args.kernel.now.beside.processes c.args.process c.requires.asked.process c.requires.asked.made)
 
 pub returns-clause-comes : goal.returns-clause-comes
-returns-clause-comes g c = λ host program w target rest u all stands.
+returns-clause-comes g c = λ program w target rest u all stands.
     let k = c.args.kernel.now in
     let p = c.args.process in
     let s = asked_one (stands_at k u all) in
@@ -50,7 +50,7 @@ returns-clause-comes g c = λ host program w target rest u all stands.
     let mid = c.note_asked.new.self in
     let stands1 : StandsFor mid.beside.processes all = subst (λ (n : Kernel). StandsFor n.beside.processes all) (sym c.note_asked.ensures) stands in
     let state = asked_and_changed k mid c.note_end.new.self (changed p f mid.beside.processes) u all p f c.note_asked.ensures c.note_end.ensures.table in
-    let after = c.enter_sentinel.ensures.comes host program w target rest u (change_process p f s).processes (c.note_end.ensures.machine s stands1) in
+    let after = c.enter_sentinel.ensures.comes program w target rest u (change_process p f s).processes (c.note_end.ensures.machine s stands1) in
     rw (state, ← c.in_ok-told.ensures) after
 
 pub returns-clause-hosted : goal.returns-clause-hosted

@@ -12,7 +12,7 @@ use Rattle.kernel_top.proofs.Output.{kept_is}
 use Rattle.kernel_top.proofs.hearing.hear.Goals as goal
 
 pub returns-clause-comes : goal.returns-clause-comes
-returns-clause-comes g c = λ host program w target rest u all y stands found.
+returns-clause-comes g c = λ program w target rest u all y stands found.
     let k = c.args.kernel.now in
     let p = c.args.process in
     let s = asked_one (stands_at k u all) in
@@ -21,7 +21,7 @@ returns-clause-comes g c = λ host program w target rest u all y stands found.
     let mid = c.note_asked.new.self in
     let state = asked_and_changed k mid c.feed.new.self (changed p (with_held (tail (held_by mid.beside.processes p ++ c.args.bytes.now))) mid.beside.processes) u all p (λ z. record z { bytes = y.bytes ++ c.args.bytes.now }) c.note_asked.ensures c.feed.ensures.table in
     let said = c.feed.ensures.heard s y stands1 found drained ∙ ap (λ l. l ++ more_characters (characters y.bytes) (characters (y.bytes ++ c.args.bytes.now))) c.requires.empty in
-    let after = c.enter_filter.ensures.comes host program w target rest u (change_process p (λ z. record z { bytes = y.bytes ++ c.args.bytes.now }) s).processes (c.feed.ensures.machine s y stands1 found drained) in
+    let after = c.enter_filter.ensures.comes program w target rest u (change_process p (λ z. record z { bytes = y.bytes ++ c.args.bytes.now }) s).processes (c.feed.ensures.machine s y stands1 found drained) in
     rw (state, ← said) after
 
 pub returns-clause-hosted : goal.returns-clause-hosted

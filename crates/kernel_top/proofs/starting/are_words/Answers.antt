@@ -1,4 +1,4 @@
-use Rattle.std.proofs.Common.{true, map, ap, sym, ◌∙◌}
+use Rattle.std.proofs.Common.{map, ap, sym, ◌∙◌}
 use Rattle.ek_call.specs.Meaning.{arg_of}
 use Rattle.kernel_top.specs.Starting.{are_words}
 use Rattle.kernel_top.proofs.Starts.{words_stop, words_on, take_whole}

@@ -1,5 +1,5 @@
-use Rattle.std.proofs.Common.{◌≡◌, ◌+◌, [], ◌∷◌, ◌++◌, map, drop, length, ap, sym, subst, ◌∙◌, refl, arith, option_map, false, string_bytes, length-append}
-use Rattle.std.specs.Prelude.{Some, None}
+use Rattle.std.proofs.Common.{◌≡◌, [], ◌∷◌, ◌++◌, map, drop, length, ap, sym, subst, ◌∙◌, refl, arith, option_map, false, string_bytes, length-append}
+use Rattle.std.specs.Prelude.{None}
 use Rattle.std.proofs.lemmas.Bool.{ltb-true}
 use Rattle.text_model.specs.Properties.{bare}
 use Rattle.editor_model.specs.Values.{Const, Answered, TheProcess}
@@ -14,12 +14,14 @@ use Rattle.ek_types.specs.Listing.{items_of}
 use Rattle.ek_call.specs.Meaning.{arg_of}
 use Rattle.ek_call.specs.Faults.{fault_of}
 use Rattle.kernel_top.specs.Plain.{Kernel, with_process, asked_more, reply_item}
+use Rattle.kernel_top.specs.HostCalls.{CallsSince}
 use Rattle.kernel_top.specs.Outside.{outside}
 use Rattle.kernel_top.specs.Standing.{stands_at, working}
 use Rattle.kernel_top.specs.Starting.{buffer_of}
 use Rattle.kernel_top.specs.declared.answer.Answer.TheVariants as answer
 use Rattle.kernel_top.specs.declared.answer.Stop.TheVariants as stop
-use Rattle.kernel_top.proofs.Journeys.{breaks_here, goes_breaks}
+use Rattle.kernel_top.proofs.HostCalls.{adds_spawn}
+use Rattle.kernel_top.proofs.Journeys.{AddsOne, breaks_here, goes_breaks}
 use Rattle.kernel_top.proofs.Output.{breaks_at, stopped_by}
 use Rattle.kernel_top.proofs.Launching.{form_first, start_is_refused, spawn_failed, spawn_started}
 use Rattle.kernel_top.proofs.HostedLemmas.{hosted_none, hosted_started}
@@ -37,13 +39,13 @@ pub spawn-requires : goal.spawn-requires
 spawn-requires g c = c.requires.few
 
 pub returns-in-Some-clause-comes : goal.returns-in-Some-clause-comes
-returns-in-Some-clause-comes g c = λ sink program fs u all stands.
-    let o = outside sink (g.H.Host.state c.args.host.now) in
+returns-in-Some-clause-comes g c = λ sink start_host program fs u all stands.
+    let o = outside sink (CallsSince g.H.Host.state g.H.Host.made start_host c.args.host.now) in
     (u, all, stands, start_is_refused program c.args.kernel.now u all stands fs (map arg_of (items_of c.args.args.now)) c.requires.start o (fault_of c.in-Some.fault) (sym (c.why_refused.ensures c.requires.start) ∙ ap (option_map fault_of) c.in-Some.is))
 
 pub returns-in_err-command-clause-comes : goal.returns-in_err-command-clause-comes
-returns-in_err-command-clause-comes g c = λ sink program fs u all stands.
-    let o = outside sink (g.H.Host.state c.args.host.now) in
+returns-in_err-command-clause-comes g c = λ sink start_host program fs u all stands.
+    let o = outside sink (CallsSince g.H.Host.state g.H.Host.made start_host c.args.host.now) in
     let from = working (stands_at c.args.kernel.now u all) (form_first fs (map arg_of (items_of c.args.args.now))) in
     rw (stopped_by c.from_residual.result stop.NoMemory c.from_residual.ensures) (breaks_at program o o from c.args.kernel.now stop.NoMemory all (breaks_here program o from tt) stands refl tt refl)
 
@@ -90,10 +92,10 @@ pub returns-in_err-spawned-clause-fault : goal.returns-in_err-spawned-clause-fau
 returns-in_err-spawned-clause-fault g c = rw (stopped_by c.from_residual-in_err-spawned.result stop.NoMemory c.from_residual-in_err-spawned.ensures) (λ e. memory_no_fault e)
 
 pub returns-in_err-spawned-clause-comes : goal.returns-in_err-spawned-clause-comes
-returns-in_err-spawned-clause-comes g c = λ sink program fs u all stands.
-    let o = outside sink (g.H.Host.state c.args.host.now) in
+returns-in_err-spawned-clause-comes g c = λ sink start_host program fs u all stands.
+    let o = outside sink (CallsSince g.H.Host.state g.H.Host.made start_host c.args.host.now) in
     let from = working (stands_at c.args.kernel.now u all) (form_first fs (map arg_of (items_of c.args.args.now))) in
-    rw (stopped_by c.from_residual-in_err-spawned.result stop.NoMemory c.from_residual-in_err-spawned.ensures, c.in_err-spawned.ensures.asked)
+    rw (stopped_by c.from_residual-in_err-spawned.result stop.NoMemory c.from_residual-in_err-spawned.ensures, c.in_err-spawned.ensures.unchanged)
     (breaks_at program o o from c.args.kernel.now stop.NoMemory all (breaks_here program o from tt) stands refl tt refl)
 
 pub note_asked-requires : goal.note_asked-requires
@@ -106,17 +108,19 @@ note_asked-requires g c =
     allowed.may
 
 pub returns-in-Refused-clause-comes : goal.returns-in-Refused-clause-comes
-returns-in-Refused-clause-comes g c = λ sink program fs u all stands.
+returns-in-Refused-clause-comes g c = λ sink start_host program fs u all stands.
     let k = c.args.kernel.now in
     let start = c.requires.start in
     let args = map arg_of (items_of c.args.args.now) in
     let may = sym (c.why_refused.ensures start) ∙ ap (option_map fault_of) c.in_default.is in
-    let old = g.H.Host.state c.args.host.now in
-    let new = g.H.Host.state c.spawn.new.self in
+    let kills = (g.H.Host.state c.args.host.now).kills in
+    let old = CallsSince g.H.Host.state g.H.Host.made start_host c.args.host.now in
+    let new = CallsSince g.H.Host.state g.H.Host.made start_host c.spawn.new.self in
+    let called = adds_spawn g.H.Host.state g.H.Host.made start_host c.args.host.now c.spawn.new.self _ _ _ c.in_ok-spawned.ensures.asked c.in_ok-spawned.ensures.made in
     let program_is = c.as_str.ensures.value ∙ c.in_ok-command.ensures.program start in
     let words_are = ap (map string_bytes) c.as_slice.ensures.value ∙ c.in_ok-command.ensures.words start in
-    let failed = subst (λ e. Exchanged old new (after_spawn old.kills e) (Spawn c.as_str.result.now (map string_bytes c.as_slice.result.now)) (spawned_answer e)) c.in-Refused.is c.in_ok-spawned.ensures.asked in
-    rw c.note_asked.ensures (u, all, stands, spawn_failed program k u all stands fs args start may sink old new old.kills (asked_of old new old.kills _ _ _ _ model.Refused program_is words_are failed))
+    let failed = subst (λ e. AddsOne old new (Spawn c.as_str.result.now (map string_bytes c.as_slice.result.now)) (spawned_answer e)) c.in-Refused.is called in
+    rw c.note_asked.ensures (u, all, stands, spawn_failed program k u all stands fs args start may sink old new (asked_of old new _ _ _ _ model.Refused program_is words_are failed))
 
 pub returns-in-Refused-clause-hosted : goal.returns-in-Refused-clause-hosted
 returns-in-Refused-clause-hosted g c =
@@ -156,25 +160,26 @@ pub add-requires-clause-home : goal.add-requires-clause-home
 add-requires-clause-home g c = rw (c.in_ok-command.ensures.buffer c.requires.start) (home_of c.requires.start.buffer c.requires.start.home)
 
 pub returns-in-Ok-clause-comes : goal.returns-in-Ok-clause-comes
-returns-in-Ok-clause-comes g c = λ sink program fs u all stands.
+returns-in-Ok-clause-comes g c = λ sink start_host program fs u all stands.
     let k = c.args.kernel.now in
     let start = c.requires.start in
     let args = map arg_of (items_of c.args.args.now) in
     let may = sym (c.why_refused.ensures start) ∙ ap (option_map fault_of) c.in_default.is in
-    let old = g.H.Host.state c.args.host.now in
-    let new = g.H.Host.state c.spawn.new.self in
+    let kills = (g.H.Host.state c.args.host.now).kills in
+    let old = CallsSince g.H.Host.state g.H.Host.made start_host c.args.host.now in
+    let new = CallsSince g.H.Host.state g.H.Host.made start_host c.spawn.new.self in
+    let called = adds_spawn g.H.Host.state g.H.Host.made start_host c.args.host.now c.spawn.new.self _ _ _ c.in_ok-spawned.ensures.asked c.in_ok-spawned.ensures.made in
     let command = c.in_ok-command.command in
     let program_is = c.as_str.ensures.value ∙ c.in_ok-command.ensures.program start in
     let words_are = ap (map string_bytes) c.as_slice.ensures.value ∙ c.in_ok-command.ensures.words start in
     let child = c.in-Started.child in
-    let began = subst (λ e. Exchanged old new (after_spawn old.kills e) (Spawn c.as_str.result.now (map string_bytes c.as_slice.result.now)) (spawned_answer e)) c.in-Started.is c.in_ok-spawned.ensures.asked in
-    let numbered : child ≡ length old.kills = subst (IsNumbered (length old.kills)) c.in-Started.is c.in_ok-spawned.ensures.number in
+    let began = subst (λ e. AddsOne old new (Spawn c.as_str.result.now (map string_bytes c.as_slice.result.now)) (spawned_answer e)) c.in-Started.is called in
+    let numbered : child ≡ length kills = subst (IsNumbered (length kills)) c.in-Started.is c.in_ok-spawned.ensures.number in
     let buffer = buffer_of (Const start.buffer) in
     let one = new_process command.name.items child buffer (length k.beside.markers) in
-    let kids = old.kills ++ false ∷ [] in
     let added : c.add.new.self ≡ with_process (asked_more k) command.name.items child buffer = c.in-Ok.ensures.ok ∙ ap (λ (n : Kernel). with_process n command.name.items child command.buffer) c.note_asked.ensures ∙ ap (with_process (asked_more k) command.name.items child) (c.in_ok-command.ensures.buffer start) in
     let number : c.in-Ok.process ≡ length k.beside.processes = c.in-Ok.ensures.number ∙ ap (λ (n : Kernel). length n.beside.processes) c.note_asked.ensures in
-    rw (added, number) (u, all ++ one ∷ [], stands_more k.beside.processes all command.name.items child buffer (length k.beside.markers) stands, spawn_started program k u all stands fs args start may sink old new kids command.name.items child (c.in_ok-command.ensures.machine start all stands) c.requires.hosted numbered (asked_of old new kids _ _ _ _ (Started child) program_is words_are began))
+    rw (added, number) (u, all ++ one ∷ [], stands_more k.beside.processes all command.name.items child buffer (length k.beside.markers) stands, spawn_started program k u all stands fs args start may sink old new kills command.name.items child (c.in_ok-command.ensures.machine start all stands) c.requires.hosted numbered (asked_of old new _ _ _ _ (Started child) program_is words_are began))
 
 pub returns-in-Ok-clause-hosted : goal.returns-in-Ok-clause-hosted
 returns-in-Ok-clause-hosted g c =
@@ -207,29 +212,30 @@ pub returns-in-Ok-clause-fault : goal.returns-in-Ok-clause-fault
 returns-in-Ok-clause-fault g c = λ e. given_not_stopped _ stop.WriteFault e
 
 pub returns-clause-comes : goal.returns-clause-comes
-returns-clause-comes g c = λ sink program fs u all stands.
+returns-clause-comes g c = λ sink start_host program fs u all stands.
     let k = c.args.kernel.now in
     let start = c.requires.start in
     let args = map arg_of (items_of c.args.args.now) in
     let may = sym (c.why_refused.ensures start) ∙ ap (option_map fault_of) c.in_default.is in
-    let old = g.H.Host.state c.args.host.now in
-    let new = g.H.Host.state c.spawn.new.self in
+    let kills = (g.H.Host.state c.args.host.now).kills in
+    let old = CallsSince g.H.Host.state g.H.Host.made start_host c.args.host.now in
+    let new = CallsSince g.H.Host.state g.H.Host.made start_host c.spawn.new.self in
+    let called = adds_spawn g.H.Host.state g.H.Host.made start_host c.args.host.now c.spawn.new.self _ _ _ c.in_ok-spawned.ensures.asked c.in_ok-spawned.ensures.made in
     let command = c.in_ok-command.command in
     let program_is = c.as_str.ensures.value ∙ c.in_ok-command.ensures.program start in
     let words_are = ap (map string_bytes) c.as_slice.ensures.value ∙ c.in_ok-command.ensures.words start in
     let child = c.in-Started.child in
-    let began = subst (λ e. Exchanged old new (after_spawn old.kills e) (Spawn c.as_str.result.now (map string_bytes c.as_slice.result.now)) (spawned_answer e)) c.in-Started.is c.in_ok-spawned.ensures.asked in
-    let numbered : child ≡ length old.kills = subst (IsNumbered (length old.kills)) c.in-Started.is c.in_ok-spawned.ensures.number in
+    let began = subst (λ e. AddsOne old new (Spawn c.as_str.result.now (map string_bytes c.as_slice.result.now)) (spawned_answer e)) c.in-Started.is called in
+    let numbered : child ≡ length kills = subst (IsNumbered (length kills)) c.in-Started.is c.in_ok-spawned.ensures.number in
     let buffer = buffer_of (Const start.buffer) in
     let one = new_process command.name.items child buffer (length k.beside.markers) in
-    let kids = old.kills ++ false ∷ [] in
     let listed : c.add.new.self.beside.processes ≡ k.beside.processes = c.in-Err.ensures.processes ∙ ap (λ (n : Kernel). n.beside.processes) c.note_asked.ensures in
     let from = working (stands_at k u all) (form_first fs args) in
     let to = working (stands_at (with_process (asked_more k) command.name.items child buffer) u (all ++ one ∷ [])) (reply_item (Answered (TheProcess (length k.beside.processes))) ∷ Top fs ∷ []) in
     let o = outside sink old in
     let n = outside sink new in
     record {
-      breaks = goes_breaks program o n n from to (spawn_started program k u all stands fs args start may sink old new kids command.name.items child (c.in_ok-command.ensures.machine start all stands) c.requires.hosted numbered (asked_of old new kids _ _ _ _ (Started child) program_is words_are began)) (breaks_here program n to tt);
+      breaks = goes_breaks program o n n from to (spawn_started program k u all stands fs args start may sink old new kills command.name.items child (c.in_ok-command.ensures.machine start all stands) c.requires.hosted numbered (asked_of old new _ _ _ _ (Started child) program_is words_are began)) (breaks_here program n to tt);
       before_end = tt;
       left = left_with k.beside.processes all c.add.new.self.beside.processes command.name.items child buffer (length k.beside.markers) stands listed;
     }

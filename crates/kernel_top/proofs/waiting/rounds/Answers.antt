@@ -1,4 +1,4 @@
-use Rattle.std.proofs.Common.{◌≤◌, true, ap, ◌∙◌, length, arith, rules, SFits, w64}
+use Rattle.std.proofs.Common.{◌≤◌, ap, ◌∙◌, length, arith, rules, SFits, w64}
 use Rattle.std.proofs.lemmas.Int.{to_z-of_z}
 use Rattle.plain_machine.specs.Refusals.{rounds_of}
 use Rattle.ek_types.specs.Listing.{items_of}
