@@ -1,6 +1,6 @@
 -- What asking a process in a wait comes to, by the host's answer.
-use Rattle.std.proofs.Common.{◌≡◌, ℕ, suc, ◌≤◌, ◌<◌, Bool, true, false, List, [], ◌∷◌, ◌++◌, length, refl, ap, sym, ◌∙◌, subst, slice_get, take, arith}
-use Rattle.std.specs.Prelude.{ℤ, Some, None, nat_lt, All}
+use Rattle.std.proofs.Common.{◌≡◌, ℕ, suc, ◌≤◌, ◌<◌, Bool, true, false, List, [], ◌∷◌, ◌++◌, length, refl, ap, sym, ◌∙◌, subst, slice_get, take, arith, inl, inr}
+use Rattle.std.specs.Prelude.{ℤ, Some, None, nat_lt, All, ◌⊎◌}
 use Rattle.std.specs.List.{list_all}
 use Rattle.std.specs.declared.option.Option.{Option}
 use Rattle.std.proofs.lemmas.Bool.{le-leb, lt-ltb}
@@ -22,6 +22,9 @@ use Rattle.plain_machine.specs.Step.{step}
 use Rattle.process_table.specs.Table.{StandsFor, with_status}
 use Rattle.wait_loop.specs.KeptWaits.{noted}
 use Rattle.wait_loop.specs.Rounds.{AsksProcess}
+use Rattle.host_link.specs.Hosts.{got_answer}
+use Rattle.host_link.specs.declared.host.Got.{Got}
+use Rattle.host_link.specs.declared.host.Got.TheVariants as got
 use Rattle.ek_types.specs.Io.{SinkState}
 use Rattle.kernel_top.specs.Plain.{Kernel, asked_more, IsSound, IsOrdinary}
 use Rattle.kernel_top.specs.Outside.{deepest, Past, outside, Goes}
@@ -98,11 +101,10 @@ module _ (program : Program) (k : Kernel) (sound : IsSound k) (u : Undo) (all : 
         subst (λ work. Goes program (outside sink old) (outside sink new) from (working state work)) (entered_default s p one text (Wait v target ∷ rest) (filter_is false may))
         (reads answer (record { said = []; config = working state (entry_of s p one text (Wait v target ∷ rest)) }) e refl x)
 
-    pub heard_end : AddsOne old new (Read may.process.child) End → Goes program (outside sink old) (outside sink new) from drained_config
-    heard_end x = drains End refl x
-
-    pub heard_failure : AddsOne old new (Read may.process.child) exchange.Failed → Goes program (outside sink old) (outside sink new) from drained_config
-    heard_failure x = drains exchange.Failed refl x
+    -- the output has ended, or the read failed
+    pub heard_last : (into : List ℕ) (g : Got) → (g ≡ got.End) ⊎ (g ≡ got.Failed) → AddsOne old new (Read may.process.child) (got_answer into g) → Goes program (outside sink old) (outside sink new) from drained_config
+    heard_last into g (inl e) x = drains End refl (subst (λ y. AddsOne old new (Read may.process.child) (got_answer into y)) e x)
+    heard_last into g (inr e) x = drains exchange.Failed refl (subst (λ y. AddsOne old new (Read may.process.child) (got_answer into y)) e x)
 
   -- ENDS
   module _ (may : IsAsked k p true) (sink : SinkState) (old new : Past) where

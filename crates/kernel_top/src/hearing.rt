@@ -116,11 +116,7 @@ pub fn read<K: Sink, H: Host>(
             hear(kernel, sink, process, &room[..n], &mut text)?;
             Ok(true)
         }
-        Got::End => {
-            drain(kernel, sink, process, &mut text)?;
-            Ok(false)
-        }
-        Got::Failed => {
+        Got::End | Got::Failed => {
             drain(kernel, sink, process, &mut text)?;
             Ok(false)
         }

@@ -135,26 +135,16 @@ fn buffer(arg: &Arg) -> Option<u32>
 }
 
 /// Why a start is refused before anything is asked.
-#[tactic(none)]
 fn refusal(kernel: &Kernel, name: &Piece, program: &Piece, words: &[Arg]) -> Option<Fault>
     ensures { option_map fault_of result ≡ start_refused kernel.now name.now program.now (map arg_of words.now) }
 {
-    if name.is_empty() {
+    if name.is_empty() || program.is_empty() || !are_words(words) {
         return Some(Fault::WrongType);
     }
-    if program.is_empty() {
-        return Some(Fault::WrongType);
-    }
-    if !are_words(words) {
-        return Some(Fault::WrongType);
-    }
-    if name.len() > LONGEST_NAME {
-        return Some(Fault::TooMany);
-    }
-    if kernel.processes.count() >= MOST_PROCESSES {
-        return Some(Fault::TooMany);
-    }
-    if kernel.markers.count() >= MOST_MARKERS {
+    if name.len() > LONGEST_NAME
+        || kernel.processes.count() >= MOST_PROCESSES
+        || kernel.markers.count() >= MOST_MARKERS
+    {
         return Some(Fault::TooMany);
     }
     if !kernel.may_ask() {
@@ -164,7 +154,6 @@ fn refusal(kernel: &Kernel, name: &Piece, program: &Piece, words: &[Arg]) -> Opt
 }
 
 /// Why a start is refused before anything is asked, by its arguments.
-#[tactic(none)]
 fn why_refused(kernel: &Kernel, args: &Args) -> Option<Fault>
     requires { AreOfStart (map arg_of (items_of args.now)) }
     ensures { (start : AreOfStart (map arg_of (items_of args.now))) → option_map fault_of result ≡ start_refused kernel.now (bare start.name) (bare start.program) (drop 2 (map arg_of (items_of args.now))) }

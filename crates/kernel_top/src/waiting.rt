@@ -43,10 +43,7 @@ fn rounds(args: &Args) -> Option<u32>
     let Some(n) = integer(args.at(1)) else {
         unreachable!()
     };
-    if n < 1 {
-        return None;
-    }
-    if n > MOST_ROUNDS {
+    if n < 1 || n > MOST_ROUNDS {
         return None;
     }
     Some(n as u32)

@@ -44,7 +44,7 @@ returns-in-Code-clause-comes g c = λ start program w v target rest u all stands
 pub returns-in-Code-clause-hosted : goal.returns-in-Code-clause-hosted
 returns-in-Code-clause-hosted g c =
     let old = g.H.Host.state c.args.host.now in
-    let kills = (subst (λ e. Exchanged old (g.H.Host.state c.end.new.self) old.kills (AskEnd c.child-child.result) (ended_answer e)) c.in-Code.is c.in_ok-code.ensures.asked).kills in
+    let kills = c.in_ok-code.ensures.asked.kills in
     stays_hosted c.ended.result c.args.kernel.now c.ended.new.kernel old.kills (g.H.Host.state c.end.new.self).kills c.ended.ensures.plain kills (c.ended.ensures.hosted old.kills c.requires.hosted) c.ended.ensures.count
 
 pub returns-in-Signal-clause-comes : goal.returns-in-Signal-clause-comes
@@ -61,7 +61,7 @@ returns-in-Signal-clause-comes g c = λ start program w v target rest u all stan
 pub returns-in-Signal-clause-hosted : goal.returns-in-Signal-clause-hosted
 returns-in-Signal-clause-hosted g c =
     let old = g.H.Host.state c.args.host.now in
-    let kills = (subst (λ e. Exchanged old (g.H.Host.state c.end.new.self) old.kills (AskEnd c.child-child.result) (ended_answer e)) c.in-Signal.is c.in_ok-code.ensures.asked).kills in
+    let kills = c.in_ok-code.ensures.asked.kills in
     stays_hosted c.ended-in-Signal.result c.args.kernel.now c.ended-in-Signal.new.kernel old.kills (g.H.Host.state c.end.new.self).kills c.ended-in-Signal.ensures.plain kills (c.ended-in-Signal.ensures.hosted old.kills c.requires.hosted) c.ended-in-Signal.ensures.count
 
 pub returns-in-Failed-clause-comes : goal.returns-in-Failed-clause-comes
@@ -78,7 +78,7 @@ returns-in-Failed-clause-comes g c = λ start program w v target rest u all stan
 pub returns-in-Failed-clause-hosted : goal.returns-in-Failed-clause-hosted
 returns-in-Failed-clause-hosted g c =
     let old = g.H.Host.state c.args.host.now in
-    let kills = (subst (λ e. Exchanged old (g.H.Host.state c.end.new.self) old.kills (AskEnd c.child-child.result) (ended_answer e)) c.in-Failed.is c.in_ok-code.ensures.asked).kills in
+    let kills = c.in_ok-code.ensures.asked.kills in
     stays_hosted c.ended-in-Failed.result c.args.kernel.now c.ended-in-Failed.new.kernel old.kills (g.H.Host.state c.end.new.self).kills c.ended-in-Failed.ensures.plain kills (c.ended-in-Failed.ensures.hosted old.kills c.requires.hosted) c.ended-in-Failed.ensures.count
 
 pub returns-in-Running-clause-comes : goal.returns-in-Running-clause-comes

@@ -17,7 +17,7 @@ use Rattle.kernel_top.proofs.Output.{stopped_by, breaks_at}
 use Rattle.plain_machine.specs.Waits.{is_room}
 use Rattle.plain_machine.specs.Exchanges.{Read}
 use Rattle.host_link.specs.Hosts.{Exchanged, Fits, got_answer}
-use Rattle.kernel_top.proofs.Asking.{child_of, y, heard_bytes, heard_nothing, heard_end, heard_failure, room_of}
+use Rattle.kernel_top.proofs.Asking.{child_of, y, heard_bytes, heard_nothing, heard_last, room_of}
 use Rattle.kernel_top.proofs.hearing.read.Goals as goal
 
 pub get-requires : goal.get-requires
@@ -64,7 +64,7 @@ returns-in_err-hear-in-Bytes-clause-comes g c = λ start program w v target rest
 pub returns-in_err-hear-in-Bytes-clause-hosted : goal.returns-in_err-hear-in-Bytes-clause-hosted
 returns-in_err-hear-in-Bytes-clause-hosted g c =
     let old = g.H.Host.state c.args.host.now in
-    let kills = (subst (λ e. Exchanged old (g.H.Host.state c.read.new.self) old.kills (Read c.child-child.result) (got_answer c.read.new.into e)) c.in-Bytes.is c.in_ok-n.ensures.asked).kills in
+    let kills = c.in_ok-n.ensures.asked.kills in
     rw (stopped_by c.from_residual-in_err-hear-in-Bytes.result c.in_err-hear-in-Bytes.field-0.0 c.from_residual-in_err-hear-in-Bytes.ensures, kills, c.in_err-hear-in-Bytes.ensures.plain, append-nil)
     (c.in_err-hear-in-Bytes.ensures.hosted old.kills c.requires.hosted)
 
@@ -106,15 +106,15 @@ returns-in_err-drain-in-End-clause-comes g c = λ start program w v target rest 
     let old = CallsSince g.H.Host.state g.H.Host.made start c.args.host.now in
     let new = CallsSince g.H.Host.state g.H.Host.made start c.read.new.self in
     let called = adds_read g.H.Host.state g.H.Host.made start c.args.host.now c.read.new.self c.child-child.result _ c.read.new.into c.in_ok-n.field-0 (omega (arith, c.read.auto.into)) c.in_ok-n.ensures.asked c.in_ok-n.ensures.made in
-    let x = rw (child_of c.args.process c.kernel.view_is c.get.ensures c.child-child.ensures c.requires.asked.made) at (subst (λ e. AddsOne old new (Read c.child-child.result) (got_answer c.read.new.into e)) c.in-End.is called) in
+    let x = rw (child_of c.args.process c.kernel.view_is c.get.ensures c.child-child.ensures c.requires.asked.made) at called in
     let process = y program k sound u all stands p w v target rest asks false c.requires.asked in
     rw (stopped_by c.from_residual-in_err-drain-in-End.result c.in_err-drain-in-End.field-0.0 c.from_residual-in_err-drain-in-End.ensures)
-    (breaks_behind program (outside sink old) _ _ _ _ _ _ (heard_end program k sound u all stands p w v target rest asks c.requires.asked sink old new x) (unasked_breaks program _ _ new _ _ _ (c.in_err-drain-in-End.ensures.comes program v target rest u all process.one stands process.found)))
+    (breaks_behind program (outside sink old) _ _ _ _ _ _ (heard_last program k sound u all stands p w v target rest asks c.requires.asked sink old new c.read.new.into c.in_ok-n.field-0 c.in-End.is x) (unasked_breaks program _ _ new _ _ _ (c.in_err-drain-in-End.ensures.comes program v target rest u all process.one stands process.found)))
 
 pub returns-in_err-drain-in-End-clause-hosted : goal.returns-in_err-drain-in-End-clause-hosted
 returns-in_err-drain-in-End-clause-hosted g c =
     let old = g.H.Host.state c.args.host.now in
-    let kills = (subst (λ e. Exchanged old (g.H.Host.state c.read.new.self) old.kills (Read c.child-child.result) (got_answer c.read.new.into e)) c.in-End.is c.in_ok-n.ensures.asked).kills in
+    let kills = c.in_ok-n.ensures.asked.kills in
     rw (stopped_by c.from_residual-in_err-drain-in-End.result c.in_err-drain-in-End.field-0.0 c.from_residual-in_err-drain-in-End.ensures, kills, c.in_err-drain-in-End.ensures.plain, append-nil)
     (c.in_err-drain-in-End.ensures.hosted old.kills c.requires.hosted)
 
@@ -127,42 +127,8 @@ returns-in-End-clause-comes g c = λ start program w v target rest u all stands 
     let old = CallsSince g.H.Host.state g.H.Host.made start c.args.host.now in
     let new = CallsSince g.H.Host.state g.H.Host.made start c.read.new.self in
     let called = adds_read g.H.Host.state g.H.Host.made start c.args.host.now c.read.new.self c.child-child.result _ c.read.new.into c.in_ok-n.field-0 (omega (arith, c.read.auto.into)) c.in_ok-n.ensures.asked c.in_ok-n.ensures.made in
-    let x = rw (child_of c.args.process c.kernel.view_is c.get.ensures c.child-child.ensures c.requires.asked.made) at (subst (λ e. AddsOne old new (Read c.child-child.result) (got_answer c.read.new.into e)) c.in-End.is called) in
+    let x = rw (child_of c.args.process c.kernel.view_is c.get.ensures c.child-child.ensures c.requires.asked.made) at called in
     let process = y program k sound u all stands p w v target rest asks false c.requires.asked in
     let to : Undo → List Process → Config = λ v2 all2. working (stands_at c.drain.new.kernel v2 all2) (Wait v target ∷ rest) in
-    goes_behind program (outside sink old) _ _ _ _ c.drain.new.kernel to (heard_end program k sound u all stands p w v target rest asks c.requires.asked sink old new x) (unasked_goes program _ _ new _ c.drain.new.kernel to (c.in_ok-drain-in-End.ensures.comes program v target rest u all process.one stands process.found))
+    goes_behind program (outside sink old) _ _ _ _ c.drain.new.kernel to (heard_last program k sound u all stands p w v target rest asks c.requires.asked sink old new c.read.new.into c.in_ok-n.field-0 c.in-End.is x) (unasked_goes program _ _ new _ c.drain.new.kernel to (c.in_ok-drain-in-End.ensures.comes program v target rest u all process.one stands process.found))
 
-pub returns-in_err-drain-in-Failed-clause-comes : goal.returns-in_err-drain-in-Failed-clause-comes
-returns-in_err-drain-in-Failed-clause-comes g c = λ start program w v target rest u all stands asks.
-    let k = c.args.kernel.now in
-    let p = c.args.process in
-    let sound = subst IsSound c.kernel.view_is c.kernel.invariant in
-    let sink = g.K.Sink.state c.args.sink.now in
-    let old = CallsSince g.H.Host.state g.H.Host.made start c.args.host.now in
-    let new = CallsSince g.H.Host.state g.H.Host.made start c.read.new.self in
-    let called = adds_read g.H.Host.state g.H.Host.made start c.args.host.now c.read.new.self c.child-child.result _ c.read.new.into c.in_ok-n.field-0 (omega (arith, c.read.auto.into)) c.in_ok-n.ensures.asked c.in_ok-n.ensures.made in
-    let x = rw (child_of c.args.process c.kernel.view_is c.get.ensures c.child-child.ensures c.requires.asked.made) at (subst (λ e. AddsOne old new (Read c.child-child.result) (got_answer c.read.new.into e)) c.in-Failed.is called) in
-    let process = y program k sound u all stands p w v target rest asks false c.requires.asked in
-    rw (stopped_by c.from_residual-in_err-drain-in-Failed.result c.in_err-drain-in-Failed.field-0.0 c.from_residual-in_err-drain-in-Failed.ensures)
-    (breaks_behind program (outside sink old) _ _ _ _ _ _ (heard_failure program k sound u all stands p w v target rest asks c.requires.asked sink old new x) (unasked_breaks program _ _ new _ _ _ (c.in_err-drain-in-Failed.ensures.comes program v target rest u all process.one stands process.found)))
-
-pub returns-in_err-drain-in-Failed-clause-hosted : goal.returns-in_err-drain-in-Failed-clause-hosted
-returns-in_err-drain-in-Failed-clause-hosted g c =
-    let old = g.H.Host.state c.args.host.now in
-    let kills = (subst (λ e. Exchanged old (g.H.Host.state c.read.new.self) old.kills (Read c.child-child.result) (got_answer c.read.new.into e)) c.in-Failed.is c.in_ok-n.ensures.asked).kills in
-    rw (stopped_by c.from_residual-in_err-drain-in-Failed.result c.in_err-drain-in-Failed.field-0.0 c.from_residual-in_err-drain-in-Failed.ensures, kills, c.in_err-drain-in-Failed.ensures.plain, append-nil)
-    (c.in_err-drain-in-Failed.ensures.hosted old.kills c.requires.hosted)
-
-pub returns-in-Failed-clause-comes : goal.returns-in-Failed-clause-comes
-returns-in-Failed-clause-comes g c = λ start program w v target rest u all stands asks.
-    let k = c.args.kernel.now in
-    let p = c.args.process in
-    let sound = subst IsSound c.kernel.view_is c.kernel.invariant in
-    let sink = g.K.Sink.state c.args.sink.now in
-    let old = CallsSince g.H.Host.state g.H.Host.made start c.args.host.now in
-    let new = CallsSince g.H.Host.state g.H.Host.made start c.read.new.self in
-    let called = adds_read g.H.Host.state g.H.Host.made start c.args.host.now c.read.new.self c.child-child.result _ c.read.new.into c.in_ok-n.field-0 (omega (arith, c.read.auto.into)) c.in_ok-n.ensures.asked c.in_ok-n.ensures.made in
-    let x = rw (child_of c.args.process c.kernel.view_is c.get.ensures c.child-child.ensures c.requires.asked.made) at (subst (λ e. AddsOne old new (Read c.child-child.result) (got_answer c.read.new.into e)) c.in-Failed.is called) in
-    let process = y program k sound u all stands p w v target rest asks false c.requires.asked in
-    let to : Undo → List Process → Config = λ v2 all2. working (stands_at c.drain-in-Failed.new.kernel v2 all2) (Wait v target ∷ rest) in
-    goes_behind program (outside sink old) _ _ _ _ c.drain-in-Failed.new.kernel to (heard_failure program k sound u all stands p w v target rest asks c.requires.asked sink old new x) (unasked_goes program _ _ new _ c.drain-in-Failed.new.kernel to (c.in_ok-drain-in-Failed.ensures.comes program v target rest u all process.one stands process.found))

@@ -7,32 +7,11 @@ use Rattle.kernel_top.specs.Starting.{start_refused}
 use Rattle.kernel_top.proofs.Refusing.{slice_is, three_given, first_is, third_is, same_text}
 use Rattle.kernel_top.proofs.starting.why_refused.Goals as goal
 
-pub at-requires : goal.at-requires
-at-requires c = omega (arith, three_given (items_of c.args.args.now) c.requires)
-
 pub unreachable-requires : goal.unreachable-requires
 unreachable-requires c = c.in_default.ensures.none (bare c.requires.name) (first_is (items_of c.args.args.now) c.requires c.at.result.now c.at.ensures)
 
-pub unreachable-unreachable : goal.unreachable-unreachable
-unreachable-unreachable c = c.unreachable.type_inv
-
-pub at-requires-2 : goal.at-requires-2
-at-requires-2 c = omega (arith, three_given (items_of c.args.args.now) c.requires)
-
 pub unreachable-requires-in_default-string : goal.unreachable-requires-in_default-string
 unreachable-requires-in_default-string c = c.in_default-string.ensures.none (bare c.requires.program) (third_is (items_of c.args.args.now) c.requires c.at-2.result.now c.at-2.ensures)
-
-pub unreachable-unreachable-in_default-string : goal.unreachable-unreachable-in_default-string
-unreachable-unreachable-in_default-string c = c.unreachable-in_default-string.type_inv
-
-pub slice_bounds-refusal-count : goal.slice_bounds-refusal-count
-slice_bounds-refusal-count c = omega (arith, three_given (items_of c.args.args.now) c.requires, ap length c.as_slice.ensures)
-
-pub slice_bounds-refusal-start : goal.slice_bounds-refusal-start
-slice_bounds-refusal-start c = omega (arith, three_given (items_of c.args.args.now) c.requires, ap length c.as_slice.ensures)
-
-pub slice_bounds-refusal-end : goal.slice_bounds-refusal-end
-slice_bounds-refusal-end c = omega (arith, three_given (items_of c.args.args.now) c.requires, ap length c.as_slice.ensures)
 
 pub returns : goal.returns
 returns c = λ start.

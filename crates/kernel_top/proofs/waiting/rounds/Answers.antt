@@ -5,6 +5,7 @@ use Rattle.ek_types.specs.Listing.{items_of}
 use Rattle.kernel_top.specs.Calls.{is_allowed}
 use Rattle.kernel_top.proofs.Rounded.{is_number, given_is, too_few, too_many, allowed}
 use Rattle.kernel_top.proofs.waiting.rounds.Goals as goal
+use Rattle.kernel_top.proofs.waiting.rounds.Goals.{then-n-lt1-via-then-n-lt1, then-n-lt1-via-else-n-lt1+then-n-gt-MOST_ROUNDS}
 
 pub unreachable-requires : goal.unreachable-requires
 unreachable-requires c =
@@ -17,14 +18,10 @@ returns-then-n-lt1 c =
     let two : 2 ≤ length (items_of c.args.args.now) = omega (arith, c.if-len-lt2.false, c.len.ensures) in
     let fits : SFits w64 c.in-Some.n = search rules in
     ap (λ v. is_allowed (rounds_of v)) (given_is (items_of c.args.args.now) c.at.result.now c.requires two c.at.ensures c.in-Some.n c.in-Some.ensures.some)
-    ∙ too_few c.in-Some.n (rw (to_z-of_z w64 c.in-Some.n fits) at c.if-n-lt1.true)
-
-pub returns-then-n-gt-MOST_ROUNDS : goal.returns-then-n-gt-MOST_ROUNDS
-returns-then-n-gt-MOST_ROUNDS c =
-    let two : 2 ≤ length (items_of c.args.args.now) = omega (arith, c.if-len-lt2.false, c.len.ensures) in
-    let fits : SFits w64 c.in-Some.n = search rules in
-    ap (λ v. is_allowed (rounds_of v)) (given_is (items_of c.args.args.now) c.at.result.now c.requires two c.at.ensures c.in-Some.n c.in-Some.ensures.some)
-    ∙ too_many c.in-Some.n (rw (to_z-of_z w64 c.in-Some.n fits) at c.if-n-gt-MOST_ROUNDS.true)
+    ∙ elim c.then-n-lt1.branch [
+      | then-n-lt1-via-then-n-lt1 w ↦ too_few c.in-Some.n (rw (to_z-of_z w64 c.in-Some.n fits) at w.if-n-lt1.true)
+      | then-n-lt1-via-else-n-lt1+then-n-gt-MOST_ROUNDS w ↦ too_many c.in-Some.n (rw (to_z-of_z w64 c.in-Some.n fits) at w.if-n-gt-MOST_ROUNDS.true)
+    ]
 
 pub returns : goal.returns
 returns c =
