@@ -19,7 +19,6 @@ use Rattle.kernel_top.specs.HostCalls.{CallsSince}
 use Rattle.kernel_top.specs.Outside.{deepest, Outside, outside}
 use Rattle.kernel_top.specs.Ending.{IsOver}
 use Rattle.kernel_top.specs.Outcomes.{program_for, SentinelsComeLast, RanScript, StoppedScript}
-use Rattle.kernel_top.specs.declared.answer.Stop.{Stop}
 use Rattle.kernel_top.proofs.HostCalls.{all_calls}
 
 -- the forms that are left
@@ -42,7 +41,7 @@ module _ (script : Script) {H : Type 0} (state : H → HostState) (made : H → 
   sentinels_last law exchanges said last run before after x p same entry = law exchanges before after x last p (subst (λ l. Reaches (program_for script) deepest (start script) exchanges l last) same run) entry
 
   -- a whole run
-  pub ran : {T : Type 0} (r : Result T Stop) → RanEntries (program_for script) deepest script → Sentinels (program_for script) deepest (start script) → IsOver r (program_for script) o n (start script) →
+  pub ran : {T E : Type 0} (r : Result T E) → RanEntries (program_for script) deepest script → Sentinels (program_for script) deepest (start script) → IsOver r (program_for script) o n (start script) →
       OnOk r ((written : List ℕ) × (exchanges : List Exchange) × Appends old.held new.held written × CallsSince state made start_host now exchanges × RanScript script exchanges written old new)
   ran (Ok x) hear come (last, ended, gone) =
       let run : Ran (program_for script) deepest script gone.made (lines gone.said) = record { said = gone.said; last = last; run = gone.run; ended = ended; bytes = refl } in (
@@ -60,7 +59,7 @@ module _ (script : Script) {H : Type 0} (state : H → HostState) (made : H → 
   ran (Err why) hear come h = tt
 
   -- one that was broken off
-  pub stopped : {T : Type 0} (r : Result T Stop) → KillsLeft (program_for script) deepest (start script) → BrokenEntries (program_for script) deepest script →
+  pub stopped : {T E : Type 0} (r : Result T E) → KillsLeft (program_for script) deepest (start script) → BrokenEntries (program_for script) deepest script →
       Sentinels (program_for script) deepest (start script) → IsOver r (program_for script) o n (start script) →
       OnErr r ((written : List ℕ) × (exchanges : List Exchange) × Appends old.held new.held written × CallsSince state made start_host now exchanges × StoppedScript script exchanges written old new)
   stopped (Ok x) left hear come h = tt

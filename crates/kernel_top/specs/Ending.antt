@@ -47,7 +47,7 @@ IsAtEnd so_far program before now from k p =
     (λ why. Halts program before now from (children (running (drop p k.beside.processes ++ unmade why))))
 
 -- the whole run has ended, or was broken off and no child is left
-abbrev pub IsOver : {T : Type 0} → Result T Stop → Program → (before now : Outside) → (from : Config) → Type 0
+abbrev pub IsOver : {T E : Type 0} → Result T E → Program → (before now : Outside) → (from : Config) → Type 0
 IsOver result program before now from =
     MatchResult result
     (λ x. (last : Config) × (step program deepest last ≡ Ended) × Goes program before now from last)

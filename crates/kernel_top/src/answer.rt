@@ -15,7 +15,7 @@ pub enum Answer {
     Fault(Fault),
 }
 
-/// Why a run was broken off.
+/// Why a run stops.
 #[derive(Clone, Copy, Debug, PartialEq, Eq)]
 pub enum Stop {
     WriteFault,
@@ -41,5 +41,22 @@ impl From<SinkFault> for Stop {
 
     fn from(_: SinkFault) -> Stop {
         Stop::WriteFault
+    }
+}
+
+/// Why a run was broken off, once its children are dealt with.
+#[derive(Clone, Copy, Debug, PartialEq, Eq)]
+pub enum Cause {
+    WriteFault,
+    NoMemory,
+}
+
+impl From<SinkFault> for Cause {
+    ghost use Rattle.kernel_top.specs.declared.answer.Cause.TheVariants as cause;
+
+    ghost from_gives = { λ _ c. c ≡ cause.WriteFault };
+
+    fn from(_: SinkFault) -> Cause {
+        Cause::WriteFault
     }
 }

@@ -19,7 +19,7 @@ ghost use Rattle.kernel_top.specs.Standing.{stands_at, working, Comes, Hosted, S
 ghost use Rattle.kernel_top.specs.Calls.{ComesToReply};
 ghost use Rattle.kernel_top.specs.Outcomes.{RanScript, StoppedScript};
 
-use crate::answer::{Answer, Stop};
+use crate::answer::{Answer, Cause, Stop};
 use crate::apply::{delete_region, goto_char, insert};
 use crate::ending::finish;
 use crate::kernel::Kernel;
@@ -119,7 +119,7 @@ pub fn run_script<K: Sink, H: Host>(
     script: &Script,
     host: &mut H,
     sink: &mut K,
-) -> Result<(), Stop>
+) -> Result<(), Cause>
     requires forms { AreFormsSoFar (script_of script.now).forms }
     requires few { length (H.state host.old).kills ≤ 2 ^ 31 }
     ensures ok { OnOk result ((written : List ℕ) × (exchanges : List Exchange) × Appends (K.state sink.old).held (K.state sink.new).held written
@@ -127,7 +127,7 @@ pub fn run_script<K: Sink, H: Host>(
     ensures err { OnErr result ((written : List ℕ) × (exchanges : List Exchange) × Appends (K.state sink.old).held (K.state sink.new).held written
         × CallsSince H.state H.made host.old host.new exchanges
         × StoppedScript (script_of script.now) exchanges written (K.state sink.old) (K.state sink.new)) }
-    ensures cause { HasCause (K.state sink.old).faults (K.state sink.new).faults (result ≡ Err Stop.WriteFault) }
+    ensures cause { HasCause (K.state sink.old).faults (K.state sink.new).faults (result ≡ Err Cause.WriteFault) }
 {
     machine_laws::kills_are_left();
     machine_laws::whole_runs_hear_all();

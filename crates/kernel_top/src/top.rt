@@ -9,7 +9,7 @@ ghost use Rattle.plain_machine.specs.Exchanges.{Exchange};
 ghost use Rattle.kernel_top.specs.HostCalls.{CallsSince, Tells};
 ghost use Rattle.kernel_top.specs.Outcomes.{IsRun, HasEnded, seen, Outcome};
 
-use crate::answer::Stop;
+use crate::answer::Cause;
 use crate::forms::run_script;
 use crate::status::Status;
 use ek_types::{Sink, Source, Took};
@@ -81,8 +81,8 @@ fn run_bytes<K: Sink, H: Host>(alloc: Global, bytes: &[u8], host: &mut H, sink: 
     match read(alloc, bytes) {
         Ok(script) => match run_script(alloc, &script, host, sink) {
             Ok(()) => Status::Done,
-            Err(Stop::WriteFault) => Status::WriteFault,
-            Err(Stop::NoMemory | Stop::NoProcess(_)) => Status::NoMemory,
+            Err(Cause::WriteFault) => Status::WriteFault,
+            Err(Cause::NoMemory) => Status::NoMemory,
         },
         Err(ScriptFault::Line(line)) => Status::Script(line),
         Err(ScriptFault::NoMemory) => Status::NoMemory,

@@ -4,7 +4,7 @@ use Rattle.kernel_top.proofs.Finishing.{halts_kill}
 use Rattle.kernel_top.proofs.HostCalls.{adds_call}
 use Rattle.kernel_top.proofs.Killing.{one_at_end, ends_whole, ends_broken}
 use Rattle.kernel_top.proofs.Output.{stopped_by}
-use Rattle.kernel_top.specs.declared.answer.Stop.TheVariants as stop
+use Rattle.kernel_top.specs.declared.answer.Cause.TheVariants as cause
 use Rattle.kernel_top.specs.HostCalls.{CallsSince}
 use Rattle.kernel_top.specs.Outside.{outside}
 use Rattle.host_link.specs.Hosts.{kill_answer}
@@ -13,7 +13,7 @@ use Rattle.kernel_top.proofs.ending.leave.Goals as goal
 pub returns-in_err-dump-in-Ok-clause-over : goal.returns-in_err-dump-in-Ok-clause-over
 returns-in_err-dump-in-Ok-clause-over g c = λ program before start from h.
     let (v, all, stands, gone) = rw c.in-Ok.is at h in
-    rw (stopped_by c.from_residual.result stop.WriteFault c.from_residual.ensures)
+    rw (stopped_by c.from_residual.result cause.WriteFault c.from_residual.ensures)
     (ends_broken program (outside before (CallsSince g.H.Host.state g.H.Host.made start start)) from c.args.kernel.now v all stands (CallsSince g.H.Host.state g.H.Host.made start c.args.host.now) (g.K.Sink.state c.args.sink.now) (g.K.Sink.state c.dump.new.sink) c.in_err-dump-in-Ok.field-0.0 gone (c.in_err-dump-in-Ok.ensures.lines program.symbols v all stands))
 
 pub returns-in_err-dump-in-Ok-clause-cause : goal.returns-in_err-dump-in-Ok-clause-cause
