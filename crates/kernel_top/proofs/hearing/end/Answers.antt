@@ -12,7 +12,7 @@ use Rattle.kernel_top.proofs.Journeys.{AddsOne, breaks_here}
 use Rattle.kernel_top.proofs.Entering.{comes_behind, unasked_comes}
 use Rattle.kernel_top.proofs.Output.{stopped_by, breaks_at}
 use Rattle.plain_machine.specs.Exchanges.{AskEnd, Code}
-use Rattle.host_link.specs.Hosts.{Exchanged, ended_answer}
+use Rattle.host_link.specs.Hosts.{ended_answer}
 use Rattle.kernel_top.proofs.Asking.{child_of, still_runs, ended_by_code, ended_by_signal, end_lost}
 use Rattle.kernel_top.proofs.hearing.end.Goals as goal
 

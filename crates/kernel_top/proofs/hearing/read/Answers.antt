@@ -16,7 +16,7 @@ use Rattle.kernel_top.proofs.Entering.{breaks_behind, goes_behind, unasked_break
 use Rattle.kernel_top.proofs.Output.{stopped_by, breaks_at}
 use Rattle.plain_machine.specs.Waits.{is_room}
 use Rattle.plain_machine.specs.Exchanges.{Read}
-use Rattle.host_link.specs.Hosts.{Exchanged, Fits, got_answer}
+use Rattle.host_link.specs.Hosts.{Fits, got_answer}
 use Rattle.kernel_top.proofs.Asking.{child_of, y, heard_bytes, heard_nothing, heard_last, room_of}
 use Rattle.kernel_top.proofs.hearing.read.Goals as goal
 
@@ -131,4 +131,3 @@ returns-in-End-clause-comes g c = λ start program w v target rest u all stands 
     let process = y program k sound u all stands p w v target rest asks false c.requires.asked in
     let to : Undo → List Process → Config = λ v2 all2. working (stands_at c.drain.new.kernel v2 all2) (Wait v target ∷ rest) in
     goes_behind program (outside sink old) _ _ _ _ c.drain.new.kernel to (heard_last program k sound u all stands p w v target rest asks c.requires.asked sink old new c.read.new.into c.in_ok-n.field-0 c.in-End.is x) (unasked_goes program _ _ new _ c.drain.new.kernel to (c.in_ok-drain-in-End.ensures.comes program v target rest u all process.one stands process.found))
-

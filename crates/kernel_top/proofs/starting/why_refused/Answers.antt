@@ -1,10 +1,10 @@
-use Rattle.std.proofs.Common.{◌-◌, take, length, map, drop, sym, ap, ◌∙◌, arith}
+use Rattle.std.proofs.Common.{◌-◌, take, length, map, drop, sym, ap, ◌∙◌}
 use Rattle.text_model.specs.Properties.{bare}
 use Rattle.std.proofs.lemmas.List.{drop-map}
 use Rattle.ek_types.specs.Listing.{items_of}
 use Rattle.ek_call.specs.Meaning.{arg_of}
 use Rattle.kernel_top.specs.Starting.{start_refused}
-use Rattle.kernel_top.proofs.Refusing.{slice_is, three_given, first_is, third_is, same_text}
+use Rattle.kernel_top.proofs.Refusing.{slice_is, first_is, third_is, same_text}
 use Rattle.kernel_top.proofs.starting.why_refused.Goals as goal
 
 pub unreachable-requires : goal.unreachable-requires
