@@ -1,54 +1,111 @@
--- What real children answer: their pipes and their ends.
-use Rattle.std.specs.Prelude.{◌≡◌, ◌≤◌, ℕ, List, length, take, slice_get, ℤ, Bool, Option, Some, None, option_map, if◌then◌else◌}
+-- What real children answer, and what each call did to them.
+use Rattle.std.specs.Prelude.{◌≡◌, ◌≢◌, ◌≤◌, ℕ, List, [], ◌∷◌, ◌++◌, length, slice_get, Bool, Option, Some, None, IsSome, IfSome, if◌then◌else◌}
+use Rattle.std.specs.Option.{option_and_then}
 use Rattle.std.specs.Io.KnownBytes.{Appends, Consumes, Keeps, IsAtEnd}
 use Rattle.std.specs.Process.{child_status, exit_code}
 use Rattle.std.specs.declared.process.child.Child.{Child}
-use Rattle.plain_machine.specs.Exchanges.{Answer}
+use Rattle.std.specs.declared.process.status.ExitStatus.{ExitStatus}
+use Rattle.plain_machine.specs.Exchanges.{Ask, Answer, Spawn, Read, AskEnd, Send, Close, Kill, Started, Refused, Bytes, End, Code, Signal, Sent, Broken, Closed, Killed, Failed}
 use Rattle.ek_types.specs.Io.{next_count}
 use Rattle.host_link.specs.Hosts.{HostState, is_fault}
-use Rattle.host_link.specs.declared.host.Got.{Got}
-use Rattle.host_link.specs.declared.host.Got.TheVariants as got
-use Rattle.host_link.specs.declared.host.Ended.{Ended}
-use Rattle.host_link.specs.declared.host.Ended.TheVariants as ended
 
 -- THE HOST
+-- the children that were started, by number; for each whether it was asked Kill; and how many calls failed
+pub record Children (C : Type 0) : Type 0 where
+  pub children : List C
+  pub kills : List Bool
+  pub faults : ℕ
+
 -- a host of real children tells no exchanges
-abbrev pub untold : (faults : ℕ) → (kills : List Bool) → HostState
-untold faults kills = record { told = None; faults = faults; kills = kills }
+abbrev pub untold : {C : Type 0} → Children C → HostState
+untold h = record { told = None; faults = h.faults; kills = h.kills }
 
 -- the count of faults behind an exchange: each answer that is a fault counts once
 abbrev pub faults_after : (answer : Answer) → ℕ → ℕ
 faults_after answer faults = if is_fault answer then next_count faults else faults
 
--- what there is at a child, if it was started
-abbrev pub of_child : {A B : Type 0} → (A → Option B) → List A → (child : ℕ) → Option B
-of_child what children child = elim (slice_get children child) [ Some c ↦ what c | None ↦ None ]
+-- A CHILD BY ITS NUMBER
+-- a part of a child, if it was started and has that part
+abbrev pub of_child : {C A : Type 0} → (part : C → Option A) → List C → (child : ℕ) → Option A
+of_child part children child = option_and_then part (slice_get children child)
+
+abbrev pub input_of : {P I O E : Type 0} → List (Child P I O E) → (child : ℕ) → Option I
+input_of children child = of_child (λ c. c.stdin) children child
+
+abbrev pub output_of : {P I O E : Type 0} → List (Child P I O E) → (child : ℕ) → Option O
+output_of children child = of_child (λ c. c.stdout) children child
+
+-- how it ended, once it was waited for
+abbrev pub status_of : {P I O E : Type 0} → List (Child P I O E) → (child : ℕ) → Option ExitStatus
+status_of children child = of_child child_status children child
+
+-- WHICH CHILDREN STAY
+-- the child that is asked; a spawn asks none
+abbrev pub asked_child : Ask → Option ℕ
+asked_child (Spawn program args) = None
+asked_child (Read child) = Some child
+asked_child (AskEnd child) = Some child
+asked_child (Send child bytes) = Some child
+asked_child (Close child) = Some child
+asked_child (Kill child) = Some child
+
+-- all children but one are as they were, and there are as many as before
+pub record OthersStay {C : Type 0} (child : ℕ) (old new : List C) : Type 0 where
+  pub others : (other : ℕ) → other ≢ child → slice_get new other ≡ slice_get old other
+  pub count : length new ≡ length old
+
+-- all children are as they were, and there is one more behind them
+abbrev pub AddsChild : {C : Type 0} → (old new : List C) → Type 0
+AddsChild {C} old new = (c : C) × (new ≡ old ++ c ∷ [])
 
 -- READS
--- what a read took from the bytes that are left, where they are known: some to the front of the room, or it is the end
-abbrev pub Gives : (old new : Option (List ℕ)) → (room : List ℕ) → Got → Type 0
-Gives old new room (got.Bytes n) = (1 ≤ n) × (n ≤ length room) × Consumes old new (take n room)
-Gives old new room got.End = Keeps old new × IsAtEnd old
+-- What a read took from the bytes that are left, where they are known: some, no more than there was room for; or none, at
+-- the end and where it failed.
+abbrev pub Gives : (old new : Option (List ℕ)) → (room : ℕ) → Answer → Type 0
+Gives old new room (Bytes bytes) = (1 ≤ length bytes) × (length bytes ≤ room) × Consumes old new bytes
+Gives old new room End = Keeps old new × IsAtEnd old
+Gives old new room Failed = Keeps old new
 Gives old new room _ = ⊥
 
 -- the same of an output that may be none: there the end is answered
-abbrev pub OutputGives : {O : Type 0} → (O → Option (List ℕ)) → (old new : Option O) → (room : List ℕ) → Got → Type 0
-OutputGives left None new room answer = answer ≡ got.End
-OutputGives left (Some old) None room answer = ⊥
+abbrev pub OutputGives : {O : Type 0} → (left : O → Option (List ℕ)) → (old new : Option O) → (room : ℕ) → Answer → Type 0
+OutputGives left None None room End = Unit {0}
 OutputGives left (Some old) (Some new) room answer = Gives (left old) (left new) room answer
+OutputGives left _ _ room _ = ⊥
 
 -- WRITES
 -- all the bytes went into the input, which is there
-abbrev pub InputTakes : {I : Type 0} → (I → Option (List ℕ)) → (old new : Option I) → (bytes : List ℕ) → Type 0
-InputTakes held None new bytes = ⊥
-InputTakes held (Some old) None bytes = ⊥
+abbrev pub InputTakes : {I : Type 0} → (held : I → Option (List ℕ)) → (old new : Option I) → (bytes : List ℕ) → Type 0
 InputTakes held (Some old) (Some new) bytes = Appends (held old) (held new) bytes
+InputTakes held _ _ bytes = ⊥
 
 -- ENDS
--- how a child that was waited for has ended: by its exit code, or by a signal where it has none
-abbrev pub ended_by : (code : Option ℤ) → Ended
-ended_by (Some code) = ended.Code code
-ended_by None = ended.Signal
+-- How a child that was waited for has ended: by its exit code, or by a signal where it has none. Where the wait failed
+-- nothing is said.
+abbrev pub EndsAs : (status : Option ExitStatus) → Answer → Type 0
+EndsAs status Failed = Unit {0}
+EndsAs (Some status) (Code code) = exit_code status ≡ Some code
+EndsAs (Some status) Signal = exit_code status ≡ None
+EndsAs _ _ = ⊥
 
-abbrev pub told_end : {P I O E : Type 0} → Child P I O E → Option Ended
-told_end c = option_map (λ status. ended_by (exit_code status)) (child_status c)
+-- WHAT A CALL DID
+-- What a call did to the child that was asked, by the ask and the answer. `left` are the bytes of an output that are still
+-- to be read, `held` those that an input was given, where they are known. The question how a child has ended closes its
+-- input first.
+abbrev pub Did : {P I O E : Type 0} → (left : O → Option (List ℕ)) → (held : I → Option (List ℕ)) → (old new : List (Child P I O E)) → Ask → (room : ℕ) → Answer → Type 0
+Did left held old new (Spawn program args) room (Started child) = (child ≡ length old) × AddsChild old new
+Did left held old new (Spawn program args) room Refused = new ≡ old
+Did left held old new (Read child) room answer = OutputGives left (output_of old child) (output_of new child) room answer × (input_of new child ≡ input_of old child)
+Did left held old new (AskEnd child) room answer = EndsAs (status_of new child) answer × (input_of new child ≡ None)
+Did left held old new (Send child bytes) room Sent = InputTakes held (input_of old child) (input_of new child) bytes × (output_of new child ≡ output_of old child)
+Did left held old new (Send child bytes) room Broken = output_of new child ≡ output_of old child
+Did left held old new (Close child) room Closed = (input_of new child ≡ None) × (output_of new child ≡ output_of old child)
+Did left held old new (Kill child) room Killed = IsSome (status_of new child)
+Did left held old new (Kill child) room Failed = Unit {0}
+Did left held old new _ room _ = ⊥
+
+-- One call: each answer that is a fault counts once, and no other answer counts; no child changes but the one that is asked.
+pub record IsCallOf {P I O E : Type 0} (left : O → Option (List ℕ)) (held : I → Option (List ℕ)) (old new : Children (Child P I O E)) (ask : Ask) (room : ℕ) (answer : Answer) : Type 0 where
+  pub faults : new.faults ≡ faults_after answer old.faults
+  pub others : IfSome (asked_child ask) (λ child. OthersStay child old.children new.children)
+  pub did : Did left held old.children new.children ask room answer

@@ -2,17 +2,18 @@
 //!
 //! A read waits for the pipe and the question how a child has ended waits for the child, so this host never answers
 //! `Nothing` or `Running`. It tells no exchanges. A child that is killed, or that has ended when it is asked, is reaped.
-ghost use Rattle.std.specs.Prelude.{◌≡◌, ◌≢◌, ◌<◌, ◌-◌, ◌^◌, ℕ, List, [], map, length, None, Some, false, true, vec_len, slice_get, slice_set, string_bytes, IsSome, IsTrue, IfOk, OnOk, OnErr};
+ghost use Rattle.std.specs.Prelude.{◌≡◌, ◌<◌, ◌-◌, ◌^◌, ℕ, List, [], map, length, None, Some, false, true, slice_get, slice_set, string_bytes, IsSome, IsTrue, IfOk, OnOk, OnErr};
 ghost use Rattle.std.specs.Io.KnownBytes.{Keeps};
 ghost use Rattle.std.specs.Process.{child_status, command_program, command_args, command_var, command_dir, clears_env};
 ghost use Rattle.plain_machine.specs.Exchanges.{Spawn, Read, AskEnd, Send, Close, Kill, Closed};
-ghost use Rattle.host_link.specs.Hosts.{Asked, Exchanged, Fits, IsNumbered, after_spawn, spawned_answer, got_answer, ended_answer, send_answer, kill_answer};
-ghost use Rattle.kernel_cli.specs.Answers.{untold, faults_after, of_child, Gives, OutputGives, InputTakes, told_end};
+ghost use Rattle.host_link.specs.Hosts.{Asked, Exchanged, Fits, IsNumbered, after_spawn, is_fault, spawned_answer, got_answer, ended_answer, send_answer, kill_answer};
+ghost use Rattle.kernel_cli.specs.Answers.{untold, IsCallOf, Gives, InputTakes, EndsAs};
 
 use ek_types::Mem;
 use host_link::{Ended, Exchanges, Got, Host, KillAnswer, SendAnswer, Spawned};
 use std::alloc::{AllocError, Global};
 use std::io::{self, Read, Write};
+use std::marker::Model;
 use std::process::{Child, Command, OpenProcess, Processes, Stdio};
 
 /// The children that this process has started, by number, with the count of the calls on them that failed.
@@ -22,14 +23,24 @@ pub struct RealHost<'a, R: Processes> {
     children: Vec<Child<R::Started>>,
     kills: Vec<bool>,
     faults: u64,
-    ghost together: { vec_len kills ≡ vec_len children },
+}
+
+impl<'a, R: Processes> Model for RealHost<'a, R> {
+    ghost use Rattle.std.specs.Prelude.{◌≡◌, vec_len};
+    ghost use Rattle.std.specs.declared.process.child.Child.{Child};
+    ghost use Rattle.kernel_cli.specs.Answers.{Children};
+
+    ghost Value = { Children (Child R.Started R.Started.Stdin R.Started.Stdout R.Started.Stderr) };
+
+    ghost view = { λ h. record { children = h.children.items; kills = h.kills.items; faults = h.faults } };
+
+    ghost invariant = { λ h. vec_len h.kills ≡ vec_len h.children };
 }
 
 impl<'a, R: Processes> RealHost<'a, R> {
     /// A host that has started no child.
     pub fn new(alloc: Global, rt: &'a R) -> RealHost<'a, R>
-        ensures kills { result.kills.items ≡ [] }
-        ensures faults { result.faults ≡ 0 }
+        ensures { result ≡ record { children = []; kills = []; faults = 0 } }
     {
         RealHost {
             rt,
@@ -90,7 +101,10 @@ fn command_of(alloc: Global, program: &str, args: &[String]) -> Result<Command, 
 /// One read of a child's output.
 fn got_from<R: Read>(output: &mut R, room: &mut [u8]) -> io::Result<Got>
     requires { 0 < length room.old }
-    ensures got { IfOk result (λ got. Gives (R.remaining output.old) (R.remaining output.new) room.new got) }
+    ensures got { IfOk result (λ got. Gives (R.remaining output.old) (R.remaining output.new)
+        (length room.old) (got_answer room.new got)) }
+    ensures fits { IfOk result (Fits (length room.new)) }
+    ensures no_fault { IfOk result (λ got. is_fault (got_answer room.new got) ≡ false) }
     ensures err { OnErr result (Keeps (R.remaining output.old) (R.remaining output.new)) }
 {
     match output.read(room)? {
@@ -112,8 +126,10 @@ fn is_sent<W: Write>(input: &mut Option<W>, bytes: &[u8]) -> bool
 
 /// Closes a child's input and waits for its end, which reaps it.
 fn waited_for<P: OpenProcess>(child: &mut Child<P>) -> io::Result<Ended>
-    ensures ended { IfOk result (λ ended. told_end child.new ≡ Some ended) }
+    ensures ended { IfOk result (λ ended. EndsAs (child_status child.new) (ended_answer ended)) }
+    ensures no_fault { IfOk result (λ ended. is_fault (ended_answer ended) ≡ false) }
     ensures reaped { OnOk result (IsSome (child_status child.new)) }
+    ensures closed { child.new.stdin ≡ None }
 {
     match child.wait()?.code() {
         Some(code) => Ok(Ended::Code(code)),
@@ -122,18 +138,19 @@ fn waited_for<P: OpenProcess>(child: &mut Child<P>) -> io::Result<Ended>
 }
 
 impl<'a, R: Processes> Host for RealHost<'a, R> {
-    ghost state = { λ h. untold h.faults h.kills.items };
+    ghost state = { untold };
 
-    // Each answer that is a fault counts once, and no other answer counts.
-    ghost made = { λ old new ask room answer. new.faults ≡ faults_after answer old.faults };
+    ghost made = { IsCallOf R.Started.Stdout.remaining R.Started.Stdin.contents };
 
     /// Want of memory inside the system's own call counts as a refusal.
     fn spawn(&mut self, program: &str, args: &[String]) -> Mem<Spawned>
-        requires { length self.old.kills.items < 2 ^ 32 - 1 }
-        ensures asked { Asked (untold self.old.faults self.old.kills.items) (untold self.new.faults self.new.kills.items)
-            (after_spawn self.old.kills.items) (Spawn program.now (map string_bytes args.now)) spawned_answer result }
-        ensures number { IfOk result (IsNumbered (length self.old.kills.items)) }
-        ensures faults { IfOk result (λ answer. self.new.faults ≡ faults_after (spawned_answer answer) self.old.faults) }
+        requires { length self.old.kills < 2 ^ 32 - 1 }
+        ensures asked { Asked (untold self.old) (untold self.new)
+            (after_spawn self.old.kills) (Spawn program.now (map string_bytes args.now)) spawned_answer result }
+        ensures number { IfOk result (IsNumbered (length self.old.kills)) }
+        ensures made { IfOk result (λ s. IsCallOf R.Started.Stdout.remaining R.Started.Stdin.contents
+            self.old self.new (Spawn program.now (map string_bytes args.now)) 0 (spawned_answer s)) }
+        ensures unchanged { OnErr result (self.new ≡ self.old) }
     {
         let mut command = command_of(self.alloc, program, args)?;
         self.children.reserve(1)?;
@@ -153,15 +170,15 @@ impl<'a, R: Processes> Host for RealHost<'a, R> {
     }
 
     fn read(&mut self, child: u32, into: &mut [u8]) -> Mem<Got>
-        requires there { child < length self.old.kills.items }
+        requires there { child < length self.old.kills }
         requires room { 0 < length into.old }
-        ensures asked { Asked (untold self.old.faults self.old.kills.items) (untold self.new.faults self.new.kills.items)
-            (λ _. self.old.kills.items) (Read child) (got_answer into.new) result }
+        ensures asked { Asked (untold self.old) (untold self.new)
+            (λ _. self.old.kills) (Read child) (got_answer into.new) result }
         ensures fits { IfOk result (Fits (length into.new)) }
         ensures room_kept { OnErr result (into.new ≡ into.old) }
-        ensures faults { IfOk result (λ got. self.new.faults ≡ faults_after (got_answer into.new got) self.old.faults) }
-        ensures got { IfOk result (λ got. got ≢ Got.Failed → OutputGives R.Started.Stdout.remaining
-            (of_child (λ c. c.stdout) self.old.children.items child) (of_child (λ c. c.stdout) self.new.children.items child) into.new got) }
+        ensures made { IfOk result (λ got. IsCallOf R.Started.Stdout.remaining R.Started.Stdin.contents
+            self.old self.new (Read child) (length into.old) (got_answer into.new got)) }
+        ensures unchanged { OnErr result (self.new ≡ self.old) }
     {
         let Some(stdout) = &mut self.children[child as usize].stdout else {
             return Ok(Got::End);
@@ -176,11 +193,12 @@ impl<'a, R: Processes> Host for RealHost<'a, R> {
     }
 
     fn end(&mut self, child: u32) -> Mem<Ended>
-        requires { child < length self.old.kills.items }
-        ensures asked { Asked (untold self.old.faults self.old.kills.items) (untold self.new.faults self.new.kills.items)
-            (λ _. self.old.kills.items) (AskEnd child) ended_answer result }
-        ensures faults { IfOk result (λ ended. self.new.faults ≡ faults_after (ended_answer ended) self.old.faults) }
-        ensures ended { IfOk result (λ ended. ended ≢ Ended.Failed → of_child told_end self.new.children.items child ≡ Some ended) }
+        requires { child < length self.old.kills }
+        ensures asked { Asked (untold self.old) (untold self.new)
+            (λ _. self.old.kills) (AskEnd child) ended_answer result }
+        ensures made { IfOk result (λ ended. IsCallOf R.Started.Stdout.remaining R.Started.Stdin.contents
+            self.old self.new (AskEnd child) 0 (ended_answer ended)) }
+        ensures unchanged { OnErr result (self.new ≡ self.old) }
     {
         match waited_for(&mut self.children[child as usize]) {
             Ok(ended) => Ok(ended),
@@ -192,12 +210,12 @@ impl<'a, R: Processes> Host for RealHost<'a, R> {
     }
 
     fn send(&mut self, child: u32, bytes: &[u8]) -> Mem<SendAnswer>
-        requires { child < length self.old.kills.items }
-        ensures asked { Asked (untold self.old.faults self.old.kills.items) (untold self.new.faults self.new.kills.items)
-            (λ _. self.old.kills.items) (Send child bytes.now) send_answer result }
-        ensures faults { IfOk result (λ answer. self.new.faults ≡ faults_after (send_answer answer) self.old.faults) }
-        ensures sent { IfOk result (λ answer. answer ≡ SendAnswer.Sent → InputTakes R.Started.Stdin.contents
-            (of_child (λ c. c.stdin) self.old.children.items child) (of_child (λ c. c.stdin) self.new.children.items child) bytes.now) }
+        requires { child < length self.old.kills }
+        ensures asked { Asked (untold self.old) (untold self.new)
+            (λ _. self.old.kills) (Send child bytes.now) send_answer result }
+        ensures made { IfOk result (λ sent. IsCallOf R.Started.Stdout.remaining R.Started.Stdin.contents
+            self.old self.new (Send child bytes.now) 0 (send_answer sent)) }
+        ensures unchanged { OnErr result (self.new ≡ self.old) }
     {
         if is_sent(&mut self.children[child as usize].stdin, bytes) {
             Ok(SendAnswer::Sent)
@@ -208,11 +226,12 @@ impl<'a, R: Processes> Host for RealHost<'a, R> {
     }
 
     fn close(&mut self, child: u32) -> Mem<()>
-        requires { child < length self.old.kills.items }
-        ensures asked { Asked (untold self.old.faults self.old.kills.items) (untold self.new.faults self.new.kills.items)
-            (λ _. self.old.kills.items) (Close child) (λ _. Closed) result }
-        ensures faults { OnOk result (self.new.faults ≡ faults_after Closed self.old.faults) }
-        ensures closed { OnOk result (of_child (λ c. c.stdin) self.new.children.items child ≡ None) }
+        requires { child < length self.old.kills }
+        ensures asked { Asked (untold self.old) (untold self.new)
+            (λ _. self.old.kills) (Close child) (λ _. Closed) result }
+        ensures made { OnOk result (IsCallOf R.Started.Stdout.remaining R.Started.Stdin.contents
+            self.old self.new (Close child) 0 Closed) }
+        ensures unchanged { OnErr result (self.new ≡ self.old) }
     {
         self.children[child as usize].stdin = None;
         Ok(())
@@ -224,11 +243,11 @@ impl<'a, R: Processes> Host for RealHost<'a, R> {
 
     /// Kills the child and reaps it.
     fn kill(&mut self, child: u32) -> KillAnswer
-        requires { slice_get self.old.kills.items child ≡ Some false }
-        ensures asked { Exchanged (untold self.old.faults self.old.kills.items) (untold self.new.faults self.new.kills.items)
-            (slice_set self.old.kills.items child true) (Kill child) (kill_answer result) }
-        ensures faults { self.new.faults ≡ faults_after (kill_answer result) self.old.faults }
-        ensures reaped { result ≡ KillAnswer.Killed → IsSome (of_child child_status self.new.children.items child) }
+        requires { slice_get self.old.kills child ≡ Some false }
+        ensures asked { Exchanged (untold self.old) (untold self.new)
+            (slice_set self.old.kills child true) (Kill child) (kill_answer result) }
+        ensures made { IsCallOf R.Started.Stdout.remaining R.Started.Stdin.contents
+            self.old self.new (Kill child) 0 (kill_answer result) }
     {
         self.kills[child as usize] = true;
         match kill_and_reap(&mut self.children[child as usize]) {
