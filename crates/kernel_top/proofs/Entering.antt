@@ -154,6 +154,7 @@ unasked_breaks program old new past x k why h = record {
     between = h.breaks.between;
     bytes = h.breaks.bytes;
     front = h.breaks.front;
+    cut = h.breaks.cut;
     written = h.breaks.written;
     adds = rw (h.breaks.adds [] refl) (adds_nothing past);
     later = h.breaks.later;

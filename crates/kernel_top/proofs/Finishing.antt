@@ -119,6 +119,7 @@ halts_kill program before sink old new from c left r x h = record {
   between = h.between;
   bytes = h.bytes;
   front = h.front;
+  cut = h.cut;
   written = h.written;
   adds = rw (append_assoc h.made h.kills (record { ask = Kill c; answer = told_kill r } ∷ [])) at (adds_then before.past old new (h.made ++ h.kills) (record { ask = Kill c; answer = told_kill r } ∷ []) h.adds x);
   later = h.later;
@@ -145,6 +146,7 @@ halts_of program before now from left b e = record {
   between = b.between;
   bytes = b.bytes;
   front = b.front;
+  cut = b.cut;
   written = b.written;
   adds = rw append-nil b.adds;
   later = b.later;

@@ -1,5 +1,6 @@
 -- How what a run does to the outside is put together of its steps.
-use Rattle.std.proofs.Common.{◌≡◌, ◌+◌, List, [], ◌∷◌, ◌++◌, length, Ok, Err, Some, sym, ap, ◌∙◌, append-nil, append_assoc, refl, arith, length-append, subst}
+use Rattle.std.proofs.Common.{◌≡◌, ℕ, ◌+◌, List, [], ◌∷◌, ◌++◌, length, Ok, Err, Some, sym, ap, ◌∙◌, append-nil, append_assoc, refl, arith, length-append, subst, inl, inr}
+use Rattle.std.specs.Prelude.{◌⊎◌}
 use Rattle.std.specs.declared.option.Option.{Option}
 use Rattle.std.proofs.KnownBytes.{Appends-nil, Appends-trans}
 use Rattle.std.proofs.lemmas.Bool.{false≢true}
@@ -12,7 +13,7 @@ use Rattle.plain_machine.specs.Run.{Reaches, stays, goes, asks, lines}
 use Rattle.plain_machine.specs.WholeRuns.{IsBetweenEntries}
 use Rattle.plain_machine.proofs.Composed.{reaches_then}
 use Rattle.ek_types.specs.Io.{SinkState, Writes}
-use Rattle.kernel_top.specs.Outside.{deepest, Past, Outside, outside, Adds, Goes, Breaks}
+use Rattle.kernel_top.specs.Outside.{deepest, Past, Outside, outside, Adds, Goes, Breaks, IsStep, IsCut}
 
 -- LINES
 pub lines_then : (first second : List Said) → lines (first ++ second) ≡ lines first ++ lines second
@@ -73,11 +74,50 @@ module _ (program : Program) where
     between = between;
     bytes = [];
     front = ([], refl);
+    cut = inl refl;
     written = Appends-nil o.sink.held;
     adds = adds_nothing o.past;
     later = omega arith;
     whole = λ fine. refl;
     roomy = λ few. refl;
+  }
+
+  -- a line that was cut behind steps that were done
+  pub cut_behind : (a b : Outside) (x y last : Config) (made : List Exchange) (said : List Said) (bytes : List ℕ) (g : Goes program a b x y) → (bytes ≡ lines said) ⊎ IsCut program y made said last bytes →
+      (lines g.said ++ bytes ≡ lines (g.said ++ said)) ⊎ IsCut program x (g.made ++ made) (g.said ++ said) last (lines g.said ++ bytes)
+  cut_behind a b x y last made said bytes g (inl e) = inl (ap (λ l. lines g.said ++ l) e ∙ sym (lines_then g.said said))
+  cut_behind a b x y last made said bytes g (inr k) = inr (record {
+    asked = g.made ++ k.asked;
+    whole = g.said ++ k.whole;
+    there = k.there;
+    run = reaches_then program deepest x y k.there g.made k.asked g.said k.whole g.run k.run;
+    more = k.more;
+    line = k.line;
+    next = k.next;
+    steps = k.steps;
+    says = k.says;
+    comes = k.comes;
+    made_are = ap (λ l. g.made ++ l) k.made_are ∙ sym (append_assoc g.made k.asked k.more);
+    said_are = ap (λ l. g.said ++ l) k.said_are ∙ sym (append_assoc g.said k.whole (k.line ∷ []));
+    written = (k.written.0, ap (λ l. l ++ k.written.0) (lines_then g.said k.whole) ∙ append_assoc (lines g.said) (lines k.whole) k.written.0 ∙ ap (λ l. lines g.said ++ l) k.written.1);
+  })
+
+  -- a line that was cut where the run began
+  pub cut_here : (c : Config) (made : List Exchange) (n : Next) (x : Said) (bytes : List ℕ) → IsStep program c made n → n.said ≡ x ∷ [] → IsCut program c made (x ∷ []) n.config bytes
+  cut_here c made n x bytes s said = record {
+    asked = [];
+    whole = [];
+    there = c;
+    run = stays;
+    more = made;
+    line = x;
+    next = n;
+    steps = s;
+    says = said;
+    comes = refl;
+    made_are = refl;
+    said_are = refl;
+    written = (bytes, refl);
   }
 
   abbrev pub goes_breaks : (a b c : Outside) (x y : Config) → Goes program a b x y → Breaks program b c y → Breaks program a c x
@@ -89,6 +129,7 @@ module _ (program : Program) where
     between = h.between;
     bytes = lines g.said ++ h.bytes;
     front = (h.front.0, append_assoc (lines g.said) h.bytes h.front.0 ∙ ap (λ l. lines g.said ++ l) h.front.1 ∙ sym (lines_then g.said h.said));
+    cut = cut_behind a b x y h.last h.made h.said h.bytes g h.cut;
     written = Appends-trans a.sink.held b.sink.held c.sink.held (lines g.said) h.bytes g.written h.written;
     adds = adds_then a.past b.past c.past g.made h.made g.adds h.adds;
     later = omega (arith, g.later, h.later);
@@ -132,6 +173,7 @@ module _ (program : Program) where
     between = between;
     bytes = w.err.0;
     front = (w.err.1.0, sym w.err.1.1 ∙ sym (lines_of_one x));
+    cut = inr (cut_here c [] n x w.err.0 e said);
     written = w.err.2;
     adds = adds_nothing past;
     later = w.later;
@@ -189,6 +231,7 @@ module _ (program : Program) where
     between = between;
     bytes = w.err.0;
     front = (w.err.1.0, sym w.err.1.1 ∙ sym (lines_of_one x));
+    cut = inr (cut_here c (record { ask = ask; answer = answer } ∷ []) n x w.err.0 (next, e, k) said);
     written = w.err.2;
     adds = exchange;
     later = w.later;

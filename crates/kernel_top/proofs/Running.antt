@@ -83,6 +83,7 @@ module _ (script : Script) {H : Type 0} (state : H → HostState) (made : H → 
           broken = broken;
           answered = h.answered;
           whole = h.whole;
+          cut = h.cut;
           entries = hear (h.made ++ h.kills) h.bytes broken;
           sentinels = sentinels_last come h.made h.said h.last h.run;
           roomy = h.roomy;

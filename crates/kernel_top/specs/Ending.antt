@@ -11,7 +11,7 @@ use Rattle.plain_machine.specs.WholeRuns.{IsBetweenEntries, IsPrefixOf, AreKills
 use Rattle.machine_laws.specs.Children.{to_kill}
 use Rattle.ek_types.specs.Io.{Rose}
 use Rattle.kernel_top.specs.Plain.{Kernel}
-use Rattle.kernel_top.specs.Outside.{deepest, Outside, Adds, Goes}
+use Rattle.kernel_top.specs.Outside.{deepest, Outside, Adds, Goes, IsCut}
 use Rattle.kernel_top.specs.Standing.{stands_at, working, GoesTo, unmade, running, children}
 use Rattle.kernel_top.specs.declared.answer.Stop.{Stop}
 
@@ -29,6 +29,7 @@ pub record Halts (program : Program) (before now : Outside) (from : Config) (lef
   pub between : IsBetweenEntries last
   pub bytes : List ℕ
   pub front : IsPrefixOf bytes (lines said)
+  pub cut : (bytes ≡ lines said) ⊎ IsCut program from made said last bytes
   pub written : Appends before.sink.held now.sink.held bytes
   pub adds : Adds before.past now.past (made ++ kills)
   pub later : before.sink.faults ≤ now.sink.faults

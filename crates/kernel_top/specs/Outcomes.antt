@@ -7,12 +7,12 @@ use Rattle.plain_machine.specs.State.{Program}
 use Rattle.plain_machine.specs.Items.{Said}
 use Rattle.plain_machine.specs.Symbols.{program_of}
 use Rattle.plain_machine.specs.Grammar.{longest_script}
-use Rattle.plain_machine.specs.Run.{lines}
+use Rattle.plain_machine.specs.Run.{lines, start}
 use Rattle.plain_machine.specs.WholeRuns.{Ran, BrokenOff}
 use Rattle.machine_laws.specs.Entries.{entered, heard, is_entry, has_entry}
 use Rattle.ek_types.specs.Io.{SinkState, Rose}
 use Rattle.host_link.specs.Hosts.{HostState}
-use Rattle.kernel_top.specs.Outside.{deepest}
+use Rattle.kernel_top.specs.Outside.{deepest, IsCut}
 use Rattle.kernel_top.specs.Ending.{IsAnsweredKill}
 use Rattle.script_read.specs.GrammarSoFar.{IsScriptSoFar, IsNoScript}
 use Rattle.kernel_top.specs.declared.status.Status.{Status}
@@ -44,11 +44,13 @@ pub record RanScript (script : Script) (exchanges : List Exchange) (written : Li
   pub roomy : length written ≤ before.room → now.faults ≡ before.faults
 
 -- A run that was broken off. Where the sink didn't fail, what it wrote is whole lines: with all entries, for it isn't broken
--- off between a read and the entry that this causes. The sink hasn't failed where it had room for all that was said.
+-- off between a read and the entry that this causes. Else it stopped at the line that was cut, and nothing was asked behind
+-- that but the kills. The sink hasn't failed where it had room for all that was said.
 pub record StoppedScript (script : Script) (exchanges : List Exchange) (written : List ℕ) (before now : SinkState) : Type 0 where
   pub broken : BrokenOff (program_for script) deepest script exchanges written
   pub answered : All IsAnsweredKill broken.kills
   pub whole : (Rose before.faults now.faults → ⊥) → written ≡ lines broken.said
+  pub cut : (written ≡ lines broken.said) ⊎ IsCut (program_for script) (start script) broken.made broken.said broken.last written
   pub entries : AreHeard broken.made broken.said
   pub sentinels : SentinelsComeLast broken.said
   pub roomy : length (lines broken.said) ≤ before.room → now.faults ≡ before.faults

@@ -1,10 +1,11 @@
 -- What a run does to the outside while the machine goes on: the sink has just what it says, and the host was asked just
 -- what it asks.
-use Rattle.std.specs.Prelude.{◌≡◌, ℕ, ◌+◌, ◌≤◌, List, [], ◌++◌, length}
+use Rattle.std.specs.Prelude.{◌≡◌, ℕ, ◌+◌, ◌≤◌, ◌⊎◌, List, [], ◌∷◌, ◌++◌, length, Option, Some}
 use Rattle.std.specs.Io.KnownBytes.{Appends}
-use Rattle.plain_machine.specs.Exchanges.{Exchange}
+use Rattle.plain_machine.specs.Exchanges.{Exchange, Answer}
 use Rattle.plain_machine.specs.State.{Program}
-use Rattle.plain_machine.specs.Items.{Said, Config}
+use Rattle.plain_machine.specs.Items.{Said, Config, Next, Goes as Steps, Asks}
+use Rattle.plain_machine.specs.Step.{step}
 use Rattle.plain_machine.specs.Run.{Reaches, lines}
 use Rattle.plain_machine.specs.WholeRuns.{IsBetweenEntries, IsPrefixOf}
 use Rattle.ek_types.specs.Io.{SinkState, Rose}
@@ -51,8 +52,30 @@ pub record Goes (program : Program) (old new : Outside) (from to : Config) : Typ
   pub later : old.sink.faults ≤ new.sink.faults
   pub roomy : length (lines said) ≤ old.sink.room → HasRoomLeft old.sink new.sink (lines said)
 
--- the run is broken off: the machine went somewhere, and a front of what it said is written, all of it where the
--- sink didn't fail; and it didn't where there is room for all of it
+-- one step of the machine: it asks nothing, or makes the one exchange
+abbrev pub IsStep : Program → Config → List Exchange → Next → Type 0
+IsStep program c [] n = step program deepest c ≡ Steps n
+IsStep program c (x ∷ []) n = (next : Answer → Option Next) × (step program deepest c ≡ Asks x.ask next) × (next x.answer ≡ Some n)
+IsStep program c _ n = ⊥
+
+-- The line that was cut is what the last step said: nothing was asked behind it. The lines before it are written.
+pub record IsCut (program : Program) (from : Config) (made : List Exchange) (said : List Said) (last : Config) (bytes : List ℕ) : Type 0 where
+  pub asked : List Exchange
+  pub whole : List Said
+  pub there : Config
+  pub run : Reaches program deepest from asked whole there
+  pub more : List Exchange
+  pub line : Said
+  pub next : Next
+  pub steps : IsStep program there more next
+  pub says : next.said ≡ line ∷ []
+  pub comes : next.config ≡ last
+  pub made_are : made ≡ asked ++ more
+  pub said_are : said ≡ whole ++ line ∷ []
+  pub written : IsPrefixOf (lines whole) bytes
+
+-- The run is broken off: the machine went somewhere, and what it said is written, or all but a line that was cut, where the
+-- run stopped. The sink didn't fail where there is room for all that was said.
 pub record Breaks (program : Program) (old new : Outside) (from : Config) : Type 0 where
   pub made : List Exchange
   pub said : List Said
@@ -61,6 +84,7 @@ pub record Breaks (program : Program) (old new : Outside) (from : Config) : Type
   pub between : IsBetweenEntries last
   pub bytes : List ℕ
   pub front : IsPrefixOf bytes (lines said)
+  pub cut : (bytes ≡ lines said) ⊎ IsCut program from made said last bytes
   pub written : Appends old.sink.held new.sink.held bytes
   pub adds : Adds old.past new.past made
   pub later : old.sink.faults ≤ new.sink.faults
