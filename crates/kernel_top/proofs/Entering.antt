@@ -24,6 +24,7 @@ use Rattle.kernel_top.specs.Standing.{stands_at, inside, working, Comes, GoesTo,
 use Rattle.kernel_top.specs.Hearing.{filter_entry}
 use Rattle.kernel_top.specs.declared.answer.Stop.{Stop}
 use Rattle.kernel_top.specs.declared.answer.Stop.TheVariants as stop
+use Rattle.kernel_top.specs.declared.answer.EarlyEnd.TheVariants as early
 use Rattle.kernel_top.proofs.Journeys.{adds_nothing, goes_silently, goes_then, breaks_here, goes_breaks, says, says_front}
 use Rattle.kernel_top.proofs.Keeping.{only_processes}
 use Rattle.kernel_top.proofs.Output.{breaks_at}
@@ -70,7 +71,7 @@ module _ (program : Program) (past : Past) (k : Kernel) (u : Undo) (all : List P
     entry_breaks old new fault w =
         let at : Config = (enter program s kind None args behind).config in
         let between : IsBetweenEntries at = subst IsBetweenEntries (sym is) within.between in
-        let b : Breaks program (outside old past) (outside new past) entry = says_front program old new past entry (enter program s kind None args behind) _ fault refl refl between w in
+        let b : Breaks early.WriteFault program (outside old past) (outside new past) entry = says_front program old new past entry (enter program s kind None args behind) _ fault refl refl between w in
         breaks_at program (outside old past) (outside new past) entry k stop.WriteFault all b stands refl (subst IsBeforeTheEnd (sym is) within.before_end) (ap (λ (c : Config). c.state.processes) is ∙ within.processes)
 
     -- broken off behind the entry
@@ -154,11 +155,10 @@ unasked_breaks program old new past x k why h = record {
     between = h.breaks.between;
     bytes = h.breaks.bytes;
     front = h.breaks.front;
-    cut = h.breaks.cut;
+    came = h.breaks.came;
     written = h.breaks.written;
     adds = rw (h.breaks.adds [] refl) (adds_nothing past);
     later = h.breaks.later;
-    whole = h.breaks.whole;
     roomy = h.breaks.roomy;
   };
   before_end = h.before_end;

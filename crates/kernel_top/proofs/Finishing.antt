@@ -30,6 +30,7 @@ use Rattle.kernel_top.specs.Plain.{Kernel}
 use Rattle.kernel_top.specs.Outside.{deepest, Past, Outside, outside, Breaks}
 use Rattle.kernel_top.specs.Standing.{stands_at, working, Hosted, children, running}
 use Rattle.kernel_top.specs.Ending.{IsAnsweredKill, Halts}
+use Rattle.kernel_top.specs.declared.answer.EarlyEnd.{EarlyEnd}
 use Rattle.kernel_top.proofs.Journeys.{AddsOne, adds_then}
 use Rattle.kernel_top.proofs.Output.{Stood, stood, running_alike}
 
@@ -109,7 +110,7 @@ answered_so : (r : KillAnswer) → (told_kill r ≡ Killed) ⊎ (told_kill r ≡
 answered_so killed.Killed = inl refl
 answered_so killed.Failed = inr refl
 
-pub halts_kill : (program : Program) (before : Outside) (sink : SinkState) (old new : Past) (from : Config) (c : ℕ) (left : List ℕ) (r : KillAnswer) → AddsOne old new (Kill c) (told_kill r) → Halts program before (outside sink old) from (c ∷ left) → Halts program before (outside sink new) from left
+pub halts_kill : {early : EarlyEnd} (program : Program) (before : Outside) (sink : SinkState) (old new : Past) (from : Config) (c : ℕ) (left : List ℕ) (r : KillAnswer) → AddsOne old new (Kill c) (told_kill r) → Halts early program before (outside sink old) from (c ∷ left) → Halts early program before (outside sink new) from left
 halts_kill program before sink old new from c left r x h = record {
   made = h.made;
   kills = h.kills ++ record { ask = Kill c; answer = told_kill r } ∷ [];
@@ -119,11 +120,10 @@ halts_kill program before sink old new from c left r x h = record {
   between = h.between;
   bytes = h.bytes;
   front = h.front;
-  cut = h.cut;
+  came = h.came;
   written = h.written;
   adds = rw (append_assoc h.made h.kills (record { ask = Kill c; answer = told_kill r } ∷ [])) at (adds_then before.past old new (h.made ++ h.kills) (record { ask = Kill c; answer = told_kill r } ∷ []) h.adds x);
   later = h.later;
-  whole = h.whole;
   roomy = h.roomy;
   done = h.done ++ c ∷ [];
   killed = more_kills h.done h.kills c (told_kill r) h.killed;
@@ -131,11 +131,11 @@ halts_kill program before sink old new from c left r x h = record {
   living = h.living ∙ sym (append_assoc h.done (c ∷ []) left);
 }
 
-pub halts_as : (program : Program) (before now : Outside) (from : Config) (left more : List ℕ) → left ≡ more → Halts program before now from left → Halts program before now from more
-halts_as program before now from left more e h = subst (Halts program before now from) e h
+pub halts_as : {early : EarlyEnd} (program : Program) (before now : Outside) (from : Config) (left more : List ℕ) → left ≡ more → Halts early program before now from left → Halts early program before now from more
+halts_as {early = early} program before now from left more e h = subst (Halts early program before now from) e h
 
 -- broken off, with no kill made yet
-pub halts_of : (program : Program) (before now : Outside) (from : Config) (left : List ℕ) (b : Breaks program before now from) → to_kill b.last ≡ left → Halts program before now from left
+pub halts_of : {early : EarlyEnd} (program : Program) (before now : Outside) (from : Config) (left : List ℕ) (b : Breaks early program before now from) → to_kill b.last ≡ left → Halts early program before now from left
 halts_of program before now from left b e = record {
   made = b.made;
   kills = [];
@@ -146,11 +146,10 @@ halts_of program before now from left b e = record {
   between = b.between;
   bytes = b.bytes;
   front = b.front;
-  cut = b.cut;
+  came = b.came;
   written = b.written;
   adds = rw append-nil b.adds;
   later = b.later;
-  whole = b.whole;
   roomy = b.roomy;
   done = [];
   killed = tt;

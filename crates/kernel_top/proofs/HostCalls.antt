@@ -1,13 +1,13 @@
 -- Calls of a host, one after another.
-use Rattle.std.proofs.Common.{◌≡◌, ℕ, Bool, List, [], ◌∷◌, ◌++◌, Some, None, refl, sym, ap, ◌∙◌, subst, append-nil, append_assoc, option_map}
+use Rattle.std.proofs.Common.{◌≡◌, ℕ, Bool, List, [], ◌∷◌, ◌++◌, length, Some, None, refl, sym, ap, ◌∙◌, subst, append-nil, append_assoc, option_map}
 use Rattle.std.specs.declared.option.Option.{Option}
 use Rattle.plain_machine.specs.Exchanges.{Ask, Answer, Exchange, Spawn, Read}
-use Rattle.host_link.specs.Hosts.{HostState, Exchanged, after_spawn, spawned_answer, got_answer}
+use Rattle.host_link.specs.Hosts.{HostState, Exchanged, IsNumbered, after_spawn, spawned_answer, got_answer}
 use Rattle.host_link.specs.declared.host.Spawned.{Spawned}
 use Rattle.host_link.specs.declared.host.Spawned.TheVariants as spawned
 use Rattle.host_link.specs.declared.host.Got.{Got}
 use Rattle.kernel_top.specs.Outside.{Adds}
-use Rattle.kernel_top.specs.HostCalls.{room_of, kills_after, IsCall, CallsSince, Tells}
+use Rattle.kernel_top.specs.HostCalls.{room_of, kills_after, IsNextChild, IsHostCall, CallsSince, Tells}
 use Rattle.kernel_top.proofs.Journeys.{AddsOne}
 
 -- WHAT A HOST TELLS
@@ -27,29 +27,33 @@ module _ {H : Type 0} (state : H → HostState) (made : H → H → Ask → ℕ 
       tells_then (state start).told (state next).told (state now).told (x ∷ []) exchanges call.exchanged.told (calls_told next now exchanges rest)
 
   -- one call more
-  calls_more : (start old new : H) (x : Exchange) → IsCall state made old new x → (exchanges : List Exchange) → CallsSince state made start old exchanges → CallsSince state made start new (exchanges ++ x ∷ [])
-  calls_more start old new x call [] h = (new, subst (λ s. IsCall state made s new x) h call, refl)
+  calls_more : (start old new : H) (x : Exchange) → IsHostCall state made old new x → (exchanges : List Exchange) → CallsSince state made start old exchanges → CallsSince state made start new (exchanges ++ x ∷ [])
+  calls_more start old new x call [] h = (new, subst (λ s. IsHostCall state made s new x) h call, refl)
   calls_more start old new x call (y ∷ exchanges) (next, first, rest) = (next, first, calls_more next old new x call exchanges rest)
 
-  pub adds_call : (start old new : H) (children : List Bool) (ask : Ask) (answer : Answer) → children ≡ kills_after ask answer (state old).kills → Exchanged (state old) (state new) children ask answer → made old new ask (room_of ask) answer →
+  pub adds_call : (start old new : H) (children : List Bool) (ask : Ask) (answer : Answer) → children ≡ kills_after ask answer (state old).kills → IsNextChild ask answer (length (state old).kills) → Exchanged (state old) (state new) children ask answer → made old new ask (room_of ask) answer →
       AddsOne (CallsSince state made start old) (CallsSince state made start new) ask answer
-  adds_call start old new children ask answer kids exchanged said =
-      calls_more start old new (record { ask = ask; answer = answer }) (record { own = said; exchanged = subst (λ l. Exchanged (state old) (state new) l ask answer) kids exchanged })
+  adds_call start old new children ask answer kids number exchanged said =
+      calls_more start old new (record { ask = ask; answer = answer }) (record { own = said; number = number; exchanged = subst (λ l. Exchanged (state old) (state new) l ask answer) kids exchanged })
 
-  pub adds_spawn : (start old new : H) (program : List ℕ) (args : List (List ℕ)) (s : Spawned) → Exchanged (state old) (state new) (after_spawn (state old).kills s) (Spawn program args) (spawned_answer s) → made old new (Spawn program args) 0 (spawned_answer s) →
+  pub adds_spawn : (start old new : H) (program : List ℕ) (args : List (List ℕ)) (s : Spawned) → IsNumbered (length (state old).kills) s → Exchanged (state old) (state new) (after_spawn (state old).kills s) (Spawn program args) (spawned_answer s) → made old new (Spawn program args) 0 (spawned_answer s) →
       AddsOne (CallsSince state made start old) (CallsSince state made start new) (Spawn program args) (spawned_answer s)
-  adds_spawn start old new program args s exchanged said =
-      adds_call start old new (after_spawn (state old).kills s) (Spawn program args) (spawned_answer s) (by s) exchanged said
+  adds_spawn start old new program args s numbered exchanged said =
+      adds_call start old new (after_spawn (state old).kills s) (Spawn program args) (spawned_answer s) (by s) (next s numbered) exchanged said
     where
       by : (s : Spawned) → after_spawn (state old).kills s ≡ kills_after (Spawn program args) (spawned_answer s) (state old).kills
       by (spawned.Started child) = refl
       by spawned.Refused = refl
 
+      next : (s : Spawned) → IsNumbered (length (state old).kills) s → IsNextChild (Spawn program args) (spawned_answer s) (length (state old).kills)
+      next (spawned.Started child) h = h
+      next spawned.Refused h = tt
+
   -- a read into a room of its size
   pub adds_read : (start old new : H) (child room : ℕ) (into : List ℕ) (got : Got) → room ≡ 4096 → Exchanged (state old) (state new) (state old).kills (Read child) (got_answer into got) →
       made old new (Read child) room (got_answer into got) → AddsOne (CallsSince state made start old) (CallsSince state made start new) (Read child) (got_answer into got)
   adds_read start old new child room into got size exchanged said =
-      adds_call start old new (state old).kills (Read child) (got_answer into got) refl exchanged (subst (λ n. made old new (Read child) n (got_answer into got)) size said)
+      adds_call start old new (state old).kills (Read child) (got_answer into got) refl tt exchanged (subst (λ n. made old new (Read child) n (got_answer into got)) size said)
 
   -- the calls of a run are those since its start
   pub all_calls : (start now : H) (made_since : List Exchange) → Adds (CallsSince state made start start) (CallsSince state made start now) made_since → CallsSince state made start now made_since

@@ -1,6 +1,5 @@
 -- How what a run does to the outside is put together of its steps.
-use Rattle.std.proofs.Common.{◌≡◌, ℕ, ◌+◌, List, [], ◌∷◌, ◌++◌, length, Ok, Err, Some, sym, ap, ◌∙◌, append-nil, append_assoc, refl, arith, length-append, subst, inl, inr}
-use Rattle.std.specs.Prelude.{◌⊎◌}
+use Rattle.std.proofs.Common.{◌≡◌, ℕ, ◌+◌, List, [], ◌∷◌, ◌++◌, length, Ok, Err, Some, sym, ap, ◌∙◌, append-nil, append_assoc, refl, arith, length-append, subst}
 use Rattle.std.specs.declared.option.Option.{Option}
 use Rattle.std.proofs.KnownBytes.{Appends-nil, Appends-trans}
 use Rattle.std.proofs.lemmas.Bool.{false≢true}
@@ -13,7 +12,9 @@ use Rattle.plain_machine.specs.Run.{Reaches, stays, goes, asks, lines}
 use Rattle.plain_machine.specs.WholeRuns.{IsBetweenEntries}
 use Rattle.plain_machine.proofs.Composed.{reaches_then}
 use Rattle.ek_types.specs.Io.{SinkState, Writes}
-use Rattle.kernel_top.specs.Outside.{deepest, Past, Outside, outside, Adds, Goes, Breaks, IsStep, IsCut}
+use Rattle.kernel_top.specs.Outside.{deepest, Past, Outside, outside, Adds, Goes, Breaks, IsStep, StopsAtLine, CameTo}
+use Rattle.kernel_top.specs.declared.answer.EarlyEnd.{EarlyEnd}
+use Rattle.kernel_top.specs.declared.answer.EarlyEnd.TheVariants as early
 
 -- LINES
 pub lines_then : (first second : List Said) → lines (first ++ second) ≡ lines first ++ lines second
@@ -65,7 +66,7 @@ module _ (program : Program) where
   }
 
   -- BREAKING OFF
-  abbrev pub breaks_here : (o : Outside) (c : Config) → IsBetweenEntries c → Breaks program o o c
+  abbrev pub breaks_here : (o : Outside) (c : Config) → IsBetweenEntries c → Breaks early.NoMemory program o o c
   breaks_here o c between = record {
     made = [];
     said = [];
@@ -74,19 +75,18 @@ module _ (program : Program) where
     between = between;
     bytes = [];
     front = ([], refl);
-    cut = inl refl;
+    came = refl;
     written = Appends-nil o.sink.held;
     adds = adds_nothing o.past;
     later = omega arith;
-    whole = λ fine. refl;
     roomy = λ few. refl;
   }
 
-  -- a line that was cut behind steps that were done
-  pub cut_behind : (a b : Outside) (x y last : Config) (made : List Exchange) (said : List Said) (bytes : List ℕ) (g : Goes program a b x y) → (bytes ≡ lines said) ⊎ IsCut program y made said last bytes →
-      (lines g.said ++ bytes ≡ lines (g.said ++ said)) ⊎ IsCut program x (g.made ++ made) (g.said ++ said) last (lines g.said ++ bytes)
-  cut_behind a b x y last made said bytes g (inl e) = inl (ap (λ l. lines g.said ++ l) e ∙ sym (lines_then g.said said))
-  cut_behind a b x y last made said bytes g (inr k) = inr (record {
+  -- how far it came behind steps that were done
+  pub came_behind : (why : EarlyEnd) (a b : Outside) (x y last : Config) (made : List Exchange) (said : List Said) (bytes : List ℕ) (g : Goes program a b x y) → CameTo why program y made said last bytes →
+      CameTo why program x (g.made ++ made) (g.said ++ said) last (lines g.said ++ bytes)
+  came_behind early.NoMemory a b x y last made said bytes g e = ap (λ l. lines g.said ++ l) e ∙ sym (lines_then g.said said)
+  came_behind early.WriteFault a b x y last made said bytes g k = record {
     asked = g.made ++ k.asked;
     whole = g.said ++ k.whole;
     there = k.there;
@@ -100,11 +100,11 @@ module _ (program : Program) where
     made_are = ap (λ l. g.made ++ l) k.made_are ∙ sym (append_assoc g.made k.asked k.more);
     said_are = ap (λ l. g.said ++ l) k.said_are ∙ sym (append_assoc g.said k.whole (k.line ∷ []));
     written = (k.written.0, ap (λ l. l ++ k.written.0) (lines_then g.said k.whole) ∙ append_assoc (lines g.said) (lines k.whole) k.written.0 ∙ ap (λ l. lines g.said ++ l) k.written.1);
-  })
+  }
 
-  -- a line that was cut where the run began
-  pub cut_here : (c : Config) (made : List Exchange) (n : Next) (x : Said) (bytes : List ℕ) → IsStep program c made n → n.said ≡ x ∷ [] → IsCut program c made (x ∷ []) n.config bytes
-  cut_here c made n x bytes s said = record {
+  -- a line that couldn't be written where the run began
+  pub stops_here : (c : Config) (made : List Exchange) (n : Next) (x : Said) (bytes : List ℕ) → IsStep program c made n → n.said ≡ x ∷ [] → StopsAtLine program c made (x ∷ []) n.config bytes
+  stops_here c made n x bytes s said = record {
     asked = [];
     whole = [];
     there = c;
@@ -120,8 +120,8 @@ module _ (program : Program) where
     written = (bytes, refl);
   }
 
-  abbrev pub goes_breaks : (a b c : Outside) (x y : Config) → Goes program a b x y → Breaks program b c y → Breaks program a c x
-  goes_breaks a b c x y g h = record {
+  abbrev pub goes_breaks : {early : EarlyEnd} (a b c : Outside) (x y : Config) → Goes program a b x y → Breaks early program b c y → Breaks early program a c x
+  goes_breaks {early = early} a b c x y g h = record {
     made = g.made ++ h.made;
     said = g.said ++ h.said;
     last = h.last;
@@ -129,11 +129,10 @@ module _ (program : Program) where
     between = h.between;
     bytes = lines g.said ++ h.bytes;
     front = (h.front.0, append_assoc (lines g.said) h.bytes h.front.0 ∙ ap (λ l. lines g.said ++ l) h.front.1 ∙ sym (lines_then g.said h.said));
-    cut = cut_behind a b x y h.last h.made h.said h.bytes g h.cut;
+    came = came_behind early a b x y h.last h.made h.said h.bytes g h.came;
     written = Appends-trans a.sink.held b.sink.held c.sink.held (lines g.said) h.bytes g.written h.written;
     adds = adds_then a.past b.past c.past g.made h.made g.adds h.adds;
     later = omega (arith, g.later, h.later);
-    whole = λ fine. ap (λ l. lines g.said ++ l) (h.whole (λ rose. fine (omega (arith, g.later, rose)))) ∙ sym (lines_then g.said h.said);
     roomy = λ few.
         let size = said_in_all g.said h.said in
         let first = g.roomy (omega (arith, few, size)) in
@@ -164,7 +163,7 @@ module _ (program : Program) where
 
   -- or a front of it
   abbrev pub says_front : {T E : Type 0} (old new : SinkState) (past : Past) (c : Config) (n : Next) (x : Said) (fault : E) → step program deepest c ≡ Steps n → n.said ≡ x ∷ [] → IsBetweenEntries n.config →
-      Writes {T = T} {E = E} old new (Err fault) x.line → Breaks program (outside old past) (outside new past) c
+      Writes {T = T} {E = E} old new (Err fault) x.line → Breaks early.WriteFault program (outside old past) (outside new past) c
   says_front old new past c n x fault e said between w = record {
     made = [];
     said = x ∷ [];
@@ -173,11 +172,10 @@ module _ (program : Program) where
     between = between;
     bytes = w.err.0;
     front = (w.err.1.0, sym w.err.1.1 ∙ sym (lines_of_one x));
-    cut = inr (cut_here c [] n x w.err.0 e said);
+    came = stops_here c [] n x w.err.0 e said;
     written = w.err.2;
     adds = adds_nothing past;
     later = w.later;
-    whole = λ fine. absurd (fine w.rose);
     roomy = λ few. absurd (false≢true (w.roomy (rw (lines_of_one x) at few)).ok);
   }
 
@@ -222,7 +220,7 @@ module _ (program : Program) where
 
   abbrev pub asked_front : {T E : Type 0} (old new : SinkState) (past now : Past) (c : Config) (ask : Ask) (answer : Answer) (next : Answer → Option Next) (n : Next) (x : Said) (fault : E) →
       step program deepest c ≡ Asks ask next → next answer ≡ Some n → n.said ≡ x ∷ [] → IsBetweenEntries n.config → AddsOne past now ask answer → Writes {T = T} {E = E} old new (Err fault) x.line →
-      Breaks program (outside old past) (outside new now) c
+      Breaks early.WriteFault program (outside old past) (outside new now) c
   asked_front old new past now c ask answer next n x fault e k said between exchange w = record {
     made = record { ask = ask; answer = answer } ∷ [];
     said = x ∷ [];
@@ -231,10 +229,9 @@ module _ (program : Program) where
     between = between;
     bytes = w.err.0;
     front = (w.err.1.0, sym w.err.1.1 ∙ sym (lines_of_one x));
-    cut = inr (cut_here c (record { ask = ask; answer = answer } ∷ []) n x w.err.0 (next, e, k) said);
+    came = stops_here c (record { ask = ask; answer = answer } ∷ []) n x w.err.0 (next, e, k) said;
     written = w.err.2;
     adds = exchange;
     later = w.later;
-    whole = λ fine. absurd (fine w.rose);
     roomy = λ few. absurd (false≢true (w.roomy (rw (lines_of_one x) at few)).ok);
   }

@@ -22,10 +22,11 @@ use Rattle.host_link.specs.declared.host.KillAnswer.{KillAnswer}
 use Rattle.ek_types.specs.Io.{SinkState, Writes}
 use Rattle.kernel_top.specs.Plain.{Kernel}
 use Rattle.kernel_top.specs.Outside.{deepest, Past, Outside, outside, Goes}
-use Rattle.kernel_top.specs.Standing.{stands_at, working, Comes, IsBeforeTheEnd, unmade, with_unmade, Hosted, children, running}
+use Rattle.kernel_top.specs.Standing.{stands_at, working, Comes, IsBeforeTheEnd, early_end, unmade, with_unmade, Hosted, children, running}
 use Rattle.kernel_top.specs.Ending.{IsAtEnd, Halts}
 use Rattle.kernel_top.specs.declared.answer.Stop.{Stop}
 use Rattle.kernel_top.specs.declared.answer.Stop.TheVariants as stop
+use Rattle.kernel_top.specs.declared.answer.EarlyEnd.TheVariants as early
 use Rattle.kernel_top.proofs.Journeys.{AddsOne, goes_silently, goes_then, goes_breaks, says, says_front, asked_says, asked_front}
 use Rattle.kernel_top.proofs.Finishing.{sorted_children, hosted_split, hosted_killed, first_lives, halts_as, halts_of, halts_kill, left_skip, left_kill, left_behind, skips, kills_it, killing, kill_said, finishing, answered_kill}
 
@@ -57,7 +58,7 @@ module _ (k : Kernel) (p : ℕ) (x : Process) (made : slice_get k.beside.process
     end_skip (Err why) now e h = halts_as program before now from _ _ (left_skip list p x made (unmade why) e) h
 
     module _ (runs_it : runs x.status ≡ true) (old new : Past) (r : KillAnswer) (exchange : AddsOne old new (Kill x.child) (kill_answer r)) where
-      pub end_broken : (why : Stop) (sink : SinkState) → Halts program before (outside sink old) from (children (running (drop p list ++ unmade why))) → Halts program before (outside sink new) from (children (running (drop (p + 1) list ++ unmade why)))
+      pub end_broken : (why : Stop) (sink : SinkState) → Halts (early_end why) program before (outside sink old) from (children (running (drop p list ++ unmade why))) → Halts (early_end why) program before (outside sink new) from (children (running (drop (p + 1) list ++ unmade why)))
       end_broken why sink h = halts_kill program before sink old new from x.child _ r exchange (halts_as program before (outside sink old) from _ _ (left_kill list p x made (unmade why) runs_it) h)
 
       module _ (v : Undo) (all : List Process) (stands : StandsFor list all) (sink_old sink_new : SinkState) where
@@ -71,7 +72,7 @@ module _ (k : Kernel) (p : ℕ) (x : Process) (made : slice_get k.beside.process
         end_kills gone w = goes_then program before (outside sink_old old) (outside sink_new new) from (at p) (at (p + 1)) gone
             (asked_says program sink_old sink_new old new (at p) (Kill x.child) (kill_answer r) _ (killing program k v all stands p x made) (kill_said program k v all stands p x made) tt (kills_it program k v all stands p x made runs_it) (answered_kill (killing program k v all stands p x made) r) refl exchange w)
 
-        pub end_kill_broken : {E : Type 0} (fault : E) (lists : List Bool) → Hosted (drop (p + 1) list) lists → Goes program before (outside sink_old old) from (at p) → Writes {T = Unit {0}} {E = E} sink_old sink_new (Err fault) said_line → Halts program before (outside sink_new new) from (children (running (drop (p + 1) list ++ [])))
+        pub end_kill_broken : {E : Type 0} (fault : E) (lists : List Bool) → Hosted (drop (p + 1) list) lists → Goes program before (outside sink_old old) from (at p) → Writes {T = Unit {0}} {E = E} sink_old sink_new (Err fault) said_line → Halts early.WriteFault program before (outside sink_new new) from (children (running (drop (p + 1) list ++ [])))
         end_kill_broken fault lists hosted gone w =
             let broken = asked_front program sink_old sink_new old new (at p) (Kill x.child) (kill_answer r) _ (killing program k v all stands p x made) (kill_said program k v all stands p x made) fault (kills_it program k v all stands p x made runs_it) (answered_kill (killing program k v all stands p x made) r) refl tt exchange w in
             halts_of program before (outside sink_new new) from _ (goes_breaks program before (outside sink_old old) (outside sink_new new) from (at p) gone broken)
@@ -111,7 +112,7 @@ pub one_left : (list : List Process) (child : ℕ) → children (running (drop (
 one_left list child = ap (λ l. children (running (l ++ unmade (stop.NoProcess child)))) (drop_all (length list) list (omega arith))
 
 module _ (program : Program) (before : Outside) (from : Config) (k : Kernel) where
-  pub one_at_end : {T : Type 0} (so_far : Result T Stop) (now : Outside) (child : ℕ) → so_far ≡ Err (stop.NoProcess child) → IsAtEnd so_far program before now from k (length k.beside.processes) → Halts program before now from (child ∷ [])
+  pub one_at_end : {T : Type 0} (so_far : Result T Stop) (now : Outside) (child : ℕ) → so_far ≡ Err (stop.NoProcess child) → IsAtEnd so_far program before now from k (length k.beside.processes) → Halts early.NoMemory program before now from (child ∷ [])
   one_at_end {T = T} so_far now child e h =
       let halted : IsAtEnd {T = T} (Err (stop.NoProcess child)) program before now from k (length k.beside.processes) = subst (λ r. IsAtEnd r program before now from k (length k.beside.processes)) e h in
       halts_as program before now from _ (child ∷ []) (one_left k.beside.processes child) halted
@@ -149,6 +150,6 @@ module _ (program : Program) (before : Outside) (from : Config) (k : Kernel) whe
           (says program old new past dumping (machine_says program s Dumped s []) dumped tt refl refl w),
     )
 
-    pub ends_broken : {E : Type 0} (fault : E) → Goes program before (outside old past) from done_with → Writes {T = Unit {0}} {E = E} old new (Err fault) (line program.symbols s Dumped) → Halts program before (outside new past) from []
+    pub ends_broken : {E : Type 0} (fault : E) → Goes program before (outside old past) from done_with → Writes {T = Unit {0}} {E = E} old new (Err fault) (line program.symbols s Dumped) → Halts early.WriteFault program before (outside new past) from []
     ends_broken fault gone w = halts_of program before (outside new past) from [] (goes_breaks program before (outside old past) (outside new past) from dumping (to_dump gone)
         (says_front program old new past dumping (machine_says program s Dumped s []) dumped fault refl refl tt w)) refl

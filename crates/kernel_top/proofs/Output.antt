@@ -27,9 +27,10 @@ use Rattle.std.proofs.lemmas.List.Elements.{All-get_or}
 use Rattle.text_model.proofs.Lists.{All-slice_get}
 use Rattle.kernel_top.specs.Plain.{Kernel, whole, buffer_with, plain_state, inserted_at, marked, with_output, output_place, place_at, IsSound, IsOrdinary, IsWithin}
 use Rattle.kernel_top.specs.Outside.{Past, deepest, Outside, outside, Goes, Breaks}
-use Rattle.kernel_top.specs.Standing.{stands_at, inside, working, GoesTo, BreaksAt, children, running, unmade, IsBeforeTheEnd}
+use Rattle.kernel_top.specs.Standing.{stands_at, inside, working, GoesTo, BreaksAt, early_end, children, running, unmade, IsBeforeTheEnd}
 use Rattle.kernel_top.specs.declared.answer.Stop.{Stop}
 use Rattle.kernel_top.specs.declared.answer.Stop.TheVariants as stop
+use Rattle.kernel_top.specs.declared.answer.EarlyEnd.TheVariants as early
 use Rattle.kernel_top.proofs.Calls.{change, put, change_made, committed_state}
 use Rattle.kernel_top.proofs.Coming.{bare_length}
 use Rattle.kernel_top.proofs.Handling.{nowhere_put, full_put, room_put, room_at_commit, output_at, output_content, output_pops}
@@ -74,7 +75,7 @@ pub running_alike : (table all : List Process) → StandsFor table all → child
 running_alike table all stands = sym (kept_running all) ∙ ap (λ l. children (running l)) (sym stands)
 
 -- broken off where the processes are those of the kernel
-pub breaks_at : (program : Program) (o n : Outside) (c : Config) (k : Kernel) (why : Stop) (all : List Process) (b : Breaks program o n c) → StandsFor k.beside.processes all → unmade why ≡ [] → IsBeforeTheEnd b.last → b.last.state.processes ≡ all → BreaksAt program o n c k why
+pub breaks_at : (program : Program) (o n : Outside) (c : Config) (k : Kernel) (why : Stop) (all : List Process) (b : Breaks (early_end why) program o n c) → StandsFor k.beside.processes all → unmade why ≡ [] → IsBeforeTheEnd b.last → b.last.state.processes ≡ all → BreaksAt program o n c k why
 breaks_at program o n c k why all b stands none before is = record {
   breaks = b;
   before_end = before;
@@ -158,7 +159,7 @@ module _ (program : Program) (past : Past) (k : Kernel) (u : Undo) (all : List P
 
         pub put_refusal_breaks : {T E : Type 0} (old new : SinkState) (fault : E) → Writes {T = T} {E = E} old new (Err fault) (line program.symbols (inside (stands_at k u all)) (Replied 1 (Refused BufferFull))) → BreaksAt program (outside old past) (outside new past) start k stop.WriteFault
         put_refusal_breaks old new fault w =
-            let b : Breaks program (outside old past) (outside new past) refusing = says_front program old new past refusing refusal _ fault refl refl tt w in
+            let b : Breaks early.WriteFault program (outside old past) (outside new past) refusing = says_front program old new past refusing refusal _ fault refl refl tt w in
             let there : BreaksAt program (outside old past) (outside new past) refusing k stop.WriteFault = breaks_at program (outside old past) (outside new past) refusing k stop.WriteFault all b stands refl tt refl in
             subst (λ c. BreaksAt program (outside old past) (outside new past) c k stop.WriteFault) (sym start_refuses) there
 

@@ -1,6 +1,6 @@
 -- A script, form by form, and its end.
 use Rattle.std.proofs.Common.{◌≡◌, ℕ, ◌+◌, ◌≤◌, List, ◌++◌, map, drop, length, slice_get, Ok, Err, Result, refl, ap, sym, ◌∙◌, subst, append-nil}
-use Rattle.std.specs.Prelude.{Some, OnOk, OnErr}
+use Rattle.std.specs.Prelude.{Some, OnOk, IfErr}
 use Rattle.std.specs.Io.KnownBytes.{Appends}
 use Rattle.std.proofs.lemmas.List.{length-map, drop_all}
 use Rattle.text_model.proofs.Lists.{drop_at, mapped_at}
@@ -19,6 +19,7 @@ use Rattle.kernel_top.specs.HostCalls.{CallsSince}
 use Rattle.kernel_top.specs.Outside.{deepest, Outside, outside}
 use Rattle.kernel_top.specs.Ending.{IsOver}
 use Rattle.kernel_top.specs.Outcomes.{program_for, SentinelsComeLast, RanScript, StoppedScript}
+use Rattle.kernel_top.specs.declared.answer.EarlyEnd.{EarlyEnd}
 use Rattle.kernel_top.proofs.HostCalls.{all_calls}
 
 -- the forms that are left
@@ -41,7 +42,7 @@ module _ (script : Script) {H : Type 0} (state : H → HostState) (made : H → 
   sentinels_last law exchanges said last run before after x p same entry = law exchanges before after x last p (subst (λ l. Reaches (program_for script) deepest (start script) exchanges l last) same run) entry
 
   -- a whole run
-  pub ran : {T E : Type 0} (r : Result T E) → RanEntries (program_for script) deepest script → Sentinels (program_for script) deepest (start script) → IsOver r (program_for script) o n (start script) →
+  pub ran : {T : Type 0} (r : Result T EarlyEnd) → RanEntries (program_for script) deepest script → Sentinels (program_for script) deepest (start script) → IsOver r (program_for script) o n (start script) →
       OnOk r ((written : List ℕ) × (exchanges : List Exchange) × Appends old.held new.held written × CallsSince state made start_host now exchanges × RanScript script exchanges written old new)
   ran (Ok x) hear come (last, ended, gone) =
       let run : Ran (program_for script) deepest script gone.made (lines gone.said) = record { said = gone.said; last = last; run = gone.run; ended = ended; bytes = refl } in (
@@ -59,9 +60,9 @@ module _ (script : Script) {H : Type 0} (state : H → HostState) (made : H → 
   ran (Err why) hear come h = tt
 
   -- one that was broken off
-  pub stopped : {T E : Type 0} (r : Result T E) → KillsLeft (program_for script) deepest (start script) → BrokenEntries (program_for script) deepest script →
+  pub stopped : {T : Type 0} (r : Result T EarlyEnd) → KillsLeft (program_for script) deepest (start script) → BrokenEntries (program_for script) deepest script →
       Sentinels (program_for script) deepest (start script) → IsOver r (program_for script) o n (start script) →
-      OnErr r ((written : List ℕ) × (exchanges : List Exchange) × Appends old.held new.held written × CallsSince state made start_host now exchanges × StoppedScript script exchanges written old new)
+      IfErr r (λ early. (written : List ℕ) × (exchanges : List Exchange) × Appends old.held new.held written × CallsSince state made start_host now exchanges × StoppedScript early script exchanges written old new)
   stopped (Ok x) left hear come h = tt
   stopped (Err why) left hear come h =
       let broken : BrokenOff (program_for script) deepest script (h.made ++ h.kills) h.bytes = record {
@@ -82,8 +83,7 @@ module _ (script : Script) {H : Type 0} (state : H → HostState) (made : H → 
         record {
           broken = broken;
           answered = h.answered;
-          whole = h.whole;
-          cut = h.cut;
+          came = h.came;
           entries = hear (h.made ++ h.kills) h.bytes broken;
           sentinels = sentinels_last come h.made h.said h.last h.run;
           roomy = h.roomy;

@@ -9,18 +9,18 @@ use Rattle.plain_machine.specs.Step.{step}
 use Rattle.plain_machine.specs.Run.{Reaches, lines}
 use Rattle.plain_machine.specs.WholeRuns.{IsBetweenEntries, IsPrefixOf, AreKills}
 use Rattle.machine_laws.specs.Children.{to_kill}
-use Rattle.ek_types.specs.Io.{Rose}
 use Rattle.kernel_top.specs.Plain.{Kernel}
-use Rattle.kernel_top.specs.Outside.{deepest, Outside, Adds, Goes, IsCut}
-use Rattle.kernel_top.specs.Standing.{stands_at, working, GoesTo, unmade, running, children}
+use Rattle.kernel_top.specs.Outside.{deepest, Outside, Adds, Goes, CameTo}
+use Rattle.kernel_top.specs.Standing.{stands_at, working, GoesTo, early_end, unmade, running, children}
 use Rattle.kernel_top.specs.declared.answer.Stop.{Stop}
+use Rattle.kernel_top.specs.declared.answer.EarlyEnd.{EarlyEnd}
 
--- a host says of a kill only whether it was made
+-- a kill was answered Killed or Failed
 abbrev pub IsAnsweredKill : Exchange → Type 0
 IsAnsweredKill x = (x.answer ≡ Killed) ⊎ (x.answer ≡ Failed)
 
 -- The run was broken off, and of the children that live by the machine all but some are killed.
-pub record Halts (program : Program) (before now : Outside) (from : Config) (left : List ℕ) : Type 0 where
+pub record Halts (early : EarlyEnd) (program : Program) (before now : Outside) (from : Config) (left : List ℕ) : Type 0 where
   pub made : List Exchange
   pub kills : List Exchange
   pub said : List Said
@@ -29,11 +29,10 @@ pub record Halts (program : Program) (before now : Outside) (from : Config) (lef
   pub between : IsBetweenEntries last
   pub bytes : List ℕ
   pub front : IsPrefixOf bytes (lines said)
-  pub cut : (bytes ≡ lines said) ⊎ IsCut program from made said last bytes
+  pub came : CameTo early program from made said last bytes
   pub written : Appends before.sink.held now.sink.held bytes
   pub adds : Adds before.past now.past (made ++ kills)
   pub later : before.sink.faults ≤ now.sink.faults
-  pub whole : (Rose before.sink.faults now.sink.faults → ⊥) → bytes ≡ lines said
   pub roomy : length (lines said) ≤ before.sink.room → now.sink.faults ≡ before.sink.faults
   pub done : List ℕ
   pub killed : AreKills done kills
@@ -45,11 +44,11 @@ abbrev pub IsAtEnd : {T : Type 0} → Result T Stop → Program → (before now 
 IsAtEnd so_far program before now from k p =
     MatchResult so_far
     (λ x. GoesTo program before now from k (λ v all. working (stands_at k v all) (Finish p ∷ [])))
-    (λ why. Halts program before now from (children (running (drop p k.beside.processes ++ unmade why))))
+    (λ why. Halts (early_end why) program before now from (children (running (drop p k.beside.processes ++ unmade why))))
 
 -- the whole run has ended, or was broken off and no child is left
-abbrev pub IsOver : {T E : Type 0} → Result T E → Program → (before now : Outside) → (from : Config) → Type 0
+abbrev pub IsOver : {T : Type 0} → Result T EarlyEnd → Program → (before now : Outside) → (from : Config) → Type 0
 IsOver result program before now from =
     MatchResult result
     (λ x. (last : Config) × (step program deepest last ≡ Ended) × Goes program before now from last)
-    (λ why. Halts program before now from [])
+    (λ early. Halts early program before now from [])

@@ -10,13 +10,15 @@ use Rattle.plain_machine.specs.Grammar.{longest_script}
 use Rattle.plain_machine.specs.Run.{lines, start}
 use Rattle.plain_machine.specs.WholeRuns.{Ran, BrokenOff}
 use Rattle.machine_laws.specs.Entries.{entered, heard, is_entry, has_entry}
-use Rattle.ek_types.specs.Io.{SinkState, Rose}
+use Rattle.ek_types.specs.Io.{SinkState}
 use Rattle.host_link.specs.Hosts.{HostState}
-use Rattle.kernel_top.specs.Outside.{deepest, IsCut}
+use Rattle.kernel_top.specs.Outside.{deepest, CameTo}
 use Rattle.kernel_top.specs.Ending.{IsAnsweredKill}
 use Rattle.script_read.specs.GrammarSoFar.{IsScriptSoFar, IsNoScript}
 use Rattle.kernel_top.specs.declared.status.Status.{Status}
 use Rattle.kernel_top.specs.declared.status.Status.TheVariants as status
+use Rattle.kernel_top.specs.declared.answer.EarlyEnd.{EarlyEnd}
+use Rattle.kernel_top.specs.declared.answer.EarlyEnd.TheVariants as early
 
 -- the command line has one word
 abbrev pub IsRun : List (List ℕ) → Type 0
@@ -43,14 +45,13 @@ pub record RanScript (script : Script) (exchanges : List Exchange) (written : Li
   pub sentinels : SentinelsComeLast ran.said
   pub roomy : length written ≤ before.room → now.faults ≡ before.faults
 
--- A run that was broken off. Where the sink didn't fail, what it wrote is whole lines: with all entries, for it isn't broken
--- off between a read and the entry that this causes. Else it stopped at the line that was cut, and nothing was asked behind
--- that but the kills. The sink hasn't failed where it had room for all that was said.
-pub record StoppedScript (script : Script) (exchanges : List Exchange) (written : List ℕ) (before now : SinkState) : Type 0 where
+-- A run that was broken off. For want of memory what it wrote is whole lines: with all entries, for it isn't broken off between
+-- a read and the entry that this causes. After a failed write it stopped at that line, and nothing was asked behind it but the
+-- kills. The sink hasn't failed where it had room for all that was said.
+pub record StoppedScript (early : EarlyEnd) (script : Script) (exchanges : List Exchange) (written : List ℕ) (before now : SinkState) : Type 0 where
   pub broken : BrokenOff (program_for script) deepest script exchanges written
   pub answered : All IsAnsweredKill broken.kills
-  pub whole : (Rose before.faults now.faults → ⊥) → written ≡ lines broken.said
-  pub cut : (written ≡ lines broken.said) ⊎ IsCut (program_for script) (start script) broken.made broken.said broken.last written
+  pub came : CameTo early (program_for script) (start script) broken.made broken.said broken.last written
   pub entries : AreHeard broken.made broken.said
   pub sentinels : SentinelsComeLast broken.said
   pub roomy : length (lines broken.said) ≤ before.room → now.faults ≡ before.faults
@@ -79,9 +80,9 @@ Outcome (status.Script line) words read written exchanges ended before now =
 Outcome status.ReadFault words read written exchanges ended before now =
     IsRun words × (written ≡ []) × (exchanges ≡ []) × (now ≡ before)
 Outcome status.WriteFault words read written exchanges ended before now =
-    IsRun words × ended × OfScript read (λ script. StoppedScript script exchanges written before.sink now.sink)
+    IsRun words × ended × OfScript read (λ script. StoppedScript early.WriteFault script exchanges written before.sink now.sink)
 Outcome status.NoMemory words read written exchanges ended before now =
-    IsRun words × (((written ≡ []) × (exchanges ≡ []) × (now ≡ before)) ⊎ (ended × OfScript read (λ script. StoppedScript script exchanges written before.sink now.sink)))
+    IsRun words × (((written ≡ []) × (exchanges ≡ []) × (now ≡ before)) ⊎ (ended × OfScript read (λ script. StoppedScript early.NoMemory script exchanges written before.sink now.sink)))
 
 -- a source that told what was left has told its end
 abbrev pub HasEnded : (before now : Option (List ℕ)) → Type 0

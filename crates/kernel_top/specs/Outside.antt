@@ -1,6 +1,6 @@
 -- What a run does to the outside while the machine goes on: the sink has just what it says, and the host was asked just
 -- what it asks.
-use Rattle.std.specs.Prelude.{◌≡◌, ℕ, ◌+◌, ◌≤◌, ◌⊎◌, List, [], ◌∷◌, ◌++◌, length, Option, Some}
+use Rattle.std.specs.Prelude.{◌≡◌, ℕ, ◌+◌, ◌≤◌, List, [], ◌∷◌, ◌++◌, length, Option, Some}
 use Rattle.std.specs.Io.KnownBytes.{Appends}
 use Rattle.plain_machine.specs.Exchanges.{Exchange, Answer}
 use Rattle.plain_machine.specs.State.{Program}
@@ -8,17 +8,19 @@ use Rattle.plain_machine.specs.Items.{Said, Config, Next, Goes as Steps, Asks}
 use Rattle.plain_machine.specs.Step.{step}
 use Rattle.plain_machine.specs.Run.{Reaches, lines}
 use Rattle.plain_machine.specs.WholeRuns.{IsBetweenEntries, IsPrefixOf}
-use Rattle.ek_types.specs.Io.{SinkState, Rose}
+use Rattle.ek_types.specs.Io.{SinkState}
+use Rattle.kernel_top.specs.declared.answer.EarlyEnd.{EarlyEnd}
+use Rattle.kernel_top.specs.declared.answer.EarlyEnd.TheVariants as early
 
 -- how deep handlers may be nested
 abbrev pub deepest : ℕ
 deepest = 16
 
--- which exchanges may be those that were made so far
+-- says of a list whether it may be that of the exchanges so far
 abbrev pub Past : Type 1
 Past = List Exchange → Type 0
 
--- what a sink means, and what was made of exchanges
+-- what a sink means, and which exchanges were made
 pub record Outside : Type 1 where
   pub sink : SinkState
   pub past : Past
@@ -58,8 +60,10 @@ IsStep program c [] n = step program deepest c ≡ Steps n
 IsStep program c (x ∷ []) n = (next : Answer → Option Next) × (step program deepest c ≡ Asks x.ask next) × (next x.answer ≡ Some n)
 IsStep program c _ n = ⊥
 
--- The line that was cut is what the last step said: nothing was asked behind it. The lines before it are written.
-pub record IsCut (program : Program) (from : Config) (made : List Exchange) (said : List Said) (last : Config) (bytes : List ℕ) : Type 0 where
+-- The run stopped at a line that it couldn't write: its last step said this line. `asked` and `whole` are what was asked and
+-- said before that step, and `more` is the exchange of that step, if it makes one. So nothing was asked behind the line, and
+-- what was said before it is written.
+pub record StopsAtLine (program : Program) (from : Config) (made : List Exchange) (said : List Said) (last : Config) (bytes : List ℕ) : Type 0 where
   pub asked : List Exchange
   pub whole : List Said
   pub there : Config
@@ -74,9 +78,15 @@ pub record IsCut (program : Program) (from : Config) (made : List Exchange) (sai
   pub said_are : said ≡ whole ++ line ∷ []
   pub written : IsPrefixOf (lines whole) bytes
 
--- The run is broken off: the machine went somewhere, and what it said is written, or all but a line that was cut, where the
--- run stopped. The sink didn't fail where there is room for all that was said.
-pub record Breaks (program : Program) (old new : Outside) (from : Config) : Type 0 where
+-- How far a run came that ended early: for want of memory, all that it said is written; after a failed write it stopped at
+-- that line.
+abbrev pub CameTo : EarlyEnd → Program → (from : Config) → (made : List Exchange) → (said : List Said) → (last : Config) → (bytes : List ℕ) → Type 0
+CameTo early.NoMemory program from made said last bytes = bytes ≡ lines said
+CameTo early.WriteFault program from made said last bytes = StopsAtLine program from made said last bytes
+
+-- The run is broken off: the machine went somewhere, and what it said is written, or all lines but the last and a front of
+-- that one. The sink didn't fail where there is room for all that was said.
+pub record Breaks (early : EarlyEnd) (program : Program) (old new : Outside) (from : Config) : Type 0 where
   pub made : List Exchange
   pub said : List Said
   pub last : Config
@@ -84,9 +94,8 @@ pub record Breaks (program : Program) (old new : Outside) (from : Config) : Type
   pub between : IsBetweenEntries last
   pub bytes : List ℕ
   pub front : IsPrefixOf bytes (lines said)
-  pub cut : (bytes ≡ lines said) ⊎ IsCut program from made said last bytes
+  pub came : CameTo early program from made said last bytes
   pub written : Appends old.sink.held new.sink.held bytes
   pub adds : Adds old.past new.past made
   pub later : old.sink.faults ≤ new.sink.faults
-  pub whole : (Rose old.sink.faults new.sink.faults → ⊥) → bytes ≡ lines said
   pub roomy : length (lines said) ≤ old.sink.room → new.sink.faults ≡ old.sink.faults

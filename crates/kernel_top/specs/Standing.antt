@@ -9,6 +9,8 @@ use Rattle.kernel_top.specs.Plain.{Kernel, whole, buffer_with, plain_state}
 use Rattle.kernel_top.specs.Outside.{Outside, Goes, Breaks}
 use Rattle.kernel_top.specs.declared.answer.Stop.{Stop}
 use Rattle.kernel_top.specs.declared.answer.Stop.TheVariants as stop
+use Rattle.kernel_top.specs.declared.answer.EarlyEnd.{EarlyEnd}
+use Rattle.kernel_top.specs.declared.answer.EarlyEnd.TheVariants as early
 
 -- the machine's state at top level, by what the kernel doesn't know: the undo records, and all bytes read
 abbrev pub stands_at : Kernel → Undo → (all : List Process) → State
@@ -48,9 +50,14 @@ IsBeforeTheEnd c = elim c.work [
 abbrev pub children : List Process → List ℕ
 children list = map (λ x. x.child) list
 
+-- why a run ended early that was broken off for this
+abbrev pub early_end : Stop → EarlyEnd
+early_end stop.WriteFault = early.WriteFault
+early_end _ = early.NoMemory
+
 -- the run is broken off before the script's end, and these children run
 pub record BreaksAt (program : Program) (before now : Outside) (from : Config) (new : Kernel) (why : Stop) : Type 0 where
-  pub breaks : Breaks program before now from
+  pub breaks : Breaks (early_end why) program before now from
   pub before_end : IsBeforeTheEnd breaks.last
   pub left : children (running breaks.last.state.processes) ≡ children (running (new.beside.processes ++ unmade why))
 

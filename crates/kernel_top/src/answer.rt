@@ -15,7 +15,7 @@ pub enum Answer {
     Fault(Fault),
 }
 
-/// Why a run stops.
+/// Why a run is broken off, while its children still live.
 #[derive(Clone, Copy, Debug, PartialEq, Eq)]
 pub enum Stop {
     WriteFault,
@@ -44,19 +44,19 @@ impl From<SinkFault> for Stop {
     }
 }
 
-/// Why a run was broken off, once its children are dealt with.
+/// Why a run ended early, once no child of it lives.
 #[derive(Clone, Copy, Debug, PartialEq, Eq)]
-pub enum Cause {
+pub enum EarlyEnd {
     WriteFault,
     NoMemory,
 }
 
-impl From<SinkFault> for Cause {
-    ghost use Rattle.kernel_top.specs.declared.answer.Cause.TheVariants as cause;
+impl From<SinkFault> for EarlyEnd {
+    ghost use Rattle.kernel_top.specs.declared.answer.EarlyEnd.TheVariants as early;
 
-    ghost from_gives = { λ _ c. c ≡ cause.WriteFault };
+    ghost from_gives = { λ _ e. e ≡ early.WriteFault };
 
-    fn from(_: SinkFault) -> Cause {
-        Cause::WriteFault
+    fn from(_: SinkFault) -> EarlyEnd {
+        EarlyEnd::WriteFault
     }
 }

@@ -10,7 +10,7 @@ ghost use Rattle.kernel_top.specs.Outside.{outside};
 ghost use Rattle.kernel_top.specs.Standing.{stands_at, working, Comes, Hosted, with_unmade};
 ghost use Rattle.kernel_top.specs.Ending.{IsAtEnd, IsOver};
 
-use crate::answer::{Cause, Stop};
+use crate::answer::{EarlyEnd, Stop};
 use crate::kernel::Kernel;
 use crate::print;
 use ek_types::Sink;
@@ -23,12 +23,12 @@ pub fn finish<K: Sink, H: Host>(
     kernel: &Kernel,
     host: &mut H,
     sink: &mut K,
-) -> Result<(), Cause>
+) -> Result<(), EarlyEnd>
     requires { Hosted (with_unmade so_far kernel.now.beside.processes) (H.state host.old).kills }
     ensures over { (program : Program) (before : SinkState) (start : H) (from : Config) →
         Comes so_far program (outside before (CallsSince H.state H.made start start)) (outside (K.state sink.old) (CallsSince H.state H.made start host.old)) from kernel.now (λ _ v all. working (stands_at kernel.now v all) (Top NoForms ∷ [])) →
         IsOver result program (outside before (CallsSince H.state H.made start start)) (outside (K.state sink.new) (CallsSince H.state H.made start host.new)) from }
-    ensures cause { (faults : ℕ) → HasCause faults (K.state sink.old).faults (so_far ≡ Err Stop.WriteFault) → HasCause faults (K.state sink.new).faults (result ≡ Err Cause.WriteFault) }
+    ensures cause { (faults : ℕ) → HasCause faults (K.state sink.old).faults (so_far ≡ Err Stop.WriteFault) → HasCause faults (K.state sink.new).faults (result ≡ Err EarlyEnd.WriteFault) }
 {
     let mut state = so_far;
     for p in 0..kernel.processes.count() {
@@ -43,21 +43,21 @@ fn leave<K: Sink, H: Host>(
     kernel: &Kernel,
     host: &mut H,
     sink: &mut K,
-) -> Result<(), Cause>
+) -> Result<(), EarlyEnd>
     requires { Hosted (with_unmade so_far []) (H.state host.old).kills }
     ensures over { (program : Program) (before : SinkState) (start : H) (from : Config) →
         IsAtEnd so_far program (outside before (CallsSince H.state H.made start start)) (outside (K.state sink.old) (CallsSince H.state H.made start host.old)) from kernel.now (length kernel.now.beside.processes) →
         IsOver result program (outside before (CallsSince H.state H.made start start)) (outside (K.state sink.new) (CallsSince H.state H.made start host.new)) from }
-    ensures cause { (faults : ℕ) → HasCause faults (K.state sink.old).faults (so_far ≡ Err Stop.WriteFault) → HasCause faults (K.state sink.new).faults (result ≡ Err Cause.WriteFault) }
+    ensures cause { (faults : ℕ) → HasCause faults (K.state sink.old).faults (so_far ≡ Err Stop.WriteFault) → HasCause faults (K.state sink.new).faults (result ≡ Err EarlyEnd.WriteFault) }
 {
     match so_far {
         Ok(()) => Ok(print::dump(sink, kernel)?),
         Err(Stop::NoProcess(child)) => {
             host.kill(child);
-            Err(Cause::NoMemory)
+            Err(EarlyEnd::NoMemory)
         }
-        Err(Stop::NoMemory) => Err(Cause::NoMemory),
-        Err(Stop::WriteFault) => Err(Cause::WriteFault),
+        Err(Stop::NoMemory) => Err(EarlyEnd::NoMemory),
+        Err(Stop::WriteFault) => Err(EarlyEnd::WriteFault),
     }
 }
 

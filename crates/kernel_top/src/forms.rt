@@ -1,5 +1,5 @@
 //! Forms, one after another.
-ghost use Rattle.std.specs.Prelude.{◌≡◌, ℕ, ◌+◌, ◌-◌, ◌^◌, ◌<◌, ◌≤◌, List, [], ◌∷◌, length, map, OnOk, OnErr, Err, Ok};
+ghost use Rattle.std.specs.Prelude.{◌≡◌, ℕ, ◌+◌, ◌-◌, ◌^◌, ◌<◌, ◌≤◌, List, [], ◌∷◌, length, map, OnOk, IfErr, Err, Ok};
 ghost use Rattle.std.specs.Io.KnownBytes.{Appends};
 ghost use Rattle.text_model.specs.Undo.{Undo};
 ghost use Rattle.editor_model.specs.Values.{Do, Forms, NoForms, Then};
@@ -19,7 +19,7 @@ ghost use Rattle.kernel_top.specs.Standing.{stands_at, working, Comes, Hosted, S
 ghost use Rattle.kernel_top.specs.Calls.{ComesToReply};
 ghost use Rattle.kernel_top.specs.Outcomes.{RanScript, StoppedScript};
 
-use crate::answer::{Answer, Cause, Stop};
+use crate::answer::{Answer, EarlyEnd, Stop};
 use crate::apply::{delete_region, goto_char, insert};
 use crate::ending::finish;
 use crate::kernel::Kernel;
@@ -119,15 +119,15 @@ pub fn run_script<K: Sink, H: Host>(
     script: &Script,
     host: &mut H,
     sink: &mut K,
-) -> Result<(), Cause>
+) -> Result<(), EarlyEnd>
     requires forms { AreFormsSoFar (script_of script.now).forms }
     requires few { length (H.state host.old).kills ≤ 2 ^ 31 }
     ensures ok { OnOk result ((written : List ℕ) × (exchanges : List Exchange) × Appends (K.state sink.old).held (K.state sink.new).held written
         × CallsSince H.state H.made host.old host.new exchanges × RanScript (script_of script.now) exchanges written (K.state sink.old) (K.state sink.new)) }
-    ensures err { OnErr result ((written : List ℕ) × (exchanges : List Exchange) × Appends (K.state sink.old).held (K.state sink.new).held written
+    ensures err { IfErr result (λ early. (written : List ℕ) × (exchanges : List Exchange) × Appends (K.state sink.old).held (K.state sink.new).held written
         × CallsSince H.state H.made host.old host.new exchanges
-        × StoppedScript (script_of script.now) exchanges written (K.state sink.old) (K.state sink.new)) }
-    ensures cause { HasCause (K.state sink.old).faults (K.state sink.new).faults (result ≡ Err Cause.WriteFault) }
+        × StoppedScript early (script_of script.now) exchanges written (K.state sink.old) (K.state sink.new)) }
+    ensures cause { HasCause (K.state sink.old).faults (K.state sink.new).faults (result ≡ Err EarlyEnd.WriteFault) }
 {
     machine_laws::kills_are_left();
     machine_laws::whole_runs_hear_all();

@@ -9,7 +9,7 @@ ghost use Rattle.plain_machine.specs.Exchanges.{Exchange};
 ghost use Rattle.kernel_top.specs.HostCalls.{CallsSince, Tells};
 ghost use Rattle.kernel_top.specs.Outcomes.{IsRun, HasEnded, seen, Outcome};
 
-use crate::answer::Cause;
+use crate::answer::EarlyEnd;
 use crate::forms::run_script;
 use crate::status::Status;
 use ek_types::{Sink, Source, Took};
@@ -81,8 +81,8 @@ fn run_bytes<K: Sink, H: Host>(alloc: Global, bytes: &[u8], host: &mut H, sink: 
     match read(alloc, bytes) {
         Ok(script) => match run_script(alloc, &script, host, sink) {
             Ok(()) => Status::Done,
-            Err(Cause::WriteFault) => Status::WriteFault,
-            Err(Cause::NoMemory) => Status::NoMemory,
+            Err(EarlyEnd::WriteFault) => Status::WriteFault,
+            Err(EarlyEnd::NoMemory) => Status::NoMemory,
         },
         Err(ScriptFault::Line(line)) => Status::Script(line),
         Err(ScriptFault::NoMemory) => Status::NoMemory,
@@ -123,9 +123,12 @@ fn run_words<S: Source, K: Sink, H: Host>(
 /// behind the program's name; only `run` alone is known.
 ///
 /// The status says what was read and written, as `outcome` has it: for `Done` the lines are those of the plain machine's
-/// whole run on the script. Filters are entered with just what was read, and sentinels come last. The source doesn't fail
-/// where it is known not to (`unfailing`), nor the sink where it has room for what the run says. No more than one byte
-/// behind the longest script, of 1,048,576 bytes, is asked of the source.
+/// whole run on the script. Filters are entered with just what was read, and sentinels come last. The exchanges of the run
+/// are the calls on the host, each with what the host says of itself that it did, and a read has room for 4,096 bytes. A
+/// run whose write fails stops at that line; the children that live are killed then, each once.
+///
+/// The source doesn't fail where it is known not to (`unfailing`), nor the sink where it has room for what the run says.
+/// No more than one byte behind the longest script, of 1,048,576 bytes, is asked of the source.
 pub fn run<S: Source, K: Sink, H: Host>(
     alloc: Global,
     words: &[String],

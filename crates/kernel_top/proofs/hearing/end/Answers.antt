@@ -37,7 +37,7 @@ returns-in-Code-clause-comes g c = λ start program w v target rest u all stands
     let sink = g.K.Sink.state c.args.sink.now in
     let old = CallsSince g.H.Host.state g.H.Host.made start c.args.host.now in
     let new = CallsSince g.H.Host.state g.H.Host.made start c.end.new.self in
-    let called = adds_call g.H.Host.state g.H.Host.made start c.args.host.now c.end.new.self _ _ _ refl c.in_ok-code.ensures.asked c.in_ok-code.ensures.made in
+    let called = adds_call g.H.Host.state g.H.Host.made start c.args.host.now c.end.new.self _ _ _ refl tt c.in_ok-code.ensures.asked c.in_ok-code.ensures.made in
     let x = rw (child_of c.args.process c.kernel.view_is c.get.ensures c.child-child.ensures c.requires.asked.made) at (subst (λ e. AddsOne old new (AskEnd c.child-child.result) (ended_answer e)) c.in-Code.is called) in
     comes_behind c.ended.result program (outside sink old) (outside sink new) _ _ _ _ _ (ended_by_code program k sound u all stands c.args.process w v target rest asks c.requires.asked sink old new (to_z w32 (of_z w32 c.in-Code.code)) (subst (λ n. AddsOne old new (AskEnd c.requires.asked.process.child) (Code n)) (sym (to_z-of_z w32 c.in-Code.code fits)) x)) (unasked_comes c.ended.result program _ _ new _ _ _ (c.ended.ensures.comes program v target rest u all stands))
 
@@ -54,7 +54,7 @@ returns-in-Signal-clause-comes g c = λ start program w v target rest u all stan
     let sink = g.K.Sink.state c.args.sink.now in
     let old = CallsSince g.H.Host.state g.H.Host.made start c.args.host.now in
     let new = CallsSince g.H.Host.state g.H.Host.made start c.end.new.self in
-    let called = adds_call g.H.Host.state g.H.Host.made start c.args.host.now c.end.new.self _ _ _ refl c.in_ok-code.ensures.asked c.in_ok-code.ensures.made in
+    let called = adds_call g.H.Host.state g.H.Host.made start c.args.host.now c.end.new.self _ _ _ refl tt c.in_ok-code.ensures.asked c.in_ok-code.ensures.made in
     let x = rw (child_of c.args.process c.kernel.view_is c.get.ensures c.child-child.ensures c.requires.asked.made) at (subst (λ e. AddsOne old new (AskEnd c.child-child.result) (ended_answer e)) c.in-Signal.is called) in
     comes_behind c.ended-in-Signal.result program (outside sink old) (outside sink new) _ _ _ _ _ (ended_by_signal program k sound u all stands c.args.process w v target rest asks c.requires.asked sink old new x) (unasked_comes c.ended-in-Signal.result program _ _ new _ _ _ (c.ended-in-Signal.ensures.comes program v target rest u all stands))
 
@@ -71,7 +71,7 @@ returns-in-Failed-clause-comes g c = λ start program w v target rest u all stan
     let sink = g.K.Sink.state c.args.sink.now in
     let old = CallsSince g.H.Host.state g.H.Host.made start c.args.host.now in
     let new = CallsSince g.H.Host.state g.H.Host.made start c.end.new.self in
-    let called = adds_call g.H.Host.state g.H.Host.made start c.args.host.now c.end.new.self _ _ _ refl c.in_ok-code.ensures.asked c.in_ok-code.ensures.made in
+    let called = adds_call g.H.Host.state g.H.Host.made start c.args.host.now c.end.new.self _ _ _ refl tt c.in_ok-code.ensures.asked c.in_ok-code.ensures.made in
     let x = rw (child_of c.args.process c.kernel.view_is c.get.ensures c.child-child.ensures c.requires.asked.made) at (subst (λ e. AddsOne old new (AskEnd c.child-child.result) (ended_answer e)) c.in-Failed.is called) in
     comes_behind c.ended-in-Failed.result program (outside sink old) (outside sink new) _ _ _ _ _ (end_lost program k sound u all stands c.args.process w v target rest asks c.requires.asked sink old new x) (unasked_comes c.ended-in-Failed.result program _ _ new _ _ _ (c.ended-in-Failed.ensures.comes program v target rest u all stands))
 
@@ -88,6 +88,6 @@ returns-in-Running-clause-comes g c = λ start program w v target rest u all sta
     let sink = g.K.Sink.state c.args.sink.now in
     let old = CallsSince g.H.Host.state g.H.Host.made start c.args.host.now in
     let new = CallsSince g.H.Host.state g.H.Host.made start c.end.new.self in
-    let called = adds_call g.H.Host.state g.H.Host.made start c.args.host.now c.end.new.self _ _ _ refl c.in_ok-code.ensures.asked c.in_ok-code.ensures.made in
+    let called = adds_call g.H.Host.state g.H.Host.made start c.args.host.now c.end.new.self _ _ _ refl tt c.in_ok-code.ensures.asked c.in_ok-code.ensures.made in
     let x = rw (child_of c.args.process c.kernel.view_is c.get.ensures c.child-child.ensures c.requires.asked.made) at (subst (λ e. AddsOne old new (AskEnd c.child-child.result) (ended_answer e)) c.in-Running.is called) in
     rw c.note_asked.ensures (u, all, stands, still_runs program k sound u all stands c.args.process w v target rest asks c.requires.asked sink old new x)
