@@ -88,24 +88,38 @@ EndsAs (Some status) (Code code) = exit_code status ≡ Some code
 EndsAs (Some status) Signal = exit_code status ≡ None
 EndsAs _ _ = ⊥
 
+-- WHAT A CALL CHANGES
+-- nothing of the child has changed but its input
+abbrev pub ChangesInput : {P I O E : Type 0} → (old new : List (Child P I O E)) → (child : ℕ) → Type 0
+ChangesInput old new child = IfSome (slice_get old child) (λ c. slice_get new child ≡ Some (record c { stdin = input_of new child }))
+
+-- nothing of the child has changed but its output
+abbrev pub ChangesOutput : {P I O E : Type 0} → (old new : List (Child P I O E)) → (child : ℕ) → Type 0
+ChangesOutput old new child = IfSome (slice_get old child) (λ c. slice_get new child ≡ Some (record c { stdout = output_of new child }))
+
+-- a child that was waited for before has ended as it had then
+abbrev pub KeepsEnd : {P I O E : Type 0} → (old new : List (Child P I O E)) → (child : ℕ) → Type 0
+KeepsEnd old new child = IfSome (status_of old child) (λ status. status_of new child ≡ Some status)
+
 -- WHAT A CALL DID
 -- What a call did to the child that was asked, by the ask and the answer. `left` are the bytes of an output that are still
 -- to be read, `held` those that an input was given, where they are known. The question how a child has ended closes its
--- input first.
+-- input first, and a child that was killed has no input either. Where a wait or a kill failed nothing is said of how a
+-- child stands that wasn't waited for before, and behind a wait or a kill nothing is said of its output.
 abbrev pub Did : {P I O E : Type 0} → (left : O → Option (List ℕ)) → (held : I → Option (List ℕ)) → (old new : List (Child P I O E)) → Ask → (room : ℕ) → Answer → Type 0
 Did left held old new (Spawn program args) room (Started child) = (child ≡ length old) × AddsChild old new
 Did left held old new (Spawn program args) room Refused = new ≡ old
-Did left held old new (Read child) room answer = OutputGives left (output_of old child) (output_of new child) room answer × (input_of new child ≡ input_of old child)
-Did left held old new (AskEnd child) room answer = EndsAs (status_of new child) answer × (input_of new child ≡ None)
-Did left held old new (Send child bytes) room Sent = InputTakes held (input_of old child) (input_of new child) bytes × (output_of new child ≡ output_of old child)
-Did left held old new (Send child bytes) room Broken = output_of new child ≡ output_of old child
-Did left held old new (Close child) room Closed = (input_of new child ≡ None) × (output_of new child ≡ output_of old child)
-Did left held old new (Kill child) room Killed = IsSome (status_of new child)
-Did left held old new (Kill child) room Failed = Unit {0}
+Did left held old new (Read child) room answer = OutputGives left (output_of old child) (output_of new child) room answer × ChangesOutput old new child
+Did left held old new (AskEnd child) room answer = EndsAs (status_of new child) answer × KeepsEnd old new child × (input_of new child ≡ None)
+Did left held old new (Send child bytes) room Sent = InputTakes held (input_of old child) (input_of new child) bytes × ChangesInput old new child
+Did left held old new (Send child bytes) room Broken = ChangesInput old new child
+Did left held old new (Close child) room Closed = (input_of new child ≡ None) × ChangesInput old new child
+Did left held old new (Kill child) room Killed = IsSome (status_of new child) × KeepsEnd old new child × (input_of new child ≡ None)
+Did left held old new (Kill child) room Failed = KeepsEnd old new child
 Did left held old new _ room _ = ⊥
 
 -- One call: each answer that is a fault counts once, and no other answer counts; no child changes but the one that is asked.
-pub record IsCallOf {P I O E : Type 0} (left : O → Option (List ℕ)) (held : I → Option (List ℕ)) (old new : Children (Child P I O E)) (ask : Ask) (room : ℕ) (answer : Answer) : Type 0 where
+pub record IsChildCall {P I O E : Type 0} (left : O → Option (List ℕ)) (held : I → Option (List ℕ)) (old new : Children (Child P I O E)) (ask : Ask) (room : ℕ) (answer : Answer) : Type 0 where
   pub faults : new.faults ≡ faults_after answer old.faults
   pub others : IfSome (asked_child ask) (λ child. OthersStay child old.children new.children)
   pub did : Did left held old.children new.children ask room answer

@@ -2,12 +2,12 @@
 //!
 //! A read waits for the pipe and the question how a child has ended waits for the child, so this host never answers
 //! `Nothing` or `Running`. It tells no exchanges. A child that is killed, or that has ended when it is asked, is reaped.
-ghost use Rattle.std.specs.Prelude.{◌≡◌, ◌<◌, ◌-◌, ◌^◌, ℕ, List, [], map, length, None, Some, false, true, slice_get, slice_set, string_bytes, IsSome, IsTrue, IfOk, OnOk, OnErr};
+ghost use Rattle.std.specs.Prelude.{◌≡◌, ◌<◌, ◌-◌, ◌^◌, ℕ, List, [], map, length, None, Some, false, true, slice_get, slice_set, string_bytes, IsSome, IsTrue, IfSome, IfOk, OnOk, OnErr};
 ghost use Rattle.std.specs.Io.KnownBytes.{Keeps};
 ghost use Rattle.std.specs.Process.{child_status, command_program, command_args, command_var, command_dir, clears_env};
 ghost use Rattle.plain_machine.specs.Exchanges.{Spawn, Read, AskEnd, Send, Close, Kill, Closed};
 ghost use Rattle.host_link.specs.Hosts.{Asked, Exchanged, Fits, IsNumbered, after_spawn, is_fault, spawned_answer, got_answer, ended_answer, send_answer, kill_answer};
-ghost use Rattle.kernel_cli.specs.Answers.{untold, IsCallOf, Gives, InputTakes, EndsAs};
+ghost use Rattle.kernel_cli.specs.Answers.{untold, IsChildCall, Gives, InputTakes, EndsAs};
 
 use ek_types::Mem;
 use host_link::{Ended, Exchanges, Got, Host, KillAnswer, SendAnswer, Spawned};
@@ -76,6 +76,8 @@ impl<R: Processes> Drop for RealHost<'_, R> {
 /// Ends a child that may still run. One that was waited for already is left alone.
 fn kill_and_reap<P: OpenProcess>(child: &mut Child<P>) -> io::Result<()>
     ensures reaped { OnOk result (IsSome (child_status child.new)) }
+    ensures again { IfSome (child_status child.old) (λ s. child_status child.new ≡ Some s) }
+    ensures closed { OnOk result (child.new.stdin ≡ None) }
 {
     child.kill()?;
     child.wait()?;
@@ -129,6 +131,7 @@ fn waited_for<P: OpenProcess>(child: &mut Child<P>) -> io::Result<Ended>
     ensures ended { IfOk result (λ ended. EndsAs (child_status child.new) (ended_answer ended)) }
     ensures no_fault { IfOk result (λ ended. is_fault (ended_answer ended) ≡ false) }
     ensures reaped { OnOk result (IsSome (child_status child.new)) }
+    ensures again { IfSome (child_status child.old) (λ s. child_status child.new ≡ Some s) }
     ensures closed { child.new.stdin ≡ None }
 {
     match child.wait()?.code() {
@@ -140,7 +143,7 @@ fn waited_for<P: OpenProcess>(child: &mut Child<P>) -> io::Result<Ended>
 impl<'a, R: Processes> Host for RealHost<'a, R> {
     ghost state = { untold };
 
-    ghost made = { IsCallOf R.Started.Stdout.remaining R.Started.Stdin.contents };
+    ghost made = { IsChildCall R.Started.Stdout.remaining R.Started.Stdin.contents };
 
     /// Want of memory inside the system's own call counts as a refusal.
     fn spawn(&mut self, program: &str, args: &[String]) -> Mem<Spawned>
@@ -148,7 +151,7 @@ impl<'a, R: Processes> Host for RealHost<'a, R> {
         ensures asked { Asked (untold self.old) (untold self.new)
             (after_spawn self.old.kills) (Spawn program.now (map string_bytes args.now)) spawned_answer result }
         ensures number { IfOk result (IsNumbered (length self.old.kills)) }
-        ensures made { IfOk result (λ s. IsCallOf R.Started.Stdout.remaining R.Started.Stdin.contents
+        ensures made { IfOk result (λ s. IsChildCall R.Started.Stdout.remaining R.Started.Stdin.contents
             self.old self.new (Spawn program.now (map string_bytes args.now)) 0 (spawned_answer s)) }
         ensures unchanged { OnErr result (self.new ≡ self.old) }
     {
@@ -176,7 +179,7 @@ impl<'a, R: Processes> Host for RealHost<'a, R> {
             (λ _. self.old.kills) (Read child) (got_answer into.new) result }
         ensures fits { IfOk result (Fits (length into.new)) }
         ensures room_kept { OnErr result (into.new ≡ into.old) }
-        ensures made { IfOk result (λ got. IsCallOf R.Started.Stdout.remaining R.Started.Stdin.contents
+        ensures made { IfOk result (λ got. IsChildCall R.Started.Stdout.remaining R.Started.Stdin.contents
             self.old self.new (Read child) (length into.old) (got_answer into.new got)) }
         ensures unchanged { OnErr result (self.new ≡ self.old) }
     {
@@ -196,7 +199,7 @@ impl<'a, R: Processes> Host for RealHost<'a, R> {
         requires { child < length self.old.kills }
         ensures asked { Asked (untold self.old) (untold self.new)
             (λ _. self.old.kills) (AskEnd child) ended_answer result }
-        ensures made { IfOk result (λ ended. IsCallOf R.Started.Stdout.remaining R.Started.Stdin.contents
+        ensures made { IfOk result (λ ended. IsChildCall R.Started.Stdout.remaining R.Started.Stdin.contents
             self.old self.new (AskEnd child) 0 (ended_answer ended)) }
         ensures unchanged { OnErr result (self.new ≡ self.old) }
     {
@@ -213,7 +216,7 @@ impl<'a, R: Processes> Host for RealHost<'a, R> {
         requires { child < length self.old.kills }
         ensures asked { Asked (untold self.old) (untold self.new)
             (λ _. self.old.kills) (Send child bytes.now) send_answer result }
-        ensures made { IfOk result (λ sent. IsCallOf R.Started.Stdout.remaining R.Started.Stdin.contents
+        ensures made { IfOk result (λ sent. IsChildCall R.Started.Stdout.remaining R.Started.Stdin.contents
             self.old self.new (Send child bytes.now) 0 (send_answer sent)) }
         ensures unchanged { OnErr result (self.new ≡ self.old) }
     {
@@ -229,7 +232,7 @@ impl<'a, R: Processes> Host for RealHost<'a, R> {
         requires { child < length self.old.kills }
         ensures asked { Asked (untold self.old) (untold self.new)
             (λ _. self.old.kills) (Close child) (λ _. Closed) result }
-        ensures made { OnOk result (IsCallOf R.Started.Stdout.remaining R.Started.Stdin.contents
+        ensures made { OnOk result (IsChildCall R.Started.Stdout.remaining R.Started.Stdin.contents
             self.old self.new (Close child) 0 Closed) }
         ensures unchanged { OnErr result (self.new ≡ self.old) }
     {
@@ -246,7 +249,7 @@ impl<'a, R: Processes> Host for RealHost<'a, R> {
         requires { slice_get self.old.kills child ≡ Some false }
         ensures asked { Exchanged (untold self.old) (untold self.new)
             (slice_set self.old.kills child true) (Kill child) (kill_answer result) }
-        ensures made { IsCallOf R.Started.Stdout.remaining R.Started.Stdin.contents
+        ensures made { IsChildCall R.Started.Stdout.remaining R.Started.Stdin.contents
             self.old self.new (Kill child) 0 (kill_answer result) }
     {
         self.kills[child as usize] = true;
