@@ -3,11 +3,12 @@ use Rattle.std.proofs.Common.{◌≡◌, ℕ, Bool, List, [], ◌∷◌, ◌++�
 use Rattle.std.specs.declared.option.Option.{Option}
 use Rattle.plain_machine.specs.Exchanges.{Ask, Answer, Exchange, Spawn, Read}
 use Rattle.host_link.specs.Hosts.{HostState, Exchanged, IsNumbered, after_spawn, spawned_answer, got_answer}
+use Rattle.host_link.specs.Played.{kills_after}
 use Rattle.host_link.specs.declared.host.Spawned.{Spawned}
 use Rattle.host_link.specs.declared.host.Spawned.TheVariants as spawned
 use Rattle.host_link.specs.declared.host.Got.{Got}
 use Rattle.kernel_top.specs.Outside.{Adds}
-use Rattle.kernel_top.specs.HostCalls.{room_of, kills_after, IsNextChild, IsHostCall, CallsSince, Tells}
+use Rattle.kernel_top.specs.HostCalls.{room_of, IsNextChild, IsHostCall, CallsSince, Tells}
 use Rattle.kernel_top.proofs.Journeys.{AddsOne}
 
 -- WHAT A HOST TELLS
@@ -31,7 +32,7 @@ module _ {H : Type 0} (state : H → HostState) (made : H → H → Ask → ℕ 
   calls_more start old new x call [] h = (new, subst (λ s. IsHostCall state made s new x) h call, refl)
   calls_more start old new x call (y ∷ exchanges) (next, first, rest) = (next, first, calls_more next old new x call exchanges rest)
 
-  pub adds_call : (start old new : H) (children : List Bool) (ask : Ask) (answer : Answer) → children ≡ kills_after ask answer (state old).kills → IsNextChild ask answer (length (state old).kills) → Exchanged (state old) (state new) children ask answer → made old new ask (room_of ask) answer →
+  pub adds_call : (start old new : H) (children : List Bool) (ask : Ask) (answer : Answer) → children ≡ kills_after (state old).kills ask answer → IsNextChild ask answer (length (state old).kills) → Exchanged (state old) (state new) children ask answer → made old new ask (room_of ask) answer →
       AddsOne (CallsSince state made start old) (CallsSince state made start new) ask answer
   adds_call start old new children ask answer kids number exchanged said =
       calls_more start old new (record { ask = ask; answer = answer }) (record { own = said; number = number; exchanged = subst (λ l. Exchanged (state old) (state new) l ask answer) kids exchanged })
@@ -41,7 +42,7 @@ module _ {H : Type 0} (state : H → HostState) (made : H → H → Ask → ℕ 
   adds_spawn start old new program args s numbered exchanged said =
       adds_call start old new (after_spawn (state old).kills s) (Spawn program args) (spawned_answer s) (by s) (next s numbered) exchanged said
     where
-      by : (s : Spawned) → after_spawn (state old).kills s ≡ kills_after (Spawn program args) (spawned_answer s) (state old).kills
+      by : (s : Spawned) → after_spawn (state old).kills s ≡ kills_after (state old).kills (Spawn program args) (spawned_answer s)
       by (spawned.Started child) = refl
       by spawned.Refused = refl
 
