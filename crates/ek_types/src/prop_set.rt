@@ -103,6 +103,14 @@ impl PropSet {
         }
     }
 
+    /// The set of these properties, which stand by rising number of the name, each name once and no value nil.
+    pub fn of_rising(pairs: Vec<(Sym, PropVal)>) -> PropSet
+        requires { IsProper (map pair_of pairs.items) }
+        ensures { result ≡ map pair_of pairs.items }
+    {
+        PropSet { pairs }
+    }
+
     /// How many properties there are.
     pub fn len(&self) -> usize
         ensures exact { result ≡ length self.now }

@@ -24,7 +24,7 @@ use Rattle.plain_machine.specs.Refusals.{process_tests, must_be_word, most_proce
 use Rattle.plain_machine.specs.Calls.{unless_fault, process_effect, spawned, spawned_child, started, is_new_child, silent}
 use Rattle.plain_machine.specs.Step.{step}
 use Rattle.plain_machine.specs.Run.{Reaches, stays, goes}
-use Rattle.script_read.specs.GrammarSoFar.{IsBufferSoFar}
+use Rattle.kernel_top.specs.SoFar.{IsBufferSoFar}
 use Rattle.process_table.specs.Table.{StandsFor, kept, new_process}
 use Rattle.ek_types.specs.Io.{SinkState}
 use Rattle.kernel_top.specs.Plain.{Kernel, characters, with_process, asked_more, reply_item}

@@ -29,5 +29,5 @@ pub mod Sound
 pub mod Started
 pub mod Starts
 pub mod Taking
-pub mod TopForms
+pub mod Tested
 pub mod Turning

@@ -7,7 +7,7 @@ use Rattle.text_model.specs.Properties.{bare}
 use Rattle.editor_model.specs.Values.{Insert, GotoChar, DeleteRegion, StartProcess, AcceptProcessOutput, Nil, Int, Str, plain, Const, Do}
 use Rattle.editor_model.specs.Values as model
 use Rattle.ek_types.specs.Listing.{items_of}
-use Rattle.script_read.specs.GrammarSoFar.{IsCallSoFar, inserts, goes, deletes, starts, waits, waits_for, call_on}
+use Rattle.kernel_top.specs.SoFar.{IsCallSoFar, inserts, goes, deletes, starts, waits, waits_for, call_on}
 use Rattle.ek_call.specs.Meaning.{arg_of, call_of, form_of, joined}
 use Rattle.ek_call.specs.Primitives.{prim_of}
 use Rattle.ek_call.specs.declared.call.Arg.{Arg}
@@ -16,7 +16,7 @@ use Rattle.ek_call.specs.declared.form.Form.{Form}
 use Rattle.ek_call.specs.declared.primitive.Primitive.TheVariants as written
 use Rattle.kernel_top.specs.Answers.{called}
 use Rattle.kernel_top.specs.Calls.{AreOfStart, AreRounds}
-use Rattle.kernel_top.specs.Forms.{IsFormSoFar, AreFormsSoFar}
+use Rattle.kernel_top.specs.SoFar.{IsFormSoFar, AreFormsSoFar}
 
 -- an argument of a call whose arguments are known
 arg_at : (call : Call) (i : ℕ) (arg : Arg) → slice_get (items_of call.args) i ≡ Some arg → slice_get (call_of call).args i ≡ Some (arg_of arg)

@@ -7,7 +7,7 @@ use Rattle.editor_model.specs.Values.{Value, Const}
 use Rattle.editor_model.specs.Editor.{Name}
 use Rattle.plain_machine.specs.State.{Process}
 use Rattle.plain_machine.specs.Exchanges.{Spawn, Answer as Told}
-use Rattle.script_read.specs.GrammarSoFar.{IsBufferSoFar}
+use Rattle.kernel_top.specs.SoFar.{IsBufferSoFar}
 use Rattle.process_table.specs.Table.{StandsFor, kept, new_process}
 use Rattle.ek_call.specs.declared.fault.Fault.{Fault}
 use Rattle.kernel_top.specs.Outside.{Past}

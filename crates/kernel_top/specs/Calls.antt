@@ -6,7 +6,7 @@ use Rattle.editor_model.specs.Values.{Value, Nil, Int, plain, Prim, Arg, Const, 
 use Rattle.plain_machine.specs.State.{Process, Program}
 use Rattle.plain_machine.specs.Items.{Item, Top, Wait, Waiting, Nowhere}
 use Rattle.plain_machine.specs.Refusals.{rounds_of, most_rounds}
-use Rattle.script_read.specs.GrammarSoFar.{IsBufferSoFar}
+use Rattle.kernel_top.specs.SoFar.{IsBufferSoFar}
 use Rattle.process_table.specs.Table.{StandsFor}
 use Rattle.kernel_top.specs.Plain.{Kernel, reply_item}
 use Rattle.kernel_top.specs.Answers.{called, replied}

@@ -1,7 +1,7 @@
 pub mod Answers
 pub mod Calls
 pub mod Ending
-pub mod Forms
+pub mod SoFar
 pub mod Hearing
 pub mod HostCalls
 pub mod Outcomes

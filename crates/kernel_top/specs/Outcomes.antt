@@ -1,12 +1,12 @@
 -- What the top call claims, by its status: of the bytes read, of the bytes written, and of the exchanges made.
-use Rattle.std.specs.Prelude.{◌≡◌, ℕ, ◌<◌, ◌≤◌, true, false, All, List, [], ◌∷◌, ◌++◌, length, codes, slice_get, ◌⊎◌, Option, Some, None}
+use Rattle.std.specs.Prelude.{◌≡◌, ℕ, ◌<◌, ◌≤◌, true, false, not, IsTrue, All, List, [], ◌∷◌, ◌++◌, length, codes, slice_get, ◌⊎◌, Option, Some, None}
 use Rattle.std.specs.Io.KnownBytes.{IsAtEnd}
 use Rattle.editor_model.specs.Values.{Script}
 use Rattle.plain_machine.specs.Exchanges.{Exchange, children_started}
 use Rattle.plain_machine.specs.State.{Program}
 use Rattle.plain_machine.specs.Items.{Said}
 use Rattle.plain_machine.specs.Symbols.{program_of}
-use Rattle.plain_machine.specs.Grammar.{longest_script}
+use Rattle.plain_machine.specs.Grammar.{longest_script, IsScript, IsFaultLine}
 use Rattle.plain_machine.specs.Run.{lines, start}
 use Rattle.plain_machine.specs.WholeRuns.{Ran, BrokenOff}
 use Rattle.machine_laws.specs.Entries.{entered, heard, is_entry, has_entry}
@@ -14,7 +14,7 @@ use Rattle.ek_types.specs.Io.{SinkState}
 use Rattle.host_link.specs.Hosts.{HostState}
 use Rattle.kernel_top.specs.Outside.{deepest, CameTo}
 use Rattle.kernel_top.specs.Ending.{IsAnsweredKill}
-use Rattle.script_read.specs.GrammarSoFar.{IsScriptSoFar, IsNoScript}
+use Rattle.kernel_top.specs.SoFar.{is_so_far, IsScriptSoFar, IsNoScript}
 use Rattle.kernel_top.specs.declared.status.Status.{Status}
 use Rattle.kernel_top.specs.declared.status.Status.TheVariants as status
 use Rattle.kernel_top.specs.declared.answer.EarlyEnd.{EarlyEnd}
@@ -60,6 +60,12 @@ pub record StoppedScript (early : EarlyEnd) (script : Script) (exchanges : List 
 abbrev pub OfScript : List ℕ → (Script → Type 0) → Type 0
 OfScript bytes So = (script : Script) × IsScriptSoFar bytes script × So script
 
+-- Where the bytes are no script, the line is that of the fault; it is 0 for a script that the kernel can't run so far.
+abbrev pub IsRefusedAt : List ℕ → (line : ℕ) → Type 0
+IsRefusedAt bytes line =
+    (((script : Script) → IsScript bytes script → ⊥) × IsFaultLine bytes line) ⊎
+    ((script : Script) × IsScript bytes script × IsTrue (not (is_so_far script)) × (line ≡ 0))
+
 -- what a sink and a host mean
 pub record Seen : Type 0 where
   pub sink : SinkState
@@ -76,7 +82,7 @@ Outcome status.Done words read written exchanges ended before now =
 Outcome status.Usage words read written exchanges ended before now =
     (IsRun words → ⊥) × (read ≡ []) × (written ≡ []) × (exchanges ≡ []) × (now ≡ before)
 Outcome (status.Script line) words read written exchanges ended before now =
-    IsRun words × (ended ⊎ (longest_script < length read)) × IsNoScript read × (line ≡ 0) × (written ≡ []) × (exchanges ≡ []) × (now ≡ before)
+    IsRun words × (ended ⊎ (longest_script < length read)) × IsNoScript read × IsRefusedAt read line × (written ≡ []) × (exchanges ≡ []) × (now ≡ before)
 Outcome status.ReadFault words read written exchanges ended before now =
     IsRun words × (written ≡ []) × (exchanges ≡ []) × (now ≡ before)
 Outcome status.WriteFault words read written exchanges ended before now =

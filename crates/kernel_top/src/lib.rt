@@ -11,6 +11,7 @@ mod handlers;
 mod hearing;
 mod kernel;
 mod print;
+mod so_far;
 mod starting;
 mod status;
 mod top;

@@ -4,13 +4,14 @@ ghost use Rattle.std.specs.Io.KnownBytes.{Consumes, Appends};
 ghost use Rattle.editor_model.specs.Values.{Script as Meant};
 ghost use Rattle.plain_machine.specs.Grammar.{longest_script};
 ghost use Rattle.ek_types.specs.Io.{HasCause, Rose};
-ghost use Rattle.script_read.specs.GrammarSoFar.{IsScriptSoFar};
+ghost use Rattle.kernel_top.specs.SoFar.{IsScriptSoFar};
 ghost use Rattle.plain_machine.specs.Exchanges.{Exchange};
 ghost use Rattle.kernel_top.specs.HostCalls.{CallsSince, Tells};
 ghost use Rattle.kernel_top.specs.Outcomes.{IsRun, HasEnded, seen, Outcome};
 
 use crate::answer::EarlyEnd;
 use crate::forms::run_script;
+use crate::so_far::is_so_far;
 use crate::status::Status;
 use ek_types::{Sink, Source, Took};
 use host_link::Host;
@@ -78,14 +79,18 @@ fn run_bytes<K: Sink, H: Host>(alloc: Global, bytes: &[u8], host: &mut H, sink: 
     ensures no_read { result ≡ Status.ReadFault → ⊥ }
     ensures write_fault { HasCause (K.state sink.old).faults (K.state sink.new).faults (result ≡ Status.WriteFault) }
 {
-    match read(alloc, bytes) {
-        Ok(script) => match run_script(alloc, &script, host, sink) {
-            Ok(()) => Status::Done,
-            Err(EarlyEnd::WriteFault) => Status::WriteFault,
-            Err(EarlyEnd::NoMemory) => Status::NoMemory,
-        },
-        Err(ScriptFault::Line(line)) => Status::Script(line),
-        Err(ScriptFault::NoMemory) => Status::NoMemory,
+    let script = match read(alloc, bytes) {
+        Ok(script) => script,
+        Err(ScriptFault::Line(line)) => return Status::Script(line),
+        Err(ScriptFault::NoMemory) => return Status::NoMemory,
+    };
+    if !is_so_far(&script) {
+        return Status::Script(0);
+    }
+    match run_script(alloc, &script, host, sink) {
+        Ok(()) => Status::Done,
+        Err(EarlyEnd::WriteFault) => Status::WriteFault,
+        Err(EarlyEnd::NoMemory) => Status::NoMemory,
     }
 }
 
@@ -128,7 +133,8 @@ fn run_words<S: Source, K: Sink, H: Host>(
 /// run whose write fails stops at that line; the children that live are killed then, each once.
 ///
 /// The source doesn't fail where it is known not to (`unfailing`), nor the sink where it has room for what the run says.
-/// No more than one byte behind the longest script, of 1,048,576 bytes, is asked of the source.
+/// No more than one byte behind the longest script, of 1,048,576 bytes, is asked of the source. Bytes that are no script
+/// are answered by `Script` with the line of the fault, and a script that the kernel can't run so far by line 0.
 pub fn run<S: Source, K: Sink, H: Host>(
     alloc: Global,
     words: &[String],

@@ -1,0 +1,86 @@
+#!/bin/sh
+# How many bytes of a script are read in a second, and how the time grows with their number: short forms, one long string,
+# and a body of blocks 16 deep, each at half the length and at the whole. Where emacs is installed, `emacs -Q --batch` reads
+# the same text by `read` until its end.
+#
+#     bench/script_read.sh [BYTES]        (1048576 if none is given)
+set -eu
+
+. "$(dirname "$0")/common.sh"
+bytes=${1:-1048576}
+
+# forms SIZE: short forms of this many bytes or a few less
+forms() {
+    yes '(goto-char 1)' | head -n $(($1 / 14))
+}
+
+# string SIZE: one call whose string fills the script
+string() {
+    printf '(insert "'
+    head -c $(($1 - 12)) /dev/zero | tr '\0' a
+    printf '")\n'
+}
+
+# nested SIZE: bodies of blocks 16 deep
+nested() {
+    yes '(save-excursion (save-excursion (save-excursion (save-excursion (save-excursion (save-excursion (save-excursion (save-excursion (save-excursion (save-excursion (save-excursion (save-excursion (save-excursion (save-excursion (save-excursion (save-excursion (point)))))))))))))))))' |
+        head -n $(($1 / 282))
+}
+
+for way in forms string nested; do
+    $way $((bytes / 2)) > "$work/$way.half"
+    $way "$bytes" > "$work/$way.whole"
+done
+
+scratch_program bench_scripts ek_types ek_call script_read <<'PROGRAM'
+//! Scripts that are read, each ten times.
+#![tactic(auto)]
+
+use script_read::read;
+use std::time::Instant;
+use std::{env, fs, io};
+
+const TIMES: u32 = 10;
+
+fn reading(rt: &HostRuntime, path: &str) -> io::Result<()> {
+    let bytes = fs::read(rt, path)?;
+    let start = Instant::now(rt)?;
+    let mut scripts = 0;
+    for _ in 0..TIMES {
+        if read(rt.alloc(), bytes.as_slice()).is_ok() {
+            scripts += 1;
+        }
+    }
+    let time = start.elapsed(rt)?.as_micros();
+    println!(rt; "{path}: {} bytes, {scripts} times read in {time} us", bytes.len())
+}
+
+fn main(rt: HostRuntime) -> io::Result<()> {
+    for path in env::args(&rt)? {
+        reading(&rt, path.as_str())?;
+    }
+    Ok(())
+}
+PROGRAM
+
+export RT_SECONDS=3600
+for way in forms string nested; do
+    quietly rt try -- "$work/$way.half" "$work/$way.whole"
+done
+
+if command -v emacs > /dev/null; then
+    for way in forms string nested; do
+        for part in half whole; do
+            SCRIPT="$work/$way.$part" emacs -Q --batch --eval '
+(with-temp-buffer
+  (insert-file-contents (getenv "SCRIPT"))
+  (let ((start (float-time)))
+    (dotimes (_ 10)
+      (goto-char 1)
+      (while (ignore-errors (read (current-buffer)))))
+    (princ (format "emacs %s: %d us\n" (getenv "SCRIPT") (* 1000000 (- (float-time) start))))))'
+        done
+    done
+else
+    echo "emacs is not installed here"
+fi
