@@ -14,3 +14,4 @@ pub mod Elsewhere
 pub mod Returning
 pub mod UndoLemmas
 pub mod Applying
+pub mod Laws

@@ -4,13 +4,17 @@ ghost use Rattle.text_model.specs.Places.{after_insert};
 ghost use Rattle.text_model.specs.Commit.{inserted, deleted, replaced};
 ghost use Rattle.gap_text.specs.Text.{LiesIn};
 ghost use Rattle.buffer_core.specs.Blocks.{ChangesBlocks};
-ghost use Rattle.buffer_core.specs.Meaning.{site_of};
+ghost use Rattle.text_model.specs.Ordered.{AreOrdered};
+ghost use Rattle.machine_laws.specs.Boundaries.{KeepsBoundaries};
+ghost use Rattle.machine_laws.specs.Good.{Good};
+ghost use Rattle.buffer_core.specs.Meaning.{buffer_of, site_of};
 ghost use Rattle.buffer_core.specs.Standing.{AreWithin};
 
 use crate::buffer::Buffer;
 use crate::marks::Marks;
 use crate::recording::{deletion_records, push_all, push_first, push_reserved};
 use ek_types::{Chars, Mem, Piece, place_after_insert};
+use machine_laws::replacing_keeps_boundaries;
 use narrow_region::Bounds;
 use text_pool::Pool;
 use undo_list::Rec;
@@ -112,7 +116,38 @@ impl Buffer {
     /// Takes the part from `from` to before `to` out, or puts a piece in there: only one of the two can be something. `all`
     /// markers and overlays at the place of an insertion advance, and point there does. The pending records are dropped where
     /// something changes. A refusal leaves all as it was, but for spare room.
+    ///
+    /// Undoing all that is newer than a boundary that still stands gives the same text as before.
     pub fn replace(
+        &mut self,
+        id: u32,
+        from: usize,
+        to: usize,
+        with: &Piece,
+        all: bool,
+        marks: &mut Marks,
+        pool: &mut Pool,
+    ) -> Mem<()>
+        requires lies { LiesIn pool.old self.old.text }
+        requires order { from ≤ to }
+        requires range { to ≤ length self.old.sets }
+        requires one { (from ≡ to) ⊎ (with.now ≡ []) }
+        requires marks { AreWithin id (length self.old.sets) marks.old }
+        ensures lies { LiesIn pool.new self.new.text }
+        ensures ok { OnOk result (site_of pool.new self.new marks.new ≡ replaced id from to with.now all (site_of pool.old self.old marks.old)) }
+        ensures err { OnErr result (site_of pool.new self.new marks.new ≡ site_of pool.old self.old marks.old) }
+        ensures marks { AreWithin id (length self.new.sets) marks.new }
+        ensures blocks { ChangesBlocks self.old.text.blocks self.new.text.blocks pool.old pool.new }
+        ensures undo { AreOrdered with.now → Good (buffer_of pool.old self.old) → OnOk result (KeepsBoundaries (buffer_of pool.old self.old) (buffer_of pool.new self.new)) }
+    {
+        replacing_keeps_boundaries();
+        // Read for what it ensures: there is a property set for each character.
+        let _bounds = self.bounds();
+        self.replace_text(id, from, to, with, all, marks, pool)
+    }
+
+    /// The same, without what it means for undo.
+    fn replace_text(
         &mut self,
         id: u32,
         from: usize,

@@ -2,7 +2,9 @@
 ghost use Rattle.std.specs.Prelude.{◌≡◌, ◌≢◌, ℕ, ◌<◌, ◌≤◌, List, [], ◌∷◌, ◌++◌, length, map, take, drop, option_map, slice_get, All, IfSome, IfOk, OnOk, OnErr};
 ghost use Rattle.std.specs.List.{filter_map};
 ghost use Rattle.text_model.specs.Properties.{Cell, get, edited};
-ghost use Rattle.text_model.specs.Ordered.{IsValue};
+ghost use Rattle.text_model.specs.Ordered.{IsValue, GivesOrdered};
+ghost use Rattle.machine_laws.specs.Boundaries.{KeepsBoundaries};
+ghost use Rattle.machine_laws.specs.Good.{Good};
 ghost use Rattle.text_model.specs.Commit.{property_records, stretch_record, with_properties, reset};
 ghost use Rattle.text_pool.specs.Pool.{Pooled};
 ghost use Rattle.gap_text.specs.Text.{LiesIn};
@@ -17,6 +19,7 @@ use crate::buffer::Buffer;
 use crate::names::touched;
 use crate::recording::{push_all, push_first};
 use ek_types::{Copied, Mem, PropVal, Sym, same_option};
+use machine_laws::changing_properties_keeps_boundaries;
 use prop_intervals::{PropEdit, Props};
 use std::alloc::Global;
 use undo_list::Rec;
@@ -154,7 +157,24 @@ impl Buffer {
 
     /// Changes the properties of the characters from `from` to before `to`, and says whether that changed something: then
     /// it is recorded, and the pending records are dropped. A refusal leaves the buffer as it was.
+    ///
+    /// Undoing all that is newer than a boundary that still stands gives the same text as before.
     pub fn reprop(&mut self, from: usize, to: usize, edit: &PropEdit) -> Mem<bool>
+        requires order { from ≤ to }
+        requires range { to ≤ length self.old.sets }
+        ensures text { self.new.text ≡ self.old.text }
+        ensures size { length self.new.sets ≡ length self.old.sets }
+        ensures ok { (pool : Pooled) → LiesIn pool self.old.text → OnOk result (buffer_of pool self.new ≡ reset (edit_of edit.now) from to (buffer_of pool self.old)) }
+        ensures changed { (pool : Pooled) → LiesIn pool self.old.text → IfOk result (λ b. b ≡ is_some_record (property_records (edit_of edit.now) from to (buffer_of pool self.old).text)) }
+        ensures err { (pool : Pooled) → OnErr result (buffer_of pool self.new ≡ buffer_of pool self.old) }
+        ensures undo { (pool : Pooled) → LiesIn pool self.old.text → GivesOrdered (edit_of edit.now) → Good (buffer_of pool self.old) → OnOk result (KeepsBoundaries (buffer_of pool self.old) (buffer_of pool self.new)) }
+    {
+        changing_properties_keeps_boundaries();
+        self.reset_properties(from, to, edit)
+    }
+
+    /// The same, without what it means for undo.
+    fn reset_properties(&mut self, from: usize, to: usize, edit: &PropEdit) -> Mem<bool>
         requires order { from ≤ to }
         requires range { to ≤ length self.old.sets }
         ensures text { self.new.text ≡ self.old.text }

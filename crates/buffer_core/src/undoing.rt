@@ -1,6 +1,8 @@
 //! Undoing.
 ghost use Rattle.std.specs.Prelude.{◌≡◌, ℕ, ◌+◌, ◌<◌, ◌≤◌, true, [], length, Ok, None, drop, take, IfOk, OnOk, OnErr, slice_get, IfSome, All, option_map};
 ghost use Rattle.text_model.specs.Ordered.{IsValue};
+ghost use Rattle.machine_laws.specs.Boundaries.{KeepsBoundaries};
+ghost use Rattle.machine_laws.specs.Good.{Good};
 ghost use Rattle.text_model.specs.Undo.{lies_inside, passed, trial, Deleted};
 ghost use Rattle.text_model.specs.Commit.{undo_one, undo_each, undone_groups, moves_behind, deleted, set_point};
 ghost use Rattle.gap_text.specs.Text.{LiesIn};
@@ -16,6 +18,7 @@ use crate::buffer::Buffer;
 use crate::marks::Marks;
 use crate::moving_back::{standing_moves, take_all_back};
 use ek_types::{Mem, Piece, PropSet, PropVal, Sym, SymList};
+use machine_laws::undoing_keeps_boundaries;
 use narrow_region::Bounds;
 use prop_intervals::PropEdit;
 use std::alloc::Global;
@@ -209,6 +212,8 @@ impl Buffer {
     /// Undoes the records of a plan that the undo records of this buffer give for its accessible portion: passes them, then
     /// undoes the newest first. It works on copies: a refusal leaves all as it was, but for spare room in the pool. It takes
     /// time in proportion to the records, the text and the marks.
+    ///
+    /// Undoing all that is newer than a boundary that still stands gives the same text as before.
     pub fn apply_plan(
         &mut self,
         id: u32,
@@ -216,6 +221,26 @@ impl Buffer {
         marks: &mut Marks,
         pool: &mut Pool,
     ) -> Mem<()>
+        requires lies { LiesIn pool.old self.old.text }
+        requires marks { AreWithin id (length self.old.sets) marks.old }
+        requires plan { (groups : ℕ) × (1 ≤ groups) × (planned groups self.old.begin self.old.end self.old.undo.state ≡ Ok plan.now) }
+        ensures lies { LiesIn pool.new self.new.text }
+        ensures ok { (groups : ℕ) → 1 ≤ groups → planned groups self.old.begin self.old.end self.old.undo.state ≡ Ok plan.now → OnOk result (site_of pool.new self.new marks.new ≡ undone_groups id (passed groups self.old.undo.state) (site_of pool.old self.old marks.old)) }
+        ensures err { OnErr result (site_of pool.new self.new marks.new ≡ site_of pool.old self.old marks.old) }
+        ensures marks { AreWithin id (length self.new.sets) marks.new }
+        ensures blocks { ChangesBlocks self.old.text.blocks self.new.text.blocks pool.old pool.new }
+        ensures undo { Good (buffer_of pool.old self.old) → OnOk result (KeepsBoundaries (buffer_of pool.old self.old) (buffer_of pool.new self.new)) }
+    {
+        undoing_keeps_boundaries();
+        // Read for what it ensures: the accessible portion lies in the text.
+        let _bounds = self.bounds();
+        // Read for what it ensures: the trial of the plan met nothing outside.
+        let _passed = self.undo().passed(plan);
+        self.undo_groups(id, plan, marks, pool)
+    }
+
+    /// The same, without what it means for undo.
+    fn undo_groups(&mut self, id: u32, plan: &Plan, marks: &mut Marks, pool: &mut Pool) -> Mem<()>
         requires lies { LiesIn pool.old self.old.text }
         requires marks { AreWithin id (length self.old.sets) marks.old }
         requires plan { (groups : ℕ) × (1 ≤ groups) × (planned groups self.old.begin self.old.end self.old.undo.state ≡ Ok plan.now) }
