@@ -7,3 +7,5 @@ pub mod Pieces
 pub mod Putting
 pub mod Naming
 pub mod InTurn
+mod InOrder
+mod Appending

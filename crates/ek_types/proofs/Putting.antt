@@ -75,10 +75,10 @@ start_behind low [] k d h = absurd (omega arith)
 start_behind low (r ∷ runs) zero d h = refl
 start_behind low (r ∷ runs) (suc k) d h = start_behind r.end runs k d (omega arith)
 
-ends_in : (place : ℕ) (r : Run) (runs : List Run) → nat_le r.end place ≡ true → prefix_len (ends_by place) (r ∷ runs) ≡ suc (prefix_len (ends_by place) runs)
+pub ends_in : (place : ℕ) (r : Run) (runs : List Run) → nat_le r.end place ≡ true → prefix_len (ends_by place) (r ∷ runs) ≡ suc (prefix_len (ends_by place) runs)
 ends_in place r runs e = let more : 1 + prefix_len (ends_by place) runs ≡ suc (prefix_len (ends_by place) runs) = omega arith in rw e more
 
-ends_out : (place : ℕ) (r : Run) (runs : List Run) → nat_le r.end place ≡ false → prefix_len (ends_by place) (r ∷ runs) ≡ 0
+pub ends_out : (place : ℕ) (r : Run) (runs : List Run) → nat_le r.end place ≡ false → prefix_len (ends_by place) (r ∷ runs) ≡ 0
 ends_out place r runs e = rw e refl
 
 -- a place in the list with what passes a test in front of it alone is the count of what passes at the front

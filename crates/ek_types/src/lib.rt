@@ -12,6 +12,7 @@ mod piece;
 mod places;
 mod prop_set;
 mod property;
+mod same;
 mod symbol;
 #[cfg(test)]
 mod tests;
@@ -27,5 +28,6 @@ pub use piece::Piece;
 pub use places::{place_after_delete, place_after_insert};
 pub use prop_set::PropSet;
 pub use property::{PropVal, SymList};
+pub use same::same_option;
 pub use symbol::{Sym, Symbols};
 pub use writing::{put, write_all};

@@ -1,15 +1,15 @@
 //! Pieces of text: characters with their properties.
-ghost use Rattle.std.specs.Prelude.{◌≡◌, ℕ, ◌<◌, ◌≤◌, length, [], ◌++◌, IfOk, OnOk, OnErr, slice_get, Some, option_map, ◌==◌};
+ghost use Rattle.std.specs.Prelude.{◌≡◌, ℕ, ◌+◌, ◌<◌, ◌≤◌, length, map, [], ◌++◌, IfOk, OnOk, OnErr, slice_get, Some, option_map, ◌==◌};
 ghost use Rattle.std.specs.List.{prefix_len};
 ghost use Rattle.text_model.specs.Properties.{bare, with_sets, edited, Replace};
 ghost use Rattle.text_model.specs.Characters.{IsCharacter};
 ghost use Rattle.ek_types.specs.Seen.{ch_of};
-ghost use Rattle.ek_types.specs.Runs.{AreRising, start_of, ends_by, set_at, rest_to};
+ghost use Rattle.ek_types.specs.Runs.{AreRising, start_of, ends_by, set_at, rest_to, later_runs};
 
 use crate::character::Ch;
 use crate::chars::Chars;
 use crate::list::Copied;
-use crate::memory::Mem;
+use crate::memory::{Mem, NoMemory};
 use crate::prop_set::PropSet;
 use std::alloc::Global;
 use std::marker::Model;
@@ -123,6 +123,30 @@ fn rest_of(
     Ok(rest)
 }
 
+/// Puts copies of some runs behind others, each to end `by` places later.
+fn add_later(runs: &mut Vec<Run>, from: &[Run], by: usize) -> Mem<()>
+    ensures { OnOk result (runs.new.items ≡ runs.old.items ++ later_runs by from.now) }
+{
+    for run in from {
+        let Some(end) = by.checked_add(run.end) else {
+            return Err(NoMemory);
+        };
+        let set = run.set.copy()?;
+        runs.push(Run { end, set })?;
+    }
+    Ok(())
+}
+
+/// Puts the characters of one text behind those of another, with no memory taken.
+fn add_text(text: &mut Chars, more: &Chars)
+    requires { length more.now.items ≤ text.old.spare }
+    ensures { text.new.items ≡ text.old.items ++ more.now.items }
+{
+    for i in 0..more.len() {
+        text.push_spare(more.at(i));
+    }
+}
+
 impl Piece {
     /// The characters without properties. It takes no memory.
     pub fn plain(alloc: Global, text: Chars) -> Piece
@@ -158,12 +182,49 @@ impl Piece {
         self.text.at(i)
     }
 
+    /// The characters without their properties. They are lent, and nothing is copied.
+    pub fn text(&self) -> &Chars
+        ensures { result.now.items ≡ map (λ c. c.0) self.now }
+    {
+        &self.text
+    }
+
     /// The property set of the character at place `i`, which is below the length.
     pub fn props(&self, i: usize) -> &PropSet
         requires { i < length self.now }
         ensures { option_map (λ c. c.1) (slice_get self.now i) ≡ Some result.now }
     {
         set_of(&self.runs, &self.nothing, ending_by(&self.runs, i))
+    }
+
+    /// A place behind `i`, which is below the length, up to which each character has the property set of that at `i`. It
+    /// need not be the last such place.
+    pub fn run_end(&self, i: usize) -> usize
+        requires { i < length self.now }
+        ensures behind { i < result }
+        ensures within { result ≤ length self.now }
+        ensures same { (j : ℕ) → i ≤ j → j < result → option_map (λ c. c.1) (slice_get self.now j) ≡ option_map (λ c. c.1) (slice_get self.now i) }
+    {
+        match self.runs.get(ending_by(&self.runs, i)) {
+            Some(run) => run.end,
+            None => self.text.len(),
+        }
+    }
+
+    /// Puts the characters of another piece behind these, with their properties. Want of memory leaves the piece as it was.
+    pub fn append(&mut self, more: &Piece) -> Mem<()>
+        ensures ok { OnOk result (self.new ≡ self.old ++ more.now) }
+        ensures err { OnErr result (self.new ≡ self.old) }
+    {
+        let size = self.text.len();
+        let count = self.runs.len();
+        let alloc = *self.runs.allocator();
+        let mut new = rest_of(alloc, &self.runs, &self.nothing, count, size)?;
+        add_later(&mut new, &more.runs, size)?;
+        self.text.reserve(more.text.len())?;
+        self.runs.splice(count..count, new)?;
+        add_text(&mut self.text, &more.text);
+        Ok(())
     }
 
     /// Gives each character from place `from` to the one before place `to` this property set in place of its own. `from`

@@ -6,7 +6,6 @@ ghost use Rattle.prop_intervals.specs.Runs.{size, sets_of, AreApart};
 
 use crate::edit::PropEdit;
 use crate::pieces::pushed;
-use crate::same::same_set;
 use crate::tree::Tree;
 use ek_types::Mem;
 use std::alloc::Global;
@@ -39,7 +38,7 @@ pub(crate) fn edited_runs(
         let run = tree.find(i);
         let end = run.end.min(to);
         let new = edit.edited(run.set)?;
-        changed |= !same_set(run.set, &new);
+        changed |= !run.set.same(&new);
         runs = pushed(alloc, runs, new, end - i)?;
         i = end;
     }

@@ -4,7 +4,6 @@ ghost use Rattle.prop_intervals.specs.Runs.{size, before, behind, in_front, glue
 ghost use Rattle.prop_intervals.specs.Tree.{run_of};
 
 use crate::balance::join;
-use crate::same::same_set;
 use crate::tree::{Link, Node, Tree, take_sides};
 
 /// The runs in front of a place, and those from it on. The spare, which has the set that stands at the place, takes
@@ -108,7 +107,7 @@ fn meet(front: Tree, last: Box<Node>, first: Box<Node>, back: Tree) -> Tree
     requires { size front + last.value.len + first.value.len + size back < 2 ^ 64 }
     ensures { result ≡ front ++ in_front (run_of last.value) (run_of first.value ∷ back) }
 {
-    if same_set(&last.set, &first.set) {
+    if last.set.same(&first.set) {
         let mut last = last;
         last.len += first.len;
         join(front, last, back)

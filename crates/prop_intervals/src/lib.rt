@@ -9,7 +9,6 @@ mod laws;
 mod pieces;
 mod props;
 mod questions;
-mod same;
 mod splice;
 #[cfg(test)]
 mod tests;

@@ -6,7 +6,6 @@ ghost use Rattle.prop_intervals.specs.Sets.{sets_in};
 
 use crate::balance::join;
 use crate::cut::glue;
-use crate::same::same_set;
 use crate::tree::{Tree, alone};
 use ek_types::{Mem, Piece, PropSet};
 use std::alloc::Global;
@@ -16,7 +15,7 @@ pub(crate) fn is_all(piece: &Piece, set: &PropSet) -> bool
     ensures { result ≡ true → sets_in piece.now ≡ replicate (length piece.now) set.now }
 {
     for i in 0..piece.len() {
-        if !same_set(set, piece.props(i)) {
+        if !set.same(piece.props(i)) {
             return false;
         }
     }
@@ -33,7 +32,7 @@ fn end_of_run(piece: &Piece, i: usize) -> usize
     let n = piece.len();
     let set = piece.props(i);
     for j in i + 1..n {
-        if !same_set(set, piece.props(j)) {
+        if !set.same(piece.props(j)) {
             return j;
         }
     }

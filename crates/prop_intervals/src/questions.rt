@@ -5,16 +5,15 @@ ghost use Rattle.ek_types.specs.Property.{number_of};
 ghost use Rattle.prop_intervals.specs.Runs.{size, sets_of};
 ghost use Rattle.prop_intervals.specs.Sets.{changes_of, same_by};
 
-use crate::same::{same_option, same_set};
 use crate::tree::Tree;
-use ek_types::{PropSet, Sym};
+use ek_types::{PropSet, Sym, same_option};
 
 /// Whether two sets differ, or only the values of one property.
 fn differ(a: &PropSet, b: &PropSet, name: Option<Sym>) -> bool
     ensures { result ≡ not (same_by (option_map number_of name) a.now b.now) }
 {
     match name {
-        None => !same_set(a, b),
+        None => !a.same(b),
         Some(name) => !same_option(a.get(name), b.get(name)),
     }
 }

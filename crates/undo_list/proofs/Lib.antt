@@ -4,3 +4,4 @@ pub mod Seeing
 pub mod Finding
 pub mod Walking
 pub mod Groups
+pub mod Passing

@@ -165,10 +165,44 @@ oldest-groups (suc n) k e es h = go (is_boundary e.what) refl
     go true i = rw (groups-boundary n e es i) refl
     go false i = rw (groups-other n e es i) refl
 
-pub pass-planned : (n min max : ℕ) (u : Undo) (plan : Plan) → 1 ≤ n → planned n min max u ≡ Ok plan → record u { pending_below = plan.last } ≡ pass (passed n u) u
-pass-planned n min max u plan some h = ap (λ k. record u { pending_below = k }) (sym (go u.on (pending u) h))
+pub oldest-planned : (n min max k : ℕ) (u : Undo) (plan : Plan) → 1 ≤ n → planned n min max u ≡ Ok plan → oldest k (passed n u) ≡ plan.last
+oldest-planned n min max k u plan some h = go u.on (pending u) h
   where
-    go : (on : Bool) (l : List Entry) → ◌≡◌ {A = Result Plan Refused} (elim on [ true ↦ planned_from n min max l | false ↦ Err Disabled ]) (Ok plan) → oldest u.pending_below (groups n l) ≡ plan.last
+    go : (on : Bool) (l : List Entry) → ◌≡◌ {A = Result Plan Refused} (elim on [ true ↦ planned_from n min max l | false ↦ Err Disabled ]) (Ok plan) → oldest k (groups n l) ≡ plan.last
     go false l h = cc
     go true [] h = cc
-    go true (e ∷ es) h = oldest-groups n u.pending_below e es some ∙ last-planned e.serial (groups n (e ∷ es)) _ plan h
+    go true (e ∷ es) h = oldest-groups n k e es some ∙ last-planned e.serial (groups n (e ∷ es)) _ plan h
+
+pub pass-planned : (n min max : ℕ) (u : Undo) (plan : Plan) → 1 ≤ n → planned n min max u ≡ Ok plan → record u { pending_below = plan.last } ≡ pass (passed n u) u
+pass-planned n min max u plan some h = ap (λ k. record u { pending_below = k }) (sym (oldest-planned n min max u.pending_below u plan some h))
+
+-- a plan is made where the trial met nothing outside
+none-planned : (first : ℕ) (passed : List Entry) (t : Option Entry) (plan : Plan) → plan_of first passed t ≡ Ok plan → t ≡ None
+none-planned first passed (Some o) plan h = cc
+none-planned first passed None plan h = refl
+
+-- a boundary doesn't count in a trial
+trial-without : (min max : ℕ) (es : List Entry) → trial min max (without_boundaries es) ≡ trial min max es
+trial-without min max [] = refl
+trial-without min max (e ∷ es) = go e.what e.serial (λ least most. trial-without least most es)
+  where
+    tries : (v : Bool) (l m : Option Entry) (x : Entry) → l ≡ m → ◌≡◌ {A = Option Entry} (elim v [ true ↦ l | false ↦ Some x ]) (elim v [ true ↦ m | false ↦ Some x ])
+    tries true l m x h = h
+    tries false l m x h = refl
+
+    go : (w : Rec) (k : ℕ) → ((least most : ℕ) → trial least most (without_boundaries es) ≡ trial least most es) → trial min max (without_boundaries (record { what = w; serial = k } ∷ es)) ≡ trial min max (record { what = w; serial = k } ∷ es)
+    go Boundary k ih = ih min max
+    go (Inserted from to) k ih = tries _ _ _ _ (ih min (max - (to - from)))
+    go (Deleted piece place) k ih = tries _ _ _ _ (ih min (max + length piece))
+    go (Prop name old from to) k ih = tries _ _ _ _ (ih min max)
+    go (Point place) k ih = tries _ _ _ _ (ih min max)
+    go First k ih = ih min max
+    go (Moved m a) k ih = ih min max
+
+pub tried-planned : (n min max : ℕ) (u : Undo) (plan : Plan) → planned n min max u ≡ Ok plan → trial min max (passed n u) ≡ None
+tried-planned n min max u plan h = sym (trial-without min max (passed n u)) ∙ go u.on (pending u) h
+  where
+    go : (on : Bool) (l : List Entry) → ◌≡◌ {A = Result Plan Refused} (elim on [ true ↦ planned_from n min max l | false ↦ Err Disabled ]) (Ok plan) → trial min max (without_boundaries (groups n l)) ≡ None
+    go false l h = cc
+    go true [] h = cc
+    go true (e ∷ es) h = none-planned e.serial (groups n (e ∷ es)) _ plan h

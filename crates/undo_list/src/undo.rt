@@ -1,6 +1,6 @@
 //! The undo state of a buffer.
-ghost use Rattle.std.specs.Prelude.{◌≡◌, ℕ, ◌+◌, ◌<◌, ◌≤◌, true, false, if◌then◌else◌, [], length, Ok, Err, OnOk, OnErr, IfOk, IsOk, IsErr, slice_get, Some};
-ghost use Rattle.text_model.specs.Undo.{extends, pushed, with_boundary, started, without_pending, disabled, enabled, pass, passed};
+ghost use Rattle.std.specs.Prelude.{◌≡◌, ℕ, ◌+◌, ◌<◌, ◌≤◌, true, false, if◌then◌else◌, [], length, take, drop, Ok, Err, OnOk, OnErr, IfOk, IsOk, IsErr, slice_get, Some, None};
+ghost use Rattle.text_model.specs.Undo.{extends, pushed, with_boundary, started, without_pending, disabled, enabled, pass, passed, trial};
 ghost use Rattle.text_model.specs.Commit.{fresh_group};
 ghost use Rattle.undo_list.specs.Records.{rec_of};
 ghost use Rattle.undo_list.specs.Plans.{planned};
@@ -193,6 +193,18 @@ impl Undo {
             return Ok(Err(Refused::Nothing));
         }
         Ok(self.records.plan(start, groups, min, max))
+    }
+
+    /// The places of the records of a plan of this list, its boundaries among them: from the first to before the second.
+    pub fn passed(&self, plan: &Plan) -> (usize, usize)
+        ensures records { (groups min max : ℕ) → 1 ≤ groups → planned groups min max self.now.state ≡ Ok plan.now → drop result.0 (take result.1 self.now.state.entries) ≡ passed groups self.now.state }
+        ensures inside { (groups min max : ℕ) → 1 ≤ groups → planned groups min max self.now.state ≡ Ok plan.now → trial min max (passed groups self.now.state) ≡ None }
+        ensures order { result.0 ≤ result.1 }
+        ensures within { result.1 ≤ length self.now.state.entries }
+    {
+        let from = self.records.newer(self.pending_below);
+        let to = self.records.newer(plan.last);
+        (from, to.max(from))
     }
 
     /// Makes the records of a plan of this list, its boundaries among them, pending no longer. Nothing else changes.

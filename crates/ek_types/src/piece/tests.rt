@@ -64,3 +64,25 @@ fn a_run_and_its_copy(rt: HostRuntime) -> Result<(), Fail> {
     assert_eq!(rt; copy.set.len(), 1);
     Ok(())
 }
+
+#[test]
+fn a_piece_behind_another(rt: HostRuntime) -> Result<(), Fail> {
+    let alloc = rt.alloc();
+    let mut piece = bare_text(alloc, 3)?;
+    paint(alloc, &mut piece, 0, 2, 1)?;
+    let mut more = bare_text(alloc, 2)?;
+    paint(alloc, &mut more, 1, 2, 2)?;
+    piece.append(&more)?;
+    assert_eq!(rt;
+        faces(alloc, &piece)?.as_slice(),
+        [1i64, 1, 0, 0, 2].as_slice()
+    );
+    if piece.len() < 5 {
+        return Err(Fail::from("too short"));
+    }
+    assert_eq!(rt; (piece.run_end(0), piece.run_end(4)), (2, 5));
+    assert!(rt; piece.text().same(bare_text(alloc, 5)?.text()));
+    assert!(rt; piece.props(0).same(piece.props(1)));
+    assert!(rt; !piece.props(0).same(piece.props(2)));
+    Ok(())
+}

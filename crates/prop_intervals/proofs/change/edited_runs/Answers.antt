@@ -25,6 +25,6 @@ loop-i-preserved c =
       to = omega arith;
       sets = rw more (sets_more f (sets_of c.loop-i.runs) (sets_of c.in_ok-runs.runs) part (c.min-end.result - c.loop-i.i) set c.in_ok-new.new c.in_ok-new.ensures c.loop-i.invariant.sets c.in_ok-runs.ensures.sets);
       apart = c.in_ok-runs.ensures.apart;
-      changed = rw (more, c.same_set.ensures)
+      changed = rw (more, c.same.ensures)
           (changed_more f part (sets_of c.loop-i.runs) (sets_of c.in_ok-runs.runs) (c.min-end.result - c.loop-i.i) set c.in_ok-new.new c.loop-i.changed (let t = c.find-run.ensures.exact.ends in omega arith) c.loop-i.invariant.sets c.loop-i.invariant.changed c.in_ok-runs.ensures.sets);
     }

@@ -9,4 +9,4 @@ loop-j-init c = run_start c.props-set.result.now (sets_in c.args.piece.now) c.ar
 
 pub loop-j-preserved : goal.loop-j-preserved
 loop-j-preserved c =
-    run_more c.props-set.result.now _ (sets_in c.args.piece.now) c.args.i c.loop-j.j (omega arith) (slice_get-map (λ d. d.1) c.args.piece.now c.loop-j.j ∙ c.props.ensures) (sym c.same_set.ensures ∙ c.if-not-same_set.false) c.loop-j.invariant
+    run_more c.props-set.result.now _ (sets_in c.args.piece.now) c.args.i c.loop-j.j (omega arith) (slice_get-map (λ d. d.1) c.args.piece.now c.loop-j.j ∙ c.props.ensures) (sym c.same.ensures ∙ c.if-not-same.false) c.loop-j.invariant

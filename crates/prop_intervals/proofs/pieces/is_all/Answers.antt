@@ -6,4 +6,4 @@ use Rattle.prop_intervals.proofs.pieces.is_all.Goals as goal
 
 pub loop-i-preserved : goal.loop-i-preserved
 loop-i-preserved c =
-    all_more c.args.set.now _ (sets_in c.args.piece.now) c.loop-i.i (slice_get-map (λ d. d.1) c.args.piece.now c.loop-i.i ∙ c.props.ensures) (sym c.same_set.ensures ∙ c.if-not-same_set.false) c.loop-i.invariant
+    all_more c.args.set.now _ (sets_in c.args.piece.now) c.loop-i.i (slice_get-map (λ d. d.1) c.args.piece.now c.loop-i.i ∙ c.props.ensures) (sym c.same.ensures ∙ c.if-not-same.false) c.loop-i.invariant

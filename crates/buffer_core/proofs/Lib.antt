@@ -1,0 +1,17 @@
+pub mod Zips
+pub mod Orders
+pub mod StandingLemmas
+pub mod Recorded
+pub mod Runs
+pub mod BlockLemmas
+pub mod Sites
+pub mod Sizes
+pub mod Moves
+pub mod NameLemmas
+pub mod Stretches
+pub mod Reset
+pub mod Elsewhere
+pub mod Returning
+pub mod UndoLemmas
+pub mod Applying
+pub mod Laws

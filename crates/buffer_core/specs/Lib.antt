@@ -1,0 +1,5 @@
+pub mod Blocks
+pub mod Changes
+pub mod Meaning
+pub mod Standing
+pub mod Undoing

@@ -1,0 +1,180 @@
+//! Changes of a buffer's text.
+ghost use Rattle.std.specs.Prelude.{◌≡◌, ◌⊎◌, ◌+◌, ◌<◌, ◌≤◌, true, false, [], length, OnOk, OnErr};
+ghost use Rattle.text_model.specs.Places.{after_insert};
+ghost use Rattle.text_model.specs.Commit.{inserted, deleted, replaced};
+ghost use Rattle.gap_text.specs.Text.{LiesIn};
+ghost use Rattle.buffer_core.specs.Blocks.{ChangesBlocks};
+ghost use Rattle.text_model.specs.Ordered.{AreOrdered};
+ghost use Rattle.machine_laws.specs.Boundaries.{KeepsBoundaries};
+ghost use Rattle.machine_laws.specs.Good.{Good};
+ghost use Rattle.buffer_core.specs.Meaning.{buffer_of, site_of};
+ghost use Rattle.buffer_core.specs.Standing.{AreWithin};
+
+use crate::buffer::Buffer;
+use crate::marks::Marks;
+use crate::recording::{deletion_records, push_all, push_first, push_reserved};
+use ek_types::{Chars, Mem, Piece, place_after_insert};
+use machine_laws::replacing_keeps_boundaries;
+use narrow_region::Bounds;
+use text_pool::Pool;
+use undo_list::Rec;
+
+/// The accessible portion after `n` characters were put in at `at`; point there goes behind them where it `advances`.
+fn bounds_after_insert(bounds: Bounds, at: usize, n: usize, advances: bool) -> Bounds
+    requires { n + bounds.end ≤ usize.MAX }
+    ensures start { result.start ≡ after_insert at n false bounds.start }
+    ensures end { result.end ≡ after_insert at n true bounds.end }
+    ensures point { result.point ≡ after_insert at n advances bounds.point }
+{
+    Bounds {
+        start: place_after_insert(at, n, false, bounds.start),
+        end: place_after_insert(at, n, true, bounds.end),
+        point: place_after_insert(at, n, advances, bounds.point),
+    }
+}
+
+impl Buffer {
+    /// Puts a piece in before character `at`, or behind all. `all` markers and overlays there advance; point there does
+    /// where it `advances`. A refusal leaves all as it was, but for spare room.
+    pub(crate) fn insert(
+        &mut self,
+        id: u32,
+        at: usize,
+        piece: &Piece,
+        all: bool,
+        advances: bool,
+        marks: &mut Marks,
+        pool: &mut Pool,
+    ) -> Mem<()>
+        requires lies { LiesIn pool.old self.old.text }
+        requires place { at ≤ length self.old.sets }
+        requires marks { AreWithin id (length self.old.sets) marks.old }
+        ensures lies { LiesIn pool.new self.new.text }
+        ensures ok { OnOk result (site_of pool.new self.new marks.new ≡ inserted id at piece.now all advances (site_of pool.old self.old marks.old)) }
+        ensures err { OnErr result (site_of pool.new self.new marks.new ≡ site_of pool.old self.old marks.old) }
+        ensures marks { AreWithin id (length self.new.sets) marks.new }
+        ensures blocks { ChangesBlocks self.old.text.blocks self.new.text.blocks pool.old pool.new }
+    {
+        let text = piece.text();
+        let n = text.len();
+        self.text.reserve(pool, n)?;
+        self.undo.reserve(2)?;
+        self.props.splice(at, at, piece)?;
+        self.text.insert(pool, at, text);
+        // Read for what it ensures: all characters can be counted.
+        let _size = self.text.len();
+        self.bounds = bounds_after_insert(self.bounds, at, n, advances);
+        push_first(&mut self.undo, self.modified);
+        push_reserved(&mut self.undo, Rec::Inserted(at, at + n));
+        self.modified = true;
+        marks.note_insert(id, at, n, all);
+        Ok(())
+    }
+
+    /// Takes the part from `from` to before `to` out. A refusal leaves all as it was, but for spare room.
+    pub(crate) fn delete(
+        &mut self,
+        id: u32,
+        from: usize,
+        to: usize,
+        marks: &mut Marks,
+        pool: &mut Pool,
+    ) -> Mem<()>
+        requires lies { LiesIn pool.old self.old.text }
+        requires order { from ≤ to }
+        requires range { to ≤ length self.old.sets }
+        requires marks { AreWithin id (length self.old.sets) marks.old }
+        ensures lies { LiesIn pool.new self.new.text }
+        ensures ok { OnOk result (site_of pool.new self.new marks.new ≡ deleted id from to (site_of pool.old self.old marks.old)) }
+        ensures err { OnErr result (site_of pool.new self.new marks.new ≡ site_of pool.old self.old marks.old) }
+        ensures marks { AreWithin id (length self.new.sets) marks.new }
+        ensures blocks { ChangesBlocks self.old.text.blocks self.new.text.blocks pool.old pool.new }
+    {
+        let piece = self.substring(from, to, pool)?;
+        let records = deletion_records(
+            self.alloc,
+            &self.undo,
+            self.bounds.point,
+            &marks.markers,
+            id,
+            from,
+            to,
+            piece,
+        )?;
+        let nothing = Piece::plain(self.alloc, Chars::new(self.alloc));
+        self.undo.reserve(records.len() + 1)?;
+        self.props.splice(from, to, &nothing)?;
+        self.text.delete(pool, from, to);
+        self.bounds.note_delete(from, to);
+        push_first(&mut self.undo, self.modified);
+        push_all(&mut self.undo, records);
+        self.modified = true;
+        marks.note_delete(id, from, to);
+        Ok(())
+    }
+
+    /// Takes the part from `from` to before `to` out, or puts a piece in there: only one of the two can be something. `all`
+    /// markers and overlays at the place of an insertion advance, and point there does. The pending records are dropped where
+    /// something changes. A refusal leaves all as it was, but for spare room.
+    ///
+    /// Undoing all that is newer than a boundary that still stands gives the same text as before.
+    pub fn replace(
+        &mut self,
+        id: u32,
+        from: usize,
+        to: usize,
+        with: &Piece,
+        all: bool,
+        marks: &mut Marks,
+        pool: &mut Pool,
+    ) -> Mem<()>
+        requires lies { LiesIn pool.old self.old.text }
+        requires order { from ≤ to }
+        requires range { to ≤ length self.old.sets }
+        requires one { (from ≡ to) ⊎ (with.now ≡ []) }
+        requires marks { AreWithin id (length self.old.sets) marks.old }
+        ensures lies { LiesIn pool.new self.new.text }
+        ensures ok { OnOk result (site_of pool.new self.new marks.new ≡ replaced id from to with.now all (site_of pool.old self.old marks.old)) }
+        ensures err { OnErr result (site_of pool.new self.new marks.new ≡ site_of pool.old self.old marks.old) }
+        ensures marks { AreWithin id (length self.new.sets) marks.new }
+        ensures blocks { ChangesBlocks self.old.text.blocks self.new.text.blocks pool.old pool.new }
+        ensures undo { AreOrdered with.now → Good (buffer_of pool.old self.old) → OnOk result (KeepsBoundaries (buffer_of pool.old self.old) (buffer_of pool.new self.new)) }
+    {
+        replacing_keeps_boundaries();
+        // Read for what it ensures: there is a property set for each character.
+        let _bounds = self.bounds();
+        self.replace_text(id, from, to, with, all, marks, pool)
+    }
+
+    /// The same, without what it means for undo.
+    fn replace_text(
+        &mut self,
+        id: u32,
+        from: usize,
+        to: usize,
+        with: &Piece,
+        all: bool,
+        marks: &mut Marks,
+        pool: &mut Pool,
+    ) -> Mem<()>
+        requires lies { LiesIn pool.old self.old.text }
+        requires order { from ≤ to }
+        requires range { to ≤ length self.old.sets }
+        requires one { (from ≡ to) ⊎ (with.now ≡ []) }
+        requires marks { AreWithin id (length self.old.sets) marks.old }
+        ensures lies { LiesIn pool.new self.new.text }
+        ensures ok { OnOk result (site_of pool.new self.new marks.new ≡ replaced id from to with.now all (site_of pool.old self.old marks.old)) }
+        ensures err { OnErr result (site_of pool.new self.new marks.new ≡ site_of pool.old self.old marks.old) }
+        ensures marks { AreWithin id (length self.new.sets) marks.new }
+        ensures blocks { ChangesBlocks self.old.text.blocks self.new.text.blocks pool.old pool.new }
+    {
+        if from < to {
+            self.delete(id, from, to, marks, pool)?;
+            self.undo.drop_pending();
+        } else if !with.is_empty() {
+            self.insert(id, from, with, all, true, marks, pool)?;
+            self.undo.drop_pending();
+        }
+        Ok(())
+    }
+}
