@@ -1,0 +1,9 @@
+pub mod Texts
+pub mod StandLemmas
+pub mod KeptLemmas
+pub mod NameLemmas
+pub mod Replacing
+pub mod MarkLemmas
+pub mod Removing
+pub mod Closing
+pub mod Shown
