@@ -6,4 +6,5 @@ pub mod Replacing
 pub mod MarkLemmas
 pub mod Removing
 pub mod Closing
+pub mod Undoing
 pub mod Shown

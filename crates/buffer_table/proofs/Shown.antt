@@ -7,7 +7,8 @@ use Rattle.std.proofs.lemmas.List.Elements.{All-head, All-tail}
 use Rattle.std.specs.List.{zip}
 use Rattle.text_model.specs.Commit.{Buffer}
 use Rattle.text_model.specs.Places.{clip}
-use Rattle.text_model.specs.Marks.{Spot, Span}
+use Rattle.text_model.specs.Marks.{Spot, Span, Saved}
+use Rattle.narrow_region.specs.Kept as kept
 use Rattle.editor_model.specs.Editor as shown
 use Rattle.editor_model.specs.Editor.{Editor, Live, live, buffer_at, empty_buffer, characters_in, change_buffer}
 use Rattle.editor_model.specs.TextCalls.{widened}
@@ -21,8 +22,8 @@ use Rattle.buffer_core.specs.Standing.{MarkerWithin, OverlayWithin}
 use Rattle.buffer_table.specs.Kept.{Named, Kept, Lives, IsKept, is_live, named_at, live_of, editor_of, blocks_in, cells_in}
 use Rattle.gap_text.proofs.Texts.{length_characters}
 use Rattle.buffer_table.specs.Standing.{MarkerIn, OverlayIn}
-use Rattle.buffer_table.specs.Places.{IsPlace}
-use Rattle.buffer_table.proofs.KeptLemmas.{some_lives, named_is, live_out, live_is, buffer_is}
+use Rattle.buffer_table.specs.Places.{IsPlace, IsKeptIn}
+use Rattle.buffer_table.proofs.KeptLemmas.{some_lives, live_in, named_is, live_out, live_is, buffer_is}
 
 pub is_shown : (e : Editor) (id : ℕ) (b : Buffer) → Some b ≡ option_map (λ l. l.buffer) (live e id) → buffer_at e id ≡ b
 is_shown e id b h = go (live e id) h
@@ -166,6 +167,18 @@ overlay_places k j id from to size kept at exact sets =
     subst (λ (o : Option Span). IfSome o (λ s. s.buffer ≡ id → (s.start ≤ length n.buffer.sets) × (s.end ≤ length n.buffer.sets))) at w refl
     in
     (is_place k id from size lives (λ n l. (within n l).0) exact sets, is_place k id to size lives (λ n l. (within n l).1) exact sets)
+
+-- KEPT PLACES
+pub kept_in : (k : Kept) (s : Saved) (size id : ℕ) → id ≡ kept.buffer_of s → size ≡ length (shown.buffer_at (editor_of k) id).text → (shown.is_live (editor_of k) id ≡ true → size ≡ length (named_at k.buffers id).buffer.sets)
+    → ((n : Named) → Lives k.buffers (kept.buffer_of s) n → kept.last_place s ≤ length n.buffer.sets) → IsKeptIn (editor_of k) s
+kept_in k s size id same exact sets within alive =
+    let here : shown.is_live (editor_of k) id ≡ true = subst (λ i. shown.is_live (editor_of k) i ≡ true) (sym same) alive in
+    let n = some_lives k.buffers (kept.buffer_of s) (live_in k (kept.buffer_of s) alive) in
+    let l : kept.last_place s ≤ length n.0.buffer.sets = within n.0 n.1 in
+    let e : length (named_at k.buffers id).buffer.sets ≡ length n.0.buffer.sets =
+    ap (λ i. length (named_at k.buffers i).buffer.sets) same ∙ ap (λ (m : Named). length m.buffer.sets) (named_is k.buffers (kept.buffer_of s) n.0 n.1) in
+    let f : length (shown.buffer_at (editor_of k) id).text ≡ length (shown.buffer_at (editor_of k) (kept.buffer_of s)).text = ap (λ i. length (shown.buffer_at (editor_of k) i).text) same in
+    omega (arith, sets here)
 
 -- WIDENING
 pub changed_alike : (e : Editor) (id : ℕ) (f g : Buffer → Buffer) → f (buffer_at e id) ≡ g (buffer_at e id) → change_buffer id f e ≡ change_buffer id g e

@@ -1,21 +1,22 @@
 //! Calls on one of the buffers.
-ghost use Rattle.std.specs.Prelude.{◌≡◌, ◌⊎◌, ◌<◌, ◌≤◌, true, [], length, if◌then◌else◌, Ok, Err, IfOk, OnOk, OnErr, Some, option_map, slice_get};
+ghost use Rattle.std.specs.Prelude.{◌≡◌, ℕ, ◌⊎◌, ◌<◌, ◌≤◌, true, [], length, if◌then◌else◌, Ok, Err, IfOk, OnOk, OnErr, Some, option_map, slice_get};
 ghost use Rattle.text_model.specs.Properties.{part};
 ghost use Rattle.text_model.specs.Places.{clip};
-ghost use Rattle.text_model.specs.Undo.{with_boundary, started, enabled, disabled};
-ghost use Rattle.text_model.specs.Commit.{replaced, reset, property_records};
+ghost use Rattle.text_model.specs.Undo.{with_boundary, started, enabled, disabled, passed};
+ghost use Rattle.text_model.specs.Commit.{replaced, reset, property_records, undone_groups};
 ghost use Rattle.editor_model.specs.TextCalls.{widened};
 ghost use Rattle.editor_model.specs.Editor.{is_live, buffer_at, change_site, change_buffer};
 ghost use Rattle.ek_types.specs.Seen.{ch_of};
 ghost use Rattle.prop_intervals.specs.Edits.{edit_of};
 ghost use Rattle.narrow_region.specs.Positions.{place_of};
+ghost use Rattle.undo_list.specs.Plans.{planned};
 ghost use Rattle.buffer_core.specs.Changes.{is_some_record};
 ghost use Rattle.buffer_table.specs.Kept.{editor_of};
 
 use crate::editor::Editor;
 use ek_types::{Ch, Mem, Piece};
 use prop_intervals::PropEdit;
-use undo_list::Refused;
+use undo_list::{Plan, Refused};
 
 /// In all of these the buffer lives, and places count from 0.
 impl Editor {
@@ -89,6 +90,17 @@ impl Editor {
         }
     }
 
+    /// Point goes to a place, or to the nearer end of the accessible portion.
+    pub fn goto_place(&mut self, id: u32, place: usize)
+        requires { is_live (editor_of self.old) id ≡ true }
+        ensures { editor_of self.new ≡ change_buffer id (λ b. record b { point = clip b.begin b.end place }) (editor_of self.old) }
+    {
+        match &mut self.buffers[id as usize] {
+            Some(live) => live.buffer.goto_place(place),
+            None => unreachable!(),
+        }
+    }
+
     /// The part from `from` to `to` becomes the accessible portion, and point goes to the nearest place in it.
     pub fn narrow(&mut self, id: u32, from: usize, to: usize)
         requires live { is_live (editor_of self.old) id ≡ true }
@@ -155,6 +167,24 @@ impl Editor {
     {
         match &mut self.buffers[id as usize] {
             Some(live) => live.buffer.undo_enable(on),
+            None => unreachable!(),
+        }
+    }
+
+    /// Undoes the groups of a plan, which `undo_plan` gave of the buffer as it stands. A refusal leaves the editor as it was.
+    pub fn apply_plan(&mut self, id: u32, plan: &Plan) -> Mem<()>
+        requires live { is_live (editor_of self.old) id ≡ true }
+        requires plan { let b = buffer_at (editor_of self.old) id in
+            (groups : ℕ) × (1 ≤ groups) × (planned groups b.begin b.end b.undo ≡ Ok plan.now) }
+        ensures ok { let b = buffer_at (editor_of self.old) id in
+            (groups : ℕ) → 1 ≤ groups → planned groups b.begin b.end b.undo ≡ Ok plan.now
+            → OnOk result (editor_of self.new ≡ change_site id (undone_groups id (passed groups b.undo)) (editor_of self.old)) }
+        ensures err { OnErr result (editor_of self.new ≡ editor_of self.old) }
+    {
+        match &mut self.buffers[id as usize] {
+            Some(live) => live
+                .buffer
+                .apply_plan(id, plan, &mut self.marks, &mut self.pool),
             None => unreachable!(),
         }
     }

@@ -6,14 +6,25 @@ ghost use Rattle.editor_model.specs.Editor.{is_live, buffer_at, marker_of, with_
 ghost use Rattle.ek_types.specs.Property.{prop_of};
 ghost use Rattle.marker_set.specs.Numbered.{nowhere, spot_of};
 ghost use Rattle.overlay_set.specs.Numbered.{span_at, span_of, given_of};
-ghost use Rattle.narrow_region.specs.Kept.{kept_of};
-ghost use Rattle.buffer_table.specs.Kept.{editor_of};
-ghost use Rattle.buffer_table.specs.Places.{IsPlace, IsKeptPlace, with_marks};
+ghost use Rattle.narrow_region.specs.Kept.{kept_of, buffer_of, last_place};
+ghost use Rattle.buffer_table.specs.Kept.{Named, Lives, editor_of};
+ghost use Rattle.buffer_table.specs.Places.{IsPlace, IsKeptPlace, IsKeptIn, with_marks};
 
 use crate::editor::Editor;
 use buffer_core::Marks;
 use ek_types::{Mem, PropVal, Sym};
 use narrow_region::Saved;
+
+/// The buffer of a kept place.
+fn buffer_of(saved: &Saved) -> u32
+    ensures { result ≡ buffer_of (kept_of saved.now) }
+{
+    match saved {
+        Saved::Excursion(buffer, _) => *buffer,
+        Saved::Restriction(buffer, _) => *buffer,
+        Saved::Change(buffer, _, _) => *buffer,
+    }
+}
 
 impl Editor {
     /// The markers, overlays and kept places.
@@ -148,11 +159,31 @@ impl Editor {
         marks.saved.push(s)
     }
 
-    /// Takes away what was kept last, and gives it; `None` where nothing is kept.
+    /// Takes away what was kept last, and gives it; `None` where nothing is kept. Its places lie in their text, unless the
+    /// buffer was killed meanwhile.
     pub fn pop_saved(&mut self) -> Option<Saved>
         ensures none { IsNone result ↔ ((editor_of self.old).marks.saved ≡ []) }
         ensures newest { IfSome result (λ s. editor_of self.old ≡ with_marks (λ m. record m { saved = kept_of s ∷ m.saved }) (editor_of self.new)) }
         ensures unchanged { IfNone result (editor_of self.new ≡ editor_of self.old) }
+        ensures place { IfSome result (λ s. IsKeptIn (editor_of self.new) (kept_of s)) }
+    {
+        match self.take_saved() {
+            Some(saved) => {
+                let buffer = buffer_of(&saved);
+                // Read for what it ensures: each character has a property set.
+                let _size = self.size(buffer);
+                Some(saved)
+            }
+            None => None,
+        }
+    }
+
+    /// The same, where places are measured by property sets.
+    fn take_saved(&mut self) -> Option<Saved>
+        ensures none { IsNone result ↔ ((editor_of self.old).marks.saved ≡ []) }
+        ensures newest { IfSome result (λ s. editor_of self.old ≡ with_marks (λ m. record m { saved = kept_of s ∷ m.saved }) (editor_of self.new)) }
+        ensures unchanged { IfNone result (editor_of self.new ≡ editor_of self.old) }
+        ensures within { IfSome result (λ s. (n : Named) → Lives self.new.buffers (buffer_of (kept_of s)) n → last_place (kept_of s) ≤ length n.buffer.sets) }
     {
         let marks = &mut self.marks;
         marks.saved.pop()

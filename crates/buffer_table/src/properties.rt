@@ -29,6 +29,7 @@ impl Editor {
     pub fn run_end(&self, id: u32, i: usize) -> usize
         requires { i < length (buffer_at (editor_of self.now) id).text }
         ensures exact { result ≡ run_end i (sets_in (buffer_at (editor_of self.now) id).text) }
+        ensures behind { i < result }
     {
         match self.found(id) {
             Some(buffer) => buffer.props().run_end(i),

@@ -1,16 +1,18 @@
 //! What is asked of one buffer. Where no live buffer has the number, the answer is that of an empty one.
-ghost use Rattle.std.specs.Prelude.{◌≡◌, ◌<◌, ◌≤◌, true, length, map, IfSome, Some, option_map, slice_get};
+ghost use Rattle.std.specs.Prelude.{◌≡◌, ◌<◌, ◌≤◌, true, length, Ok, map, IfSome, Some, option_map, slice_get};
 ghost use Rattle.editor_model.specs.Editor.{live, is_live, buffer_at, characters_in};
 ghost use Rattle.gap_text.specs.Text.{LiesIn};
+ghost use Rattle.undo_list.specs.Plans.{planned};
 ghost use Rattle.undo_list.specs.Records.{rec_of};
 ghost use Rattle.buffer_core.specs.Meaning.{buffer_of};
 ghost use Rattle.buffer_table.specs.Kept.{editor_of, named_at};
 
 use crate::editor::Editor;
 use buffer_core::Buffer;
+use ek_types::Mem;
 use narrow_region::Bounds;
 use std::alloc::Global;
-use undo_list::Rec;
+use undo_list::{Plan, Rec, Refused};
 
 impl Editor {
     /// The live buffer of a number, whose blocks live in the pool and whose characters have a property set each.
@@ -101,6 +103,16 @@ impl Editor {
         }
     }
 
+    /// Whether its changes are recorded.
+    pub fn is_recording(&self, id: u32) -> bool
+        ensures { result ≡ (buffer_at (editor_of self.now) id).undo.on }
+    {
+        match self.found(id) {
+            Some(buffer) => !matches!(buffer.undo().plan(1, 0, 0), Ok(Err(Refused::Disabled))),
+            None => true,
+        }
+    }
+
     /// How many undo records there are.
     pub fn undo_len(&self, id: u32) -> usize
         ensures { result ≡ length (buffer_at (editor_of self.now) id).undo.entries }
@@ -119,6 +131,20 @@ impl Editor {
         match self.found(id) {
             Some(buffer) => buffer.undo().at(i),
             None => unreachable!(),
+        }
+    }
+
+    /// What undoing so many groups of the pending records would pass in the accessible portion, or why it is refused.
+    pub fn undo_plan(&self, id: u32, groups: u32) -> Mem<Result<Plan, Refused>>
+        requires { 1 ≤ groups }
+        ensures { result ≡ Ok (planned groups (buffer_at (editor_of self.now) id).begin (buffer_at (editor_of self.now) id).end (buffer_at (editor_of self.now) id).undo) }
+    {
+        match self.found(id) {
+            Some(buffer) => {
+                let bounds = *buffer.bounds();
+                buffer.undo().plan(groups, bounds.start, bounds.end)
+            }
+            None => Ok(Err(Refused::Nothing)),
         }
     }
 }
