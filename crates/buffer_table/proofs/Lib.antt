@@ -1,0 +1,10 @@
+pub mod Texts
+pub mod StandLemmas
+pub mod KeptLemmas
+pub mod NameLemmas
+pub mod Replacing
+pub mod MarkLemmas
+pub mod Removing
+pub mod Closing
+pub mod Undoing
+pub mod Shown

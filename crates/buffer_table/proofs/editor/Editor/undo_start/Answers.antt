@@ -1,0 +1,70 @@
+use Rattle.std.proofs.Common.{◌≡◌, ◌+◌, ◌≤◌, Bool, true, false, List, Result, Ok, Err, length, take, drop, refl, subst, sym, ap, ◌∙◌, arith}
+use Rattle.std.specs.Prelude.{slice_get, Some, option_map, if◌then◌else◌, IfOk}
+use Rattle.std.specs.List.{zip}
+use Rattle.std.proofs.lemmas.Result.{on_ok_weaker, on_err_weaker, IfOk-weaker}
+use Rattle.text_model.specs.Properties.{Cell, part}
+use Rattle.text_model.specs.Places.{clip}
+use Rattle.text_model.specs.Marks.{Marks}
+use Rattle.text_model.specs.Undo.{Undo, with_boundary, started, enabled, disabled}
+use Rattle.text_model.specs.Commit.{Buffer, Site, replaced, reset, property_records}
+use Rattle.editor_model.specs.Editor as shown
+use Rattle.editor_model.specs.Editor.{Editor, change_site, change_buffer}
+use Rattle.gap_text.specs.Text.{LiesIn, characters}
+use Rattle.ek_types.specs.Seen.{ch_of}
+use Rattle.prop_intervals.specs.Edits.{edit_of}
+use Rattle.narrow_region.specs.Positions.{place_of}
+use Rattle.undo_list.specs.declared.plan.Refused.{Refused}
+use Rattle.undo_list.specs.declared.plan.Refused.TheVariants.{Disabled}
+use Rattle.buffer_core.specs.Changes.{is_some_record}
+use Rattle.buffer_core.specs.Meaning.{Stored, site_of, buffer_of}
+use Rattle.buffer_core.specs.Standing.{AreWithin}
+use Rattle.buffer_table.specs.Kept.{Named, Kept, Lives, is_live, editor_of}
+use Rattle.buffer_table.proofs.KeptLemmas.{live_here, none_here, live_in, buffer_is, place_in, quiet, Changes, kept_after, editor_after, editor_same}
+use Rattle.buffer_table.proofs.Replacing.{replace_changes}
+use Rattle.buffer_table.proofs.editor.Editor.undo_start.Goals as goal
+
+pub invariant_of-self : goal.invariant_of-self
+invariant_of-self c =
+    let live : is_live c.self.inside.buffers.items c.args.id ≡ true = live_in (record { buffers = c.self.inside.buffers.items; current = c.self.inside.current; marks = c.self.inside.marks; registers = c.self.inside.registers.items; pool = c.self.inside.pool }) c.args.id (ap (λ (k : Kept). shown.is_live (editor_of k) c.args.id) c.self.view_is ∙ c.requires) in
+    let lives : Lives c.self.inside.buffers.items c.args.id c.in-Some.live = live_here c.self.inside.buffers.items c.args.id c.index_mut.result.now c.in-Some.live live c.index_mut.ensures.value c.in-Some.is in
+    let n : Named = record { name = c.live.inside.name.items; buffer = c.live.inside.buffer } in
+    let kept : Kept = (record { buffers = c.self.inside.buffers.items; current = c.self.inside.current; marks = c.self.inside.marks; registers = c.self.inside.registers.items; pool = c.self.inside.pool }) in
+    let here : Lives c.self.inside.buffers.items c.args.id n = lives ∙ ap (λ (m : Named). Some (Some m)) (sym c.live.view_is) in
+    let changes : Changes c.args.id c.live.inside.buffer c.undo_start.new.self c.self.inside.marks c.self.inside.marks c.self.inside.pool c.self.inside.pool =
+    quiet c.args.id c.live.inside.buffer c.undo_start.new.self c.self.inside.marks c.self.inside.pool (ap (λ (b : Stored). b.text) c.undo_start.ensures.rest) (ap (λ (b : Stored). length b.sets) c.undo_start.ensures.rest)
+    (subst (λ (m : Named). LiesIn c.self.inside.pool m.buffer.text) (sym c.live.view_is) (c.self.invariant.all.lie c.args.id c.in-Some.live lives))
+    (subst (λ (m : Named). AreWithin c.args.id (length m.buffer.sets) c.self.inside.marks) (sym c.live.view_is) (c.self.invariant.all.within c.args.id c.in-Some.live lives)) in
+    kept_after kept c.args.id n c.undo_start.new.self c.self.inside.marks c.self.inside.pool c.self.invariant here changes
+
+pub returns-clause-result : goal.returns-clause-result
+returns-clause-result c =
+    let live : is_live c.self.inside.buffers.items c.args.id ≡ true = live_in (record { buffers = c.self.inside.buffers.items; current = c.self.inside.current; marks = c.self.inside.marks; registers = c.self.inside.registers.items; pool = c.self.inside.pool }) c.args.id (ap (λ (k : Kept). shown.is_live (editor_of k) c.args.id) c.self.view_is ∙ c.requires) in
+    let lives : Lives c.self.inside.buffers.items c.args.id c.in-Some.live = live_here c.self.inside.buffers.items c.args.id c.index_mut.result.now c.in-Some.live live c.index_mut.ensures.value c.in-Some.is in
+    let n : Named = record { name = c.live.inside.name.items; buffer = c.live.inside.buffer } in
+    let kept : Kept = (record { buffers = c.self.inside.buffers.items; current = c.self.inside.current; marks = c.self.inside.marks; registers = c.self.inside.registers.items; pool = c.self.inside.pool }) in
+    let here : Lives c.self.inside.buffers.items c.args.id n = lives ∙ ap (λ (m : Named). Some (Some m)) (sym c.live.view_is) in
+    c.undo_start.ensures.result
+    ∙ ap (λ (on : Bool). let r : Result (Unit {0}) Refused = (if on then Ok tt else Err Disabled) in r)
+    (ap (λ (b : Buffer). b.undo.on) (sym (buffer_is kept c.args.id n here)) ∙ ap (λ (k : Kept). (shown.buffer_at (editor_of k) c.args.id).undo.on) c.self.view_is)
+
+pub returns-clause-editor : goal.returns-clause-editor
+returns-clause-editor c =
+    let live : is_live c.self.inside.buffers.items c.args.id ≡ true = live_in (record { buffers = c.self.inside.buffers.items; current = c.self.inside.current; marks = c.self.inside.marks; registers = c.self.inside.registers.items; pool = c.self.inside.pool }) c.args.id (ap (λ (k : Kept). shown.is_live (editor_of k) c.args.id) c.self.view_is ∙ c.requires) in
+    let lives : Lives c.self.inside.buffers.items c.args.id c.in-Some.live = live_here c.self.inside.buffers.items c.args.id c.index_mut.result.now c.in-Some.live live c.index_mut.ensures.value c.in-Some.is in
+    let n : Named = record { name = c.live.inside.name.items; buffer = c.live.inside.buffer } in
+    let kept : Kept = (record { buffers = c.self.inside.buffers.items; current = c.self.inside.current; marks = c.self.inside.marks; registers = c.self.inside.registers.items; pool = c.self.inside.pool }) in
+    let here : Lives c.self.inside.buffers.items c.args.id n = lives ∙ ap (λ (m : Named). Some (Some m)) (sym c.live.view_is) in
+    let changes : Changes c.args.id c.live.inside.buffer c.undo_start.new.self c.self.inside.marks c.self.inside.marks c.self.inside.pool c.self.inside.pool =
+    quiet c.args.id c.live.inside.buffer c.undo_start.new.self c.self.inside.marks c.self.inside.pool (ap (λ (b : Stored). b.text) c.undo_start.ensures.rest) (ap (λ (b : Stored). length b.sets) c.undo_start.ensures.rest)
+    (subst (λ (m : Named). LiesIn c.self.inside.pool m.buffer.text) (sym c.live.view_is) (c.self.invariant.all.lie c.args.id c.in-Some.live lives))
+    (subst (λ (m : Named). AreWithin c.args.id (length m.buffer.sets) c.self.inside.marks) (sym c.live.view_is) (c.self.invariant.all.within c.args.id c.in-Some.live lives)) in
+    let change : Buffer → Buffer = λ b. record b { undo = if b.undo.on then started b.undo else b.undo } in
+    editor_after kept c.args.id n c.undo_start.new.self c.self.inside.marks c.self.inside.pool (λ (s : Site). record s { buffer = change s.buffer }) c.self.invariant here changes
+    (ap (λ (b : Stored). site_of c.self.inside.pool b c.self.inside.marks) c.undo_start.ensures.rest
+    ∙ ap (λ (u : Undo). let s : Site = record { buffer = record (buffer_of c.self.inside.pool c.live.inside.buffer) { undo = u }; marks = c.self.inside.marks } in s) c.undo_start.ensures.state)
+    ∙ ap (λ (k : Kept). change_buffer c.args.id change (editor_of k)) c.self.view_is
+
+pub unreachable-requires : goal.unreachable-requires
+unreachable-requires c =
+    let live : is_live c.self.inside.buffers.items c.args.id ≡ true = live_in (record { buffers = c.self.inside.buffers.items; current = c.self.inside.current; marks = c.self.inside.marks; registers = c.self.inside.registers.items; pool = c.self.inside.pool }) c.args.id (ap (λ (k : Kept). shown.is_live (editor_of k) c.args.id) c.self.view_is ∙ c.requires) in
+    none_here c.self.inside.buffers.items c.args.id c.index_mut.result.now live c.index_mut.ensures.value c.in-None.is

@@ -1,0 +1,15 @@
+//! All buffers of a run: their names, the current one, what stands beside their texts, and the registers.
+#![tactic(auto)]
+
+mod editor;
+mod on_buffer;
+mod on_marks;
+mod properties;
+mod questions;
+mod registers;
+mod table;
+#[cfg(test)]
+mod tests;
+mod whole;
+
+pub use editor::Editor;

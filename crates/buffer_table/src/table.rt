@@ -1,0 +1,99 @@
+//! Buffers that are made, named and found.
+ghost use Rattle.std.specs.Prelude.{◌≡◌, ℕ, ◌<◌, true, length, None, IfOk, OnOk, OnErr, option_map, map, slice_set};
+ghost use Rattle.editor_model.specs.Editor.{scratch, live, is_live, find, find_from, with_buffer, renamed};
+ghost use Rattle.buffer_table.specs.Kept.{editor_of, has_name, named_at};
+
+use crate::editor::{Editor, Live};
+use buffer_core::{Buffer, same_text};
+use ek_types::{Ch, Chars, Mem};
+use std::alloc::Global;
+
+/// The name of the first buffer.
+const SCRATCH: [u8; 9] = *b"*scratch*";
+
+/// The name of the first buffer, as characters.
+pub(crate) fn scratch(alloc: Global) -> Mem<Chars>
+    ensures { IfOk result (λ name. name.items ≡ scratch) }
+{
+    let mut name = Chars::new(alloc);
+    for byte in SCRATCH {
+        name.push(Ch::Scalar(char::from(byte)))?;
+    }
+    Ok(name)
+}
+
+/// Whether a buffer lives and has a name.
+fn is_named(entry: &Option<Live>, name: &Chars) -> bool
+    ensures { result ≡ has_name name.now.items entry.now }
+{
+    match entry {
+        Some(live) => same_text(&live.name, name),
+        None => false,
+    }
+}
+
+impl Editor {
+    /// The number of the live buffer of a name.
+    pub fn find(&self, name: &Chars) -> Option<u32>
+        ensures { result ≡ find (editor_of self.now) name.now.items }
+    {
+        for id in 0..self.buffers.len() {
+            if is_named(&self.buffers[id], name) {
+                return Some(id as u32);
+            }
+        }
+        None
+    }
+
+    /// The name of a live buffer, or `None` where no live buffer has the number.
+    pub fn name(&self, id: u32) -> Option<&Chars>
+        ensures { option_map (λ n. n.now.items) result ≡ option_map (λ l. l.name) (live (editor_of self.now) id) }
+    {
+        match self.buffers.get(id as usize) {
+            Some(Some(live)) => Some(&live.name),
+            _ => None,
+        }
+    }
+
+    /// Makes a live buffer the current one.
+    pub fn set_current(&mut self, id: u32)
+        requires { is_live (editor_of self.old) id ≡ true }
+        ensures { editor_of self.new ≡ record (editor_of self.old) { current = id } }
+    {
+        self.current = id;
+    }
+
+    /// Makes an empty buffer of a name that no live buffer has, and gives its number. A refusal leaves the editor as it was.
+    pub fn make(&mut self, name: &Chars) -> Mem<u32>
+        requires room { length (editor_of self.old).buffers < 256 }
+        requires free { find (editor_of self.old) name.now.items ≡ None }
+        ensures number { IfOk result (λ id. id ≡ length (editor_of self.old).buffers) }
+        ensures live { IfOk result (λ id. is_live (editor_of self.new) id ≡ true) }
+        ensures ok { OnOk result (editor_of self.new ≡ with_buffer name.now.items (editor_of self.old)) }
+        ensures err { OnErr result (editor_of self.new ≡ editor_of self.old) }
+        ensures pool { self.new.pool ≡ self.old.pool }
+        ensures others { (id : ℕ) → id < length self.old.buffers → named_at self.new.buffers id ≡ named_at self.old.buffers id }
+    {
+        let name = name.copy()?;
+        self.buffers.reserve(1)?;
+        let number = self.buffers.len() as u32;
+        let buffer = Buffer::new(self.alloc);
+        self.buffers.push_reserved(Some(Live { name, buffer }));
+        Ok(number)
+    }
+
+    /// Gives a live buffer a name that no other live buffer has. A refusal leaves the editor as it was.
+    pub fn rename(&mut self, id: u32, name: &Chars) -> Mem<()>
+        requires live { is_live (editor_of self.old) id ≡ true }
+        requires free { find_from 0 (slice_set (editor_of self.old).buffers id None) name.now.items ≡ None }
+        ensures ok { OnOk result (editor_of self.new ≡ renamed id name.now.items (editor_of self.old)) }
+        ensures err { OnErr result (editor_of self.new ≡ editor_of self.old) }
+    {
+        let name = name.copy()?;
+        match &mut self.buffers[id as usize] {
+            Some(live) => live.name = name,
+            None => unreachable!(),
+        }
+        Ok(())
+    }
+}
