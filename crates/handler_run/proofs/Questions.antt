@@ -1,12 +1,12 @@
 -- One question to a child: whom it is to, and what becomes of the table.
-use Rattle.std.proofs.Common.{◌≡◌, ℕ, true, List, ◌++◌, refl, ap, sym, ◌∙◌, inl, inr, slice_get}
+use Rattle.std.proofs.Common.{◌≡◌, ℕ, List, ◌++◌, refl, ap, sym, ◌∙◌, inl, inr, slice_get}
 use Rattle.std.specs.Prelude.{Some, None}
 use Rattle.std.specs.declared.option.Option.{Option}
 use Rattle.std.proofs.lemmas.Bool.{false≢true}
 use Rattle.text_model.specs.Decoding.{tail}
-use Rattle.plain_machine.specs.State.{Process, Status, Exited, Signalled, Lost}
-use Rattle.plain_machine.specs.Arguments.{child_of, runs}
-use Rattle.process_table.specs.Table.{with_table, changed, held_by, with_held, with_drained, with_status}
+use Rattle.plain_machine.specs.State.{Process, Exited, Signalled, Lost}
+use Rattle.plain_machine.specs.Arguments.{child_of}
+use Rattle.process_table.specs.Table.{with_table, held_by, with_held, with_drained, with_status}
 use Rattle.host_link.specs.declared.host.Got.{Got}
 use Rattle.host_link.specs.declared.host.Got.TheVariants as got
 use Rattle.host_link.specs.declared.host.Ended.{Ended}

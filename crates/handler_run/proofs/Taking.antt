@@ -1,15 +1,15 @@
 -- How the machine takes the answers of a process.
-use Rattle.std.proofs.Common.{◌≡◌, ℕ, zero, suc, ◌+◌, ◌<◌, ◌≤◌, Bool, true, false, List, [], ◌∷◌, ◌++◌, length, map, take, slice_get, slice_set, refl, ap, sym, subst, ◌∙◌, arith, inl, inr}
-use Rattle.std.specs.Prelude.{◌⊎◌, nat_lt, All, Some, None, codes}
+use Rattle.std.proofs.Common.{◌≡◌, ℕ, zero, suc, ◌<◌, true, List, [], ◌∷◌, ◌++◌, length, map, take, slice_get, slice_set, refl, ap, sym, subst, ◌∙◌, arith, inl, inr}
+use Rattle.std.specs.Prelude.{◌⊎◌, nat_lt, All, Some, None}
 use Rattle.std.specs.List.{list_all}
 use Rattle.std.specs.declared.option.Option.{Option}
 use Rattle.std.proofs.lemmas.Bool.{le-leb, lt-ltb}
 use Rattle.text_model.specs.Characters.{Ch, Scalar}
 use Rattle.text_model.specs.Properties.{bare}
 use Rattle.text_model.specs.Decoding.{characters, all_characters}
-use Rattle.editor_model.specs.Values.{Value, Str, TheProcess}
+use Rattle.editor_model.specs.Values.{Str, TheProcess}
 use Rattle.plain_machine.specs.Exchanges.{Answer, Bytes}
-use Rattle.plain_machine.specs.State.{State, Process, Status, Exited, Signalled, Lost, process, change_process}
+use Rattle.plain_machine.specs.State.{State, Process, Status, Exited, Signalled, Lost, change_process}
 use Rattle.plain_machine.specs.Lines.{OfSentinel}
 use Rattle.plain_machine.specs.Items.{Item, Enter, Wait, Waiting, Target}
 use Rattle.plain_machine.specs.Calls.{silent}

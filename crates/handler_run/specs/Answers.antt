@@ -4,7 +4,7 @@ use Rattle.text_model.specs.Characters.{Ch}
 use Rattle.text_model.specs.Decoding.{characters, tail, all_characters}
 use Rattle.plain_machine.specs.Exchanges.{Answer, Bytes}
 use Rattle.plain_machine.specs.State.{State, Process, Status, Exited, Signalled, Lost}
-use Rattle.plain_machine.specs.Items.{Item, Wait, Waiting, Target, Next}
+use Rattle.plain_machine.specs.Items.{Item, Wait, Waiting, Target}
 use Rattle.plain_machine.specs.Calls.{silent}
 use Rattle.plain_machine.specs.Waits.{entry_of, read_answer, end_answer, ends, exit_text}
 use Rattle.process_table.specs.Table.{StandsFor, changed, held_by, with_held, with_drained, with_status}
