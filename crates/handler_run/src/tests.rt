@@ -1,5 +1,5 @@
 //! What is entered for answers: ends of all kinds, tails that are held when the output ends, and handlers set meanwhile.
-ghost use Rattle.std.specs.Prelude.{◌≡◌, ◌<◌, ◌≤◌, length};
+ghost use Rattle.std.specs.Prelude.{◌≡◌, ◌<◌, ◌≤◌, [], length};
 ghost use Rattle.handler_run.specs.Answers.{IsRead};
 
 use crate::{Entry, ended, enter, ready};
