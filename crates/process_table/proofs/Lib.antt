@@ -3,3 +3,4 @@ pub mod Finding
 pub mod Numbering
 pub mod Reading
 pub mod Resolution
+pub mod Standing

@@ -30,6 +30,11 @@ abbrev pub new_process : Name → (child : ℕ) → (buffer : Option ℕ) → (m
 new_process name child buffer mark =
     record { name = name; child = child; status = Runs; buffer = buffer; mark = mark; filter = Default; sentinel = None; bytes = []; drained = false; closed = false; listed = true }
 
+-- room for a process more, of this name, in a table of at most so many
+pub record Room : Type 0 where
+  pub name : Name
+  pub processes : ℕ
+
 -- the bytes that the decoder of a process holds
 abbrev pub held_by : List Process → (p : ℕ) → List ℕ
 held_by table p = elim (slice_get table p) [ None ↦ [] | Some x ↦ x.bytes ]

@@ -13,11 +13,13 @@ ghost use Rattle.process_table.specs.Table.{NamesDiffer, StandsFor, new_process,
 ghost use Rattle.process_table.specs.Resolving.{Resolves, IsMade};
 
 use crate::names::{Letters, numbered};
+use crate::place::{Place, moved};
 use crate::process::{Filter, Process, Status};
 use ek_call::{Fault, Value};
 use ek_types::{Chars, Mem, Sym};
 use std::alloc::Global;
 use std::marker::Model;
+use std::mem;
 
 /// Processes by number, from 0 in the order in which they were made, seen as the list of them. A run makes at most 256.
 /// Names of listed processes differ. A process that a call is given, by its number, was made.
@@ -58,6 +60,34 @@ impl Processes {
         self.list.len() as u32
     }
 
+    /// Takes all the memory that one process more of this name needs, so that its child can be asked for.
+    pub fn reserve(&self, name: &Chars) -> Mem<Place>
+        ensures { IfOk result (λ place. place ≡ record { name = name.now.items; processes = length self.now + 1 }) }
+    {
+        Ok(Place {
+            name: name.copy()?,
+            list: Vec::with_capacity(*self.list.allocator(), self.list.len() + 1)?,
+        })
+    }
+
+    /// Makes a process that just started in the place that was reserved for it, and gives its number. It takes no
+    /// memory. Fewer than 256 processes were made before, and no listed one has the name.
+    pub fn add_reserved(&mut self, place: Place, child: u32, buffer: Option<u32>, mark: u32) -> u32
+        requires few { length self.old < 256 }
+        requires room { length self.old < place.processes }
+        requires free { find_process 0 self.old place.name ≡ None }
+        ensures number { result ≡ length self.old }
+        ensures table { self.new ≡ self.old ++ new_process place.name child buffer mark ∷ [] }
+    {
+        let number = self.list.len() as u32;
+        let empty = Vec::new(*self.list.allocator());
+        let processes = mem::replace(&mut self.list, empty);
+        self.list = moved(processes, place.list);
+        self.list
+            .push_reserved(Process::new(place.name, child, buffer, mark));
+        number
+    }
+
     /// Makes a process that just started, and gives its number. Fewer than 256 were made before, and no listed process has
     /// the name. A refusal leaves all processes as they were.
     pub fn add(&mut self, name: &Chars, child: u32, buffer: Option<u32>, mark: u32) -> Mem<u32>
@@ -68,10 +98,8 @@ impl Processes {
         ensures err { OnErr result (self.new ≡ self.old) }
         ensures machine { OnOk result ((all : List Meant) → StandsFor self.old all → StandsFor self.new (all ++ new_process name.now.items child buffer mark ∷ [])) }
     {
-        let number = self.list.len() as u32;
-        let name = name.copy()?;
-        self.list.push(Process::new(name, child, buffer, mark))?;
-        Ok(number)
+        let place = self.reserve(name)?;
+        Ok(self.add_reserved(place, child, buffer, mark))
     }
 
     /// The process of number `p`.
@@ -142,7 +170,6 @@ impl Processes {
         requires { p < length self.old }
         ensures count { length self.new ≡ length self.old }
         ensures table { self.new ≡ changed p (with_filter (filter_of f)) self.old }
-        ensures machine { (s : State) → StandsFor self.old s.processes → StandsFor self.new (change_process p (with_filter (filter_of f)) s).processes }
     {
         self.list[p as usize].set_filter(f);
     }
@@ -152,7 +179,6 @@ impl Processes {
         requires { p < length self.old }
         ensures count { length self.new ≡ length self.old }
         ensures table { self.new ≡ changed p (with_sentinel (option_map number_of s)) self.old }
-        ensures machine { (m : State) → StandsFor self.old m.processes → StandsFor self.new (change_process p (with_sentinel (option_map number_of s)) m).processes }
     {
         self.list[p as usize].set_sentinel(s);
     }
@@ -162,7 +188,6 @@ impl Processes {
         requires { p < length self.old }
         ensures count { length self.new ≡ length self.old }
         ensures table { self.new ≡ changed p (of_buffer b) self.old }
-        ensures machine { (s : State) → StandsFor self.old s.processes → StandsFor self.new (change_process p (of_buffer b) s).processes }
     {
         self.list[p as usize].set_buffer(b);
     }
@@ -192,7 +217,6 @@ impl Processes {
         requires { p < length self.old }
         ensures count { length self.new ≡ length self.old }
         ensures table { self.new ≡ changed p with_input_closed self.old }
-        ensures machine { (s : State) → StandsFor self.old s.processes → StandsFor self.new (change_process p with_input_closed s).processes }
     {
         self.list[p as usize].close_input();
     }

@@ -35,7 +35,8 @@ fn start(rt: &impl Abort, alloc: Global, table: &mut Processes, name: &[u8], bec
     is_text(rt, &free, becomes);
     assert!(rt; table.count() < 256);
     let child = 100 + table.count();
-    let p = table.add(&free, child, Some(3), 7).expect(rt, "a process");
+    let place = table.reserve(&free).expect(rt, "a place");
+    let p = table.add_reserved(place, child, Some(3), 7);
     is_text(rt, table.get(p).name(), becomes);
     assert_eq!(rt; table.get(p).child(), child);
     p
@@ -63,7 +64,8 @@ fn one(rt: &impl Abort, alloc: Global) -> Processes
     ensures { length result ≡ 1 }
 {
     let mut table = Processes::new(alloc);
-    start(rt, alloc, &mut table, b"p", b"p");
+    let name = text(rt, alloc, b"p");
+    table.add(&name, 0, None, 0).expect(rt, "a process");
     table
 }
 

@@ -1,6 +1,6 @@
-use Rattle.std.proofs.Common.{◌<◌, length, refl, ap, arith}
+use Rattle.std.proofs.Common.{◌<◌, length, ap, arith}
 use Rattle.plain_machine.specs.Calls.{with_input_closed}
-use Rattle.process_table.proofs.Changing.{written, written_stands, invariant_same}
+use Rattle.process_table.proofs.Changing.{written, invariant_same}
 use Rattle.process_table.proofs.Finding.{key}
 use Rattle.process_table.proofs.processes.Processes.close_input.Goals as goal
 
@@ -11,6 +11,3 @@ invariant_of-self c =
 
 pub returns-clause-table : goal.returns-clause-table
 returns-clause-table c = written _ _ _ c.index_mut.result.now _ (with_input_closed) c.self.view_is c.requires c.index_mut.ensures.value c.close_input.ensures
-
-pub returns-clause-machine : goal.returns-clause-machine
-returns-clause-machine c = written_stands _ _ _ c.index_mut.result.now _ (with_input_closed) (with_input_closed) c.self.view_is c.requires c.index_mut.ensures.value c.close_input.ensures (λ y. refl)

@@ -1,6 +1,6 @@
-use Rattle.std.proofs.Common.{◌<◌, length, refl, ap, arith}
+use Rattle.std.proofs.Common.{◌<◌, length, ap, arith}
 use Rattle.plain_machine.specs.Calls.{of_buffer}
-use Rattle.process_table.proofs.Changing.{written, written_stands, invariant_same}
+use Rattle.process_table.proofs.Changing.{written, invariant_same}
 use Rattle.process_table.proofs.Finding.{key}
 use Rattle.process_table.proofs.processes.Processes.set_buffer.Goals as goal
 
@@ -11,6 +11,3 @@ invariant_of-self c =
 
 pub returns-clause-table : goal.returns-clause-table
 returns-clause-table c = written _ _ _ c.index_mut.result.now _ (of_buffer c.args.b) c.self.view_is c.requires c.index_mut.ensures.value c.set_buffer.ensures
-
-pub returns-clause-machine : goal.returns-clause-machine
-returns-clause-machine c = written_stands _ _ _ c.index_mut.result.now _ (of_buffer c.args.b) (of_buffer c.args.b) c.self.view_is c.requires c.index_mut.ensures.value c.set_buffer.ensures (λ y. refl)

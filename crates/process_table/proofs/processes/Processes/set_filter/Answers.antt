@@ -1,7 +1,7 @@
-use Rattle.std.proofs.Common.{◌<◌, length, refl, ap, arith}
+use Rattle.std.proofs.Common.{◌<◌, length, ap, arith}
 use Rattle.plain_machine.specs.Calls.{with_filter}
 use Rattle.process_table.specs.Meaning.{filter_of}
-use Rattle.process_table.proofs.Changing.{written, written_stands, invariant_same}
+use Rattle.process_table.proofs.Changing.{written, invariant_same}
 use Rattle.process_table.proofs.Finding.{key}
 use Rattle.process_table.proofs.processes.Processes.set_filter.Goals as goal
 
@@ -12,6 +12,3 @@ invariant_of-self c =
 
 pub returns-clause-table : goal.returns-clause-table
 returns-clause-table c = written _ _ _ c.index_mut.result.now _ (with_filter (filter_of c.args.f)) c.self.view_is c.requires c.index_mut.ensures.value c.set_filter.ensures
-
-pub returns-clause-machine : goal.returns-clause-machine
-returns-clause-machine c = written_stands _ _ _ c.index_mut.result.now _ (with_filter (filter_of c.args.f)) (with_filter (filter_of c.args.f)) c.self.view_is c.requires c.index_mut.ensures.value c.set_filter.ensures (λ y. refl)

@@ -1,8 +1,8 @@
-use Rattle.std.proofs.Common.{◌<◌, length, refl, ap, arith}
+use Rattle.std.proofs.Common.{◌<◌, length, ap, arith}
 use Rattle.std.specs.Prelude.{option_map}
 use Rattle.plain_machine.specs.Calls.{with_sentinel}
 use Rattle.ek_types.specs.Property.{number_of}
-use Rattle.process_table.proofs.Changing.{written, written_stands, invariant_same}
+use Rattle.process_table.proofs.Changing.{written, invariant_same}
 use Rattle.process_table.proofs.Finding.{key}
 use Rattle.process_table.proofs.processes.Processes.set_sentinel.Goals as goal
 
@@ -13,6 +13,3 @@ invariant_of-self c =
 
 pub returns-clause-table : goal.returns-clause-table
 returns-clause-table c = written _ _ _ c.index_mut.result.now _ (with_sentinel (option_map number_of c.args.s)) c.self.view_is c.requires c.index_mut.ensures.value c.set_sentinel.ensures
-
-pub returns-clause-machine : goal.returns-clause-machine
-returns-clause-machine c = written_stands _ _ _ c.index_mut.result.now _ (with_sentinel (option_map number_of c.args.s)) (with_sentinel (option_map number_of c.args.s)) c.self.view_is c.requires c.index_mut.ensures.value c.set_sentinel.ensures (λ y. refl)

@@ -1,0 +1,55 @@
+-- One question to a child and its answer, on the host and in the machine.
+use Rattle.std.specs.Prelude.{◌≡◌, ℕ, true, false, List, slice_set, ◌⊎◌, Some}
+use Rattle.plain_machine.specs.Exchanges.{Ask, Answer, Read, AskEnd, Kill}
+use Rattle.plain_machine.specs.State.{State, Process, process}
+use Rattle.plain_machine.specs.Arguments.{child_of, runs}
+use Rattle.process_table.specs.Table.{StandsFor, with_table, changed}
+use Rattle.host_link.specs.Hosts.{HostState, Exchanged, ended_answer, kill_answer}
+use Rattle.host_link.specs.declared.host.Ended.{Ended}
+use Rattle.host_link.specs.declared.host.KillAnswer.{KillAnswer}
+use Rattle.handler_run.specs.Answers.{Reads, Ends, Deletes, gave_bytes}
+use Rattle.handler_run.specs.declared.entry.Entry.{Entry}
+use Rattle.handler_run.specs.declared.asking.Heard.{Heard}
+
+-- a change of one process that leaves its child as it is, or ends it
+pub record Touches (p : ℕ) (old new : List Process) : Type 0 where
+  pub change : Process → Process
+  pub same : new ≡ changed p change old
+  pub child : (x : Process) → (change x).child ≡ x.child
+  pub ends : (x : Process) → runs (change x).status ≡ true → runs x.status ≡ true
+
+-- the table is as it was, or one process was touched
+abbrev pub TouchesIf : (p : ℕ) → (old new : List Process) → Type 0
+TouchesIf p old new = (new ≡ old) ⊎ Touches p old new
+
+-- the process answered a read, and the machine takes its answer
+pub record HearsOutput {H : Type 0} (state : H → HostState) (made : H → H → Ask → ℕ → Answer → Type 0) (host host' : H) (old new : List Process) (p : ℕ) (heard : Heard) : Type 0 where
+  pub answer : Answer
+  pub called : made host host' (Read (child_of (with_table old) p)) 4096 answer
+  pub exchanged : Exchanged (state host) (state host') (state host).kills (Read (child_of (with_table old) p)) answer
+  pub bytes : heard.bytes ≡ gave_bytes answer
+  pub touches : TouchesIf p old new
+  pub machine : (s : State) (x : Process) → StandsFor old s.processes → process s p ≡ Some x → x.drained ≡ false → Reads s p x answer new heard.entry
+
+-- it answered how it has ended
+pub record HearsEnd {H : Type 0} (state : H → HostState) (made : H → H → Ask → ℕ → Answer → Type 0) (host host' : H) (old new : List Process) (p : ℕ) (heard : Heard) : Type 0 where
+  pub how : Ended
+  pub called : made host host' (AskEnd (child_of (with_table old) p)) 0 (ended_answer how)
+  pub exchanged : Exchanged (state host) (state host') (state host).kills (AskEnd (child_of (with_table old) p)) (ended_answer how)
+  pub bytes : heard.bytes ≡ false
+  pub touches : TouchesIf p old new
+  pub machine : (s : State) (x : Process) → StandsFor old s.processes → process s p ≡ Some x → Ends s p x how new heard.entry
+
+-- by whether its output had ended
+pub record Hears {H : Type 0} (state : H → HostState) (made : H → H → Ask → ℕ → Answer → Type 0) (host host' : H) (old new : List Process) (p : ℕ) (heard : Heard) : Type 0 where
+  pub one : Process
+  pub found : process (with_table old) p ≡ Some one
+  pub answered : ((one.drained ≡ false) × HearsOutput state made host host' old new p heard) ⊎ ((one.drained ≡ true) × HearsEnd state made host host' old new p heard)
+
+-- it was asked to be killed, and has ended by that
+pub record Kills {H : Type 0} (state : H → HostState) (made : H → H → Ask → ℕ → Answer → Type 0) (host host' : H) (old new : List Process) (p : ℕ) (entry : Entry) : Type 0 where
+  pub how : KillAnswer
+  pub called : made host host' (Kill (child_of (with_table old) p)) 0 (kill_answer how)
+  pub exchanged : Exchanged (state host) (state host') (slice_set (state host).kills (child_of (with_table old) p) true) (Kill (child_of (with_table old) p)) (kill_answer how)
+  pub touches : TouchesIf p old new
+  pub machine : (s : State) (x : Process) → StandsFor old s.processes → process s p ≡ Some x → Deletes s p x new entry
