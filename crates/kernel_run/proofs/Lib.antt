@@ -4,6 +4,7 @@ pub mod Calling
 pub mod Changing
 pub mod Defaults
 pub mod Evaluating
+pub mod Exchanging
 pub mod Finishing
 pub mod Handling
 pub mod HostCalls
@@ -12,8 +13,11 @@ pub mod Journeys
 pub mod KeptProcesses
 pub mod KeptStates
 pub mod Killing
+pub mod Launching
+pub mod Passing
 pub mod Results
 pub mod Shapes
+pub mod Silently
 pub mod Telling
 pub mod Tops
 pub mod Waiting

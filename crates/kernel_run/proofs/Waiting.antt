@@ -134,7 +134,7 @@ module _ (program : Program) (w : World) where
       (λ s rest h. goes (ap (λ m. call_by m program deepest s target rest prim args) manner ∙ ap (λ o. unless_fault o s rest (process_effect s target rest prim args)) (refused_alike s prim args h ∙ sym refused)) stays)
 
   -- a call that passes its tests has its effect
-  effect_step : (prim : Prim) (args : List Value) (target : Target) → manner_of prim ≡ ConcernsHandlers → Passes program w.state prim args → (s : State) (rest : List Item) → Stands w.state s → step program deepest (working s (MakeCall prim args target ∷ rest)) ≡ process_effect s target rest prim args
+  pub effect_step : (prim : Prim) (args : List Value) (target : Target) → manner_of prim ≡ ConcernsHandlers → Passes program w.state prim args → (s : State) (rest : List Item) → Stands w.state s → step program deepest (working s (MakeCall prim args target ∷ rest)) ≡ process_effect s target rest prim args
   effect_step prim args target manner p s rest h = ap (λ m. call_by m program deepest s target rest prim args) manner ∙ ap (λ o. unless_fault o s rest (process_effect s target rest prim args)) (refused_alike s prim args h ∙ p)
 
   pub waits_went : (args : List Value) (target : Target) (begun : Waiting) → Passes program w.state AcceptProcessOutput args → begun ≡ waiting_of w.state args →

@@ -1,8 +1,12 @@
 -- How pieces of work are put together.
+use Rattle.std.specs.Prelude.{Option, Some}
 use Rattle.std.proofs.Common.{◌≡◌, ℕ, ◌≤◌, Bool, List, [], ◌∷◌, Result, Ok, Err, refl, ap, sym, ◌∙◌, arith}
 use Rattle.editor_model.specs.Values.{Fault}
 use Rattle.plain_machine.specs.State.{State, Program}
-use Rattle.plain_machine.specs.Items.{Item, Config}
+use Rattle.plain_machine.specs.Exchanges.{Ask, Answer}
+use Rattle.plain_machine.specs.Items.{Item, Config, Next, Asks}
+use Rattle.plain_machine.specs.Calls.{silent}
+use Rattle.plain_machine.specs.Step.{step}
 use Rattle.plain_machine.specs.WholeRuns.{IsBetweenEntries}
 use Rattle.plain_machine.specs.Run.{Reaches, stays}
 use Rattle.ek_types.specs.Io.{SinkState, HasCause, Writes}
@@ -14,7 +18,7 @@ use Rattle.kernel_run.specs.declared.stop.Stop.{Stop}
 use Rattle.kernel_run.specs.declared.stop.Stop.TheVariants as stop
 use Rattle.kernel_run.specs.declared.stop.Halt.{Halt}
 use Rattle.kernel_run.specs.declared.stop.Halt.TheVariants as halt
-use Rattle.kernel_run.proofs.Journeys.{adds_nothing, goes_silently, goes_then, breaks_here, goes_breaks}
+use Rattle.kernel_run.proofs.Journeys.{AddsOne, adds_nothing, asked, goes_silently, goes_then, breaks_here, goes_breaks}
 use Rattle.kernel_run.proofs.KeptStates.{running_alike}
 
 -- CHILDREN AND NESTING
@@ -103,6 +107,12 @@ pub record Went (program : Program) (a b : World) (from to : State → List Item
   pub comes : (s : State) (rest : List Item) → Stands a.state s → IsBehind rest → GoesTo program a b (from s rest) (λ t. to t rest)
   pub later : a.outside.sink.faults ≤ b.outside.sink.faults
 
+-- the machine's next step asks this, and goes on by this answer
+pub record Asking (program : Program) (c : Config) (ask : Ask) (answer : Answer) (d : Config) : Type 0 where
+  pub next : Answer → Option Next
+  pub steps : step program deepest c ≡ Asks ask next
+  pub answers : next answer ≡ Some (silent d.state d.work)
+
 module _ (program : Program) where
   pub went_self : (w : World) (from : State → List Item → Config) → Went program w w from from
   went_self w from = record { comes = λ s rest stands behind. record { state = s; stands = stands; goes = goes_silently program w.outside _ _ stays }; later = omega arith }
@@ -124,6 +134,16 @@ module _ (program : Program) where
       ((s : State) (rest : List Item) → Stands w.state s → Reaches program deepest (from s rest) [] [] (to (change s) rest)) → Went program w (record w { state = known }) from to
   went_silently w known change from to stands reaches = record {
     comes = λ s rest h behind. record { state = change s; stands = stands s h; goes = goes_silently program w.outside _ _ (reaches s rest h) };
+    later = omega arith;
+  }
+
+  -- one exchange, whose answer is told in no line
+  pub went_asked : (w : World) (known : State) (kills : List Bool) (past : Past) (ask : Ask) (answer : Answer) (change : State → State) (from to : State → List Item → Config) → AddsOne w.outside.past past ask answer → ((s : State) → Stands w.state s → Stands known (change s)) →
+      ((s : State) (rest : List Item) → Stands w.state s → Asking program (from s rest) ask answer (to (change s) rest)) → Went program w (record { state = known; kills = kills; outside = outside w.outside.sink past }) from to
+  went_asked w known kills past ask answer change from to exchange stands asks = record {
+    comes = λ s rest h behind.
+        let x = asks s rest h in
+        record { state = change s; stands = stands s h; goes = asked program w.outside.sink w.outside.past past (from s rest) ask answer x.next (silent (to (change s) rest).state (to (change s) rest).work) x.steps x.answers refl exchange };
     later = omega arith;
   }
 

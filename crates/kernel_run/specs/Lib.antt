@@ -6,6 +6,7 @@ pub mod Handlers
 pub mod HostCalls
 pub mod Outcomes
 pub mod Outside
+pub mod Processes
 pub mod Sizes
 pub mod Waits
 pub mod Work

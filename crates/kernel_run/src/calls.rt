@@ -60,8 +60,8 @@ pub fn call<M: Kernel, P: Program, H: Host, K: Sink>(
     args: &Values,
 ) -> Result<Value, Halt>
     requires { IsReady (M.state kernel.old) (H.state host.old).kills }
-    ensures { Between M.state H.state H.made kernel.old kernel.new host.old host.new (K.state sink.old)
-        (K.state sink.new)
+    ensures { Between M.state H.state H.made
+        kernel.old kernel.new host.old host.new (K.state sink.old) (K.state sink.new)
         (Answers result view (P.meant program.now) (prim_of prim) (map view (items_of args.now))) }
 {
     match M::manner(prim) {

@@ -32,8 +32,8 @@ pub fn change_text<M: Kernel, P: Program, H: Host, K: Sink>(
 ) -> Result<Value, Halt>
     requires ready { IsReady (M.state kernel.old) (H.state host.old).kills }
     requires manner { manner_of (prim_of prim) ≡ ChangesText }
-    ensures { Between M.state H.state H.made kernel.old kernel.new host.old host.new (K.state sink.old)
-        (K.state sink.new)
+    ensures { Between M.state H.state H.made
+        kernel.old kernel.new host.old host.new (K.state sink.old) (K.state sink.new)
         (Answers result view (P.meant program.now) (prim_of prim) (map view (items_of args.now))) }
 {
     match kernel.prepare(prim, args)? {
@@ -60,8 +60,8 @@ pub fn make_change<M: Kernel, P: Program, H: Host, K: Sink>(
     change: &Change,
 ) -> Result<(), Halt>
     requires { IsReady (M.state kernel.old) (H.state host.old).kills }
-    ensures { Between M.state H.state H.made kernel.old kernel.new host.old host.new (K.state sink.old)
-        (K.state sink.new)
+    ensures { Between M.state H.state H.made
+        kernel.old kernel.new host.old host.new (K.state sink.old) (K.state sink.new)
         (Does result (P.meant program.now) (MakeChange (change_of M.what_of change.now))) }
 {
     let ends = M::ends(kernel.allocator(), change)?;
@@ -87,8 +87,8 @@ fn commit_change<M: Kernel, P: Program, H: Host, K: Sink>(
     change: &Change,
 ) -> Result<(), Halt>
     requires { IsReady (M.state kernel.old) (H.state host.old).kills }
-    ensures { Between M.state H.state H.made kernel.old kernel.new host.old host.new (K.state sink.old)
-        (K.state sink.new)
+    ensures { Between M.state H.state H.made
+        kernel.old kernel.new host.old host.new (K.state sink.old) (K.state sink.new)
         (Does result (P.meant program.now) (CommitChange (change_of M.what_of change.now))) }
 {
     match kernel.commit(change)? {
@@ -120,8 +120,8 @@ fn run_bracket<M: Kernel, P: Program, H: Host, K: Sink>(
 ) -> Result<(), Stop>
     requires ready { IsReady (M.state kernel.old) (H.state host.old).kills }
     requires hook { IsHook (kind_of kind) }
-    ensures { Between M.state H.state H.made kernel.old kernel.new host.old host.new (K.state sink.old)
-        (K.state sink.new)
+    ensures { Between M.state H.state H.made
+        kernel.old kernel.new host.old host.new (K.state sink.old) (K.state sink.new)
         (HooksAround (lifted result) (P.meant program.now) (kind_of kind) (map view (items_of args.now))) }
 {
     if kernel.inhibited() {
@@ -148,8 +148,8 @@ fn run_hooks<M: Kernel, P: Program, H: Host, K: Sink>(
     requires ready { IsReady (M.state kernel.old) (H.state host.old).kills }
     requires nesting { MayEnter (M.state kernel.old) }
     requires hook { IsHook (kind_of kind) }
-    ensures { Between M.state H.state H.made kernel.old kernel.new host.old host.new (K.state sink.old)
-        (K.state sink.new)
+    ensures { Between M.state H.state H.made
+        kernel.old kernel.new host.old host.new (K.state sink.old) (K.state sink.new)
         (Does (lifted result) (P.meant program.now) (Hooks (kind_of kind) (map number_of
         (items_of names.now)) (map view (items_of args.now)))) }
 {

@@ -28,8 +28,8 @@ pub fn run_top<M: Kernel, P: Program, H: Host, K: Sink>(
     forms: &Forms,
 ) -> Result<(), Stop>
     requires { IsReady (M.state kernel.old) (H.state host.old).kills }
-    ensures { Between M.state H.state H.made kernel.old kernel.new host.old host.new (K.state sink.old)
-        (K.state sink.new)
+    ensures { Between M.state H.state H.made
+        kernel.old kernel.new host.old host.new (K.state sink.old) (K.state sink.new)
         (RunsTop (lifted result) (P.meant program.now) (joined (map form_of (items_of forms.now)))) }
 {
     for i in 0..forms.len() {
@@ -48,8 +48,8 @@ pub fn run_forms<M: Kernel, P: Program, H: Host, K: Sink>(
     forms: &Forms,
 ) -> Result<(), Halt>
     requires { IsReady (M.state kernel.old) (H.state host.old).kills }
-    ensures { Between M.state H.state H.made kernel.old kernel.new host.old host.new (K.state sink.old)
-        (K.state sink.new)
+    ensures { Between M.state H.state H.made
+        kernel.old kernel.new host.old host.new (K.state sink.old) (K.state sink.new)
         (Does result (P.meant program.now) (Body (joined (map form_of (items_of forms.now))))) }
 {
     for i in 0..forms.len() {
@@ -68,8 +68,8 @@ fn run_form<M: Kernel, P: Program, H: Host, K: Sink>(
     form: &Form,
 ) -> Result<(), Halt>
     requires { IsReady (M.state kernel.old) (H.state host.old).kills }
-    ensures { Between M.state H.state H.made kernel.old kernel.new host.old host.new (K.state sink.old)
-        (K.state sink.new)
+    ensures { Between M.state H.state H.made
+        kernel.old kernel.new host.old host.new (K.state sink.old) (K.state sink.new)
         (Does result (P.meant program.now) (DoForm (form_of form.now))) }
 {
     match form {
@@ -108,8 +108,8 @@ fn run_block<M: Kernel, P: Program, H: Host, K: Sink>(
     forms: &Forms,
 ) -> Result<(), Halt>
     requires { IsReady (M.state kernel.old) (H.state host.old).kills }
-    ensures { Between M.state H.state H.made kernel.old kernel.new host.old host.new (K.state sink.old)
-        (K.state sink.new)
+    ensures { Between M.state H.state H.made
+        kernel.old kernel.new host.old host.new (K.state sink.old) (K.state sink.new)
         (Does result (P.meant program.now) (DoForm (In (block_of block) (joined (map form_of
         (items_of forms.now)))))) }
 {
@@ -131,8 +131,8 @@ fn run_when<M: Kernel, P: Program, H: Host, K: Sink>(
     forms: &Forms,
 ) -> Result<(), Halt>
     requires { IsReady (M.state kernel.old) (H.state host.old).kills }
-    ensures { Between M.state H.state H.made kernel.old kernel.new host.old host.new (K.state sink.old)
-        (K.state sink.new)
+    ensures { Between M.state H.state H.made
+        kernel.old kernel.new host.old host.new (K.state sink.old) (K.state sink.new)
         (Does result (P.meant program.now) (DoForm (WhenEq (arg_of a.now) (arg_of b.now) (joined
         (map form_of (items_of forms.now)))))) }
 {
@@ -153,8 +153,8 @@ fn run_call<M: Kernel, P: Program, H: Host, K: Sink>(
     form: &Call,
 ) -> Result<Value, Halt>
     requires { IsReady (M.state kernel.old) (H.state host.old).kills }
-    ensures { Between M.state H.state H.made kernel.old kernel.new host.old host.new (K.state sink.old)
-        (K.state sink.new)
+    ensures { Between M.state H.state H.made
+        kernel.old kernel.new host.old host.new (K.state sink.old) (K.state sink.new)
         (AnswersForm result view (P.meant program.now) (call_of form.now)) }
 {
     match values(form.args.allocator(), kernel, &form.args)? {

@@ -36,8 +36,8 @@ pub fn handle<M: Kernel, P: Program, H: Host, K: Sink>(
 ) -> Result<bool, Stop>
     requires ready { IsReady (M.state kernel.old) (H.state host.old).kills }
     requires nesting { MayEnter (M.state kernel.old) }
-    ensures { Between M.state H.state H.made kernel.old kernel.new host.old host.new (K.state sink.old)
-        (K.state sink.new)
+    ensures { Between M.state H.state H.made
+        kernel.old kernel.new host.old host.new (K.state sink.old) (K.state sink.new)
         (Handles (lifted result) (P.meant program.now) (kind_of kind) (option_map number_of handler)
         (map view (items_of args.now))) }
 {
@@ -63,8 +63,8 @@ fn run_handler<M: Kernel, P: Program, H: Host, K: Sink>(
     args: &Values,
 ) -> Result<(), Halt>
     requires { IsReady (M.state kernel.old) (H.state host.old).kills }
-    ensures { Between M.state H.state H.made kernel.old kernel.new host.old host.new (K.state sink.old)
-        (K.state sink.new)
+    ensures { Between M.state H.state H.made
+        kernel.old kernel.new host.old host.new (K.state sink.old) (K.state sink.new)
         (RunsCode result (P.meant program.now) (kind_of kind) (option_map number_of handler)
         (map view (items_of args.now))) }
 {
@@ -99,8 +99,8 @@ fn run_default<M: Kernel, P: Program, H: Host, K: Sink>(
     args: &Values,
 ) -> Result<(), Halt>
     requires { IsReady (M.state kernel.old) (H.state host.old).kills }
-    ensures { Between M.state H.state H.made kernel.old kernel.new host.old host.new (K.state sink.old)
-        (K.state sink.new)
+    ensures { Between M.state H.state H.made
+        kernel.old kernel.new host.old host.new (K.state sink.old) (K.state sink.new)
         (RunsCode result (P.meant program.now) (kind_of kind) None (map view (items_of args.now))) }
 {
     match kernel.prepare_default(kind, args)? {
@@ -122,8 +122,8 @@ fn run_native<M: Kernel, P: Program, H: Host, K: Sink>(
     args: &Values,
 ) -> Result<(), Halt>
     requires { IsReady (M.state kernel.old) (H.state host.old).kills }
-    ensures { Between M.state H.state H.made kernel.old kernel.new host.old host.new (K.state sink.old)
-        (K.state sink.new)
+    ensures { Between M.state H.state H.made
+        kernel.old kernel.new host.old host.new (K.state sink.old) (K.state sink.new)
         (Does result (P.meant program.now) (Native native (map view (items_of args.now)) [])) }
 {
     let mut past = ListOf::new(kernel.allocator());
@@ -147,11 +147,11 @@ fn call_native<M: Kernel, P: Program, H: Host, K: Sink>(
     asked: NativeCall,
 ) -> Result<Reply, Stop>
     requires { IsReady (M.state kernel.old) (H.state host.old).kills }
-    ensures { Between M.state H.state H.made kernel.old kernel.new host.old host.new (K.state sink.old)
-        (K.state sink.new)
+    ensures { Between M.state H.state H.made
+        kernel.old kernel.new host.old host.new (K.state sink.old) (K.state sink.new)
         (RepliesTo (lifted result) reply_of (P.meant program.now) (call_asked asked)) }
 {
-    match kernel.allowed(program, asked) {
+    match kernel.allowed(program, asked)? {
         Some(made) => as_reply(call(kernel, program, host, sink, made.prim, &made.args)),
         None => as_reply(Err(refuse(kernel, program, sink, Fault::WrongType))),
     }

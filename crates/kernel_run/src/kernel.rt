@@ -1,5 +1,5 @@
 //! What a run keeps.
-ghost use Rattle.std.specs.Prelude.{◌≡◌, ◌+◌, ◌-◌, ◌<◌, ◌≤◌, IsSome, true, map, IfOk, OnOk, OnErr, option_map};
+ghost use Rattle.std.specs.Prelude.{◌≡◌, ◌+◌, ◌-◌, ◌<◌, ◌≤◌, IsSome, true, length, map, string_bytes, IfOk, OnOk, OnErr, option_map};
 ghost use Rattle.editor_model.specs.Values.{equal};
 ghost use Rattle.editor_model.specs.Prims.{manner_of};
 ghost use Rattle.editor_model.specs.Table.{query as query_of, apply as apply_of, prepare as prepare_of, commit as commit_of, What as Whatever};
@@ -18,7 +18,11 @@ ghost use Rattle.editor_model.specs.Arguments.{arg, buffer_of};
 ghost use Rattle.plain_machine.specs.Arguments.{is_running, process_of, running_in};
 ghost use Rattle.ek_call.specs.Faults.{fault_of};
 ghost use Rattle.plain_machine.specs.Items.{Waiting};
-ghost use Rattle.plain_machine.specs.Refusals.{may_ask};
+ghost use Rattle.plain_machine.specs.Refusals.{may_ask, most_sent};
+ghost use Rattle.plain_machine.specs.State.{change_process};
+ghost use Rattle.plain_machine.specs.Calls.{started, with_input_closed};
+ghost use Rattle.kernel_run.specs.Processes.{IsSilent, asked_once, bytes_of, counted, set_by, told_by, words_of};
+ghost use Rattle.editor_model.specs.Values.{StartProcess};
 ghost use Rattle.ek_types.specs.Io.{SinkState};
 ghost use Rattle.ek_types.specs.Property.{number_of};
 ghost use Rattle.kernel_run.specs.Changes.{begun, behind_commit, change_of, committed_as, done_at, ends_behind, ends_of, prepared_as};
@@ -26,7 +30,7 @@ ghost use Rattle.kernel_run.specs.Handlers.{allowed, call_asked, default_prepare
 ghost use Rattle.kernel_run.specs.Blocks.{block_of, kept_as, manner_as};
 
 use crate::program::{NativeCall, Program};
-use crate::stop::{Halt, Stop};
+use crate::stop::Stop;
 use ek_call::{Fault, Primitive, Reply, Value, Values};
 use ek_types::{Mem, Sink, SinkFault, Sym, SymList, Symbols};
 use host_link::Host;
@@ -117,6 +121,13 @@ pub struct Heard {
     pub entry: Option<Entry>,
 }
 
+/// A program that is to be started, with its arguments.
+#[derive(Drop)]
+pub struct Command {
+    pub program: String,
+    pub words: Vec<String>,
+}
+
 /// What a run keeps: the editor, hooks, processes, parameters of running handlers, and counts.
 ///
 /// The recursion is proved over this trait, apart from all data structures below it. Each method is
@@ -124,9 +135,14 @@ pub struct Heard {
 /// that is wanting.
 pub trait Kernel {
     ghost use Rattle.kernel_run.specs.declared.kernel.What.{What};
+    ghost use Rattle.std.specs.Prelude.{List};
+    ghost use Rattle.editor_model.specs.Values.{Value as Meant};
 
     /// The machine's state, with what the decoders hold in the place of all bytes read.
     ghost state: { Self → State };
+
+    /// All the memory is taken that a start with these arguments needs.
+    ghost has_place: { Self → List Meant → Type 0 };
 
     /// What a change's `what` stands for.
     ghost what_of: { What → Whatever };
@@ -252,9 +268,9 @@ pub trait Kernel {
         ensures { state self.new ≡ ended_state (kind_of kind) faulted (state self.old) };
 
     /// A native's call, if a script might make it, with each empty list as nil.
-    fn allowed<P: Program>(&self, program: &P, asked: NativeCall) -> Option<NativeCall>
-        ensures { option_map call_asked result ≡
-            allowed (P.meant program.now) (state self.now) (call_asked asked) };
+    fn allowed<P: Program>(&self, program: &P, asked: NativeCall) -> Mem<Option<NativeCall>>
+        ensures { IfOk result (λ made. option_map call_asked made ≡
+            allowed (P.meant program.now) (state self.now) (call_asked asked)) };
 
     /// Writes the line of a handler's entry.
     fn tell_entry<K: Sink>(
@@ -369,21 +385,66 @@ pub trait Kernel {
             record (state self.old) { editor = (killed_by (state self.old).editor buffer).editor }) }
         ensures err { OnErr result (state self.new ≡ state self.old) };
 
-    /// A call on hooks or processes that enters no handler and isn't refused before it is made.
-    fn call_other<P: Program, H: Host, K: Sink>(
+    /// A call on hooks or processes that asks the host nothing and enters nothing. It isn't
+    /// refused. Want of memory leaves all as it was.
+    fn call_silently<P: Program>(
         &mut self,
         program: &P,
-        host: &mut H,
-        sink: &mut K,
         prim: Primitive,
         args: &Values,
-    ) -> Result<Value, Halt>
-        requires ready { IsReady (state self.old) (H.state host.old).kills }
+    ) -> Mem<Value>
+        requires silent { IsSilent (prim_of prim) }
         requires passes { Passes (P.meant program.now) (state self.old) (prim_of prim)
             (map view (items_of args.now)) }
-        requires other { (prim ≡ Primitive.AcceptProcessOutput → ⊥) × (prim ≡ Primitive.DeleteProcess →
-            ⊥) × (prim ≡ Primitive.KillBuffer → ⊥) }
-        ensures { Between state H.state H.made self.old self.new host.old host.new (K.state sink.old)
-            (K.state sink.new)
-            (Answers result view (P.meant program.now) (prim_of prim) (map view (items_of args.now))) };
+        ensures value { IfOk result (λ v. view v ≡
+            told_by (state self.old) (prim_of prim) (map view (items_of args.now))) }
+        ensures ok { OnOk result (state self.new ≡
+            set_by (prim_of prim) (map view (items_of args.now)) (state self.old)) }
+        ensures err { OnErr result (state self.new ≡ state self.old) };
+
+    /// The bytes of the text that is to be sent, the second argument: UTF-8, with raw bytes as they are.
+    fn bytes_given(&self, args: &Values) -> Mem<Vec<u8>>
+        ensures { IfOk result (λ bytes. bytes.items ≡ bytes_of (arg (map view (items_of args.now)) 1)) };
+
+    /// Counts an exchange.
+    fn count_asked(&mut self)
+        requires { may_ask (state self.old) ≡ true }
+        ensures { state self.new ≡ asked_once (state self.old) };
+
+    /// Counts an exchange that sent so many bytes.
+    fn count_sent(&mut self, bytes: usize)
+        requires asked { may_ask (state self.old) ≡ true }
+        requires sent { (state self.old).sent + bytes ≤ most_sent }
+        ensures { state self.new ≡ counted bytes (state self.old) };
+
+    /// Counts an exchange, by which the input of a process was closed.
+    fn note_closed(&mut self, p: u32)
+        requires asked { may_ask (state self.old) ≡ true }
+        requires made { p < length (state self.old).processes }
+        ensures { state self.new ≡ change_process p with_input_closed (asked_once (state self.old)) };
+
+    /// The program that a start asks for, and its arguments.
+    fn command<P: Program>(&self, program: &P, args: &Values) -> Mem<Command>
+        requires { Passes (P.meant program.now) (state self.now) StartProcess (map view (items_of args.now)) }
+        ensures program { IfOk result (λ command. string_bytes command.program ≡
+            bytes_of (arg (map view (items_of args.now)) 2)) }
+        ensures words { IfOk result (λ command. map string_bytes command.words.items ≡
+            words_of (map view (items_of args.now))) };
+
+    /// Takes all the memory that a start needs, for its process, its mark and its buffer. The state
+    /// is as it was.
+    fn reserve_process<P: Program>(&mut self, program: &P, args: &Values) -> Mem<()>
+        requires { Passes (P.meant program.now) (state self.old) StartProcess (map view (items_of args.now)) }
+        ensures place { OnOk result (has_place self.new (map view (items_of args.now))) }
+        ensures state { state self.new ≡ state self.old };
+
+    /// Makes the process of a child that was started, and gives its number. It takes no memory.
+    fn start<P: Program>(&mut self, program: &P, args: &Values, child: u32) -> u32
+        requires passes { Passes (P.meant program.now) (state self.old) StartProcess
+            (map view (items_of args.now)) }
+        requires place { has_place self.old (map view (items_of args.now)) }
+        ensures number { result ≡ length (state self.old).processes }
+        ensures state { state self.new ≡
+            started (state self.old) (arg (map view (items_of args.now)) 0) (arg
+            (map view (items_of args.now)) 1) child };
 }

@@ -10,6 +10,7 @@ mod ending;
 mod forms;
 mod handlers;
 mod kernel;
+mod processes;
 mod program;
 mod reply;
 mod script;
@@ -19,7 +20,7 @@ mod waits;
 pub use ending::finish;
 pub use forms::{run_forms, run_top};
 pub use kernel::{
-    Block, Change, Committed, Entry, Heard, Kept, Kernel, Kind, Manner, Prepared, What,
+    Block, Change, Command, Committed, Entry, Heard, Kept, Kernel, Kind, Manner, Prepared, What,
 };
 pub use program::{NativeCall, Next, Program};
 pub use script::run_script;

@@ -14,6 +14,7 @@ ghost use Rattle.kernel_run.specs.Worlds.{Between, IsReady};
 
 use crate::handlers::handle;
 use crate::kernel::{Entry, Kernel};
+use crate::processes::call_other;
 use crate::program::Program;
 use crate::reply::{refuse, tell};
 use crate::stop::{Halt, Stop};
@@ -34,8 +35,8 @@ pub fn call_process<M: Kernel, P: Program, H: Host, K: Sink>(
 ) -> Result<Value, Halt>
     requires ready { IsReady (M.state kernel.old) (H.state host.old).kills }
     requires manner { manner_of (prim_of prim) ≡ ConcernsHandlers }
-    ensures { Between M.state H.state H.made kernel.old kernel.new host.old host.new (K.state sink.old)
-        (K.state sink.new)
+    ensures { Between M.state H.state H.made
+        kernel.old kernel.new host.old host.new (K.state sink.old) (K.state sink.new)
         (Answers result view (P.meant program.now) (prim_of prim) (map view (items_of args.now))) }
 {
     if let Some(fault) = kernel.refusal(program, prim, args) {
@@ -45,7 +46,7 @@ pub fn call_process<M: Kernel, P: Program, H: Host, K: Sink>(
         Primitive::AcceptProcessOutput => accept_output(kernel, program, host, sink, args),
         Primitive::DeleteProcess => delete_process(kernel, program, host, sink, args),
         Primitive::KillBuffer => kill_buffer(kernel, program, host, sink, args),
-        _ => kernel.call_other(program, host, sink, prim, args),
+        _ => call_other(kernel, program, host, sink, prim, args),
     }
 }
 
@@ -61,8 +62,8 @@ fn accept_output<M: Kernel, P: Program, H: Host, K: Sink>(
     requires ready { IsReady (M.state kernel.old) (H.state host.old).kills }
     requires passes { Passes (P.meant program.now) (M.state kernel.old) AcceptProcessOutput
         (map view (items_of args.now)) }
-    ensures { Between M.state H.state H.made kernel.old kernel.new host.old host.new (K.state sink.old)
-        (K.state sink.new)
+    ensures { Between M.state H.state H.made
+        kernel.old kernel.new host.old host.new (K.state sink.old) (K.state sink.new)
         (Answers result view (P.meant program.now) AcceptProcessOutput (map view (items_of args.now))) }
 {
     let mut wait = kernel.new_wait(args)?;
@@ -81,8 +82,8 @@ fn take_turns<M: Kernel, P: Program, H: Host, K: Sink>(
     requires ready { IsReady (M.state kernel.old) (H.state host.old).kills }
     requires nesting { (M.state kernel.old).depth < 16 }
     requires room { wait.old.room ≡ 256 }
-    ensures { Between M.state H.state H.made kernel.old kernel.new host.old host.new (K.state sink.old)
-        (K.state sink.new)
+    ensures { Between M.state H.state H.made
+        kernel.old kernel.new host.old host.new (K.state sink.old) (K.state sink.new)
         (WaitsOn result view (P.meant program.now) wait.old.waiting) }
 {
     loop {
@@ -143,8 +144,8 @@ fn enter_if<M: Kernel, P: Program, H: Host, K: Sink>(
     requires ready { IsReady (M.state kernel.old) (H.state host.old).kills }
     requires nesting { IsSome entry.now → (M.state kernel.old).depth < 16 }
     requires heard { IsHeardIf entry.now }
-    ensures { Between M.state H.state H.made kernel.old kernel.new host.old host.new (K.state sink.old)
-        (K.state sink.new)
+    ensures { Between M.state H.state H.made
+        kernel.old kernel.new host.old host.new (K.state sink.old) (K.state sink.new)
         (EntersIf (lifted result) (P.meant program.now) entry.now) }
 {
     match entry {
@@ -175,8 +176,8 @@ fn delete<M: Kernel, P: Program, H: Host, K: Sink>(
 ) -> Result<(), Stop>
     requires ready { IsReady (M.state kernel.old) (H.state host.old).kills }
     requires nesting { is_running (M.state kernel.old) p ≡ true → (M.state kernel.old).depth < 16 }
-    ensures { Between M.state H.state H.made kernel.old kernel.new host.old host.new (K.state sink.old)
-        (K.state sink.new)
+    ensures { Between M.state H.state H.made
+        kernel.old kernel.new host.old host.new (K.state sink.old) (K.state sink.new)
         (Does (lifted result) (P.meant program.now) (Delete p)) }
 {
     let entry = kernel.kill(program, host, p)?;
@@ -195,8 +196,8 @@ fn delete_process<M: Kernel, P: Program, H: Host, K: Sink>(
     requires ready { IsReady (M.state kernel.old) (H.state host.old).kills }
     requires passes { Passes (P.meant program.now) (M.state kernel.old) DeleteProcess
         (map view (items_of args.now)) }
-    ensures { Between M.state H.state H.made kernel.old kernel.new host.old host.new (K.state sink.old)
-        (K.state sink.new)
+    ensures { Between M.state H.state H.made
+        kernel.old kernel.new host.old host.new (K.state sink.old) (K.state sink.new)
         (Answers result view (P.meant program.now) DeleteProcess (map view (items_of args.now))) }
 {
     let p = kernel.process_given(args);
@@ -215,8 +216,8 @@ fn delete_all<M: Kernel, P: Program, H: Host, K: Sink>(
 ) -> Result<(), Stop>
     requires ready { IsReady (M.state kernel.old) (H.state host.old).kills }
     requires nesting { 0 < length doomed.now → (M.state kernel.old).depth < 16 }
-    ensures { Between M.state H.state H.made kernel.old kernel.new host.old host.new (K.state sink.old)
-        (K.state sink.new)
+    ensures { Between M.state H.state H.made
+        kernel.old kernel.new host.old host.new (K.state sink.old) (K.state sink.new)
         (DeletesAll (lifted result) (P.meant program.now) doomed.now) }
 {
     for i in 0..doomed.len() {
@@ -237,8 +238,8 @@ fn kill_buffer<M: Kernel, P: Program, H: Host, K: Sink>(
     requires ready { IsReady (M.state kernel.old) (H.state host.old).kills }
     requires passes { Passes (P.meant program.now) (M.state kernel.old) KillBuffer
         (map view (items_of args.now)) }
-    ensures { Between M.state H.state H.made kernel.old kernel.new host.old host.new (K.state sink.old)
-        (K.state sink.new)
+    ensures { Between M.state H.state H.made
+        kernel.old kernel.new host.old host.new (K.state sink.old) (K.state sink.new)
         (Answers result view (P.meant program.now) KillBuffer (map view (items_of args.now))) }
 {
     let buffer = kernel.buffer_given(args);

@@ -48,7 +48,9 @@ use Rattle.std.proofs.lemmas.Bool.{ltb-true, lt-ltb}
 use Rattle.std.proofs.Math.Seq.{drop-cons}
 use Rattle.std.proofs.Common.{get_or, add-one}
 use Rattle.kernel_run.proofs.Telling.{by_names}
-use Rattle.kernel_run.proofs.Defaults.{default_keeps, default_went, default_wants, script_went, native_went, asks_went as native_asks, over_went, spent_went, called_behind, made_went, barred_call, replied_work, body_within, body_falls}
+use Rattle.plain_machine.specs.Natives.{is_callable}
+use Rattle.plain_machine.specs.Handling.{native_call}
+use Rattle.kernel_run.proofs.Defaults.{item_may, default_keeps, default_went, default_wants, script_went, native_went, asks_went as native_asks, over_went, spent_went, called_behind, made_went, barred_call, replied_work, body_within, body_falls}
 use Rattle.editor_model.specs.Answers.{Changes, Quiet, Nothing, Barred}
 use Rattle.plain_machine.specs.Items.{Called, ToNative}
 use Rattle.kernel_run.specs.Handlers.{call_asked}
@@ -661,6 +663,14 @@ changes::run_hooks-returns-then-branch g t c = λ start.
     let unit : Unit {0} = tt in
     work_done program unit before after _ onwards outwards (went_same program before after _ _ _ (λ s rest. ap (λ l. working s l) (hook_faulted kind left args rest c.requires.hook)) done) (keeps_then before mid after (c.loop-i.invariant.keeps start) made.stays)
 
+pub handlers::call_native-returns-in_err-made : goal.handlers::call_native-returns-in_err-made
+handlers::call_native-returns-in_err-made g t c = λ start i args past.
+    let program = g.P.Program.meant c.args.program.now in
+    let before = at g start c.args.kernel.now c.args.host.now c.args.sink.now in
+    let c2 = call_asked c.args.asked in
+    rw (stopped_by c.from_residual.result stop.NoMemory c.from_residual.ensures)
+    (work_wants program before before _ _ _ outwards (went_self program before (λ s rest. working s (native_call program s c2 ∷ Called i args past ∷ rest))) c.requires.hosted (λ s rest h. (item_may (is_callable program s c2) c2 s (Called i args past ∷ rest), refl)))
+
 pub handlers::call_native-returns-in-None : goal.handlers::call_native-returns-in-None
 handlers::call_native-returns-in-None g t c = λ start i args past.
     let program = g.P.Program.meant c.args.program.now in
@@ -671,7 +681,7 @@ handlers::call_native-returns-in-None g t c = λ start i args past.
     let known = g.M.Kernel.state c.args.kernel.now in
     rw c.as_reply-in-None.ensures
     (replied_work program before c2 i args past (Err c.refuse.result) after _
-    (work_behind program (Err c.refuse.result) before before after _ _ _ _ (barred_call program before c2 i args past c.in-None.ensures) (keeps_self before c.requires.hosted)
+    (work_behind program (Err c.refuse.result) before before after _ _ _ _ (barred_call program before c2 i args past (rw c.in-None.is at c.in_ok-made.ensures)) (keeps_self before c.requires.hosted)
     (work_left program c.refuse.result before after _ _ _ _
     (work_before program (Err c.refuse.result) before after (λ rest. Called i args past ∷ rest) _ onwards outwards (called_behind i args past)
     (work_unasked program (g.K.Sink.state c.args.sink.now) (g.K.Sink.state c.refuse.new.sink) (CallsSince g.H.Host.state g.H.Host.made start c.args.host.now) known known kills (Err c.refuse.result) _ onwards outwards (c.refuse.ensures kills c.requires.hosted))))))
@@ -685,7 +695,7 @@ handlers::call_native-returns-in-Some g t c = λ start i args past.
     let made = call_asked c.in-Some.made in
     rw c.as_reply.ensures
     (replied_work program before c2 i args past c.call.result after _
-    (work_behind program c.call.result before before after _ _ _ _ (made_went program before c2 i args past made c.in-Some.ensures) (keeps_self before c.requires.hosted)
+    (work_behind program c.call.result before before after _ _ _ _ (made_went program before c2 i args past made (rw c.in-Some.is at c.in_ok-made.ensures)) (keeps_self before c.requires.hosted)
     (work_before program c.call.result before after (λ rest. Called i args past ∷ rest) _ _ outwards (called_behind i args past) (c.call.ensures start ToNative))))
 
 pub handlers::handle-returns : goal.handlers::handle-returns
@@ -1505,4 +1515,4 @@ waits::ask-hear-requires g t c =
 pub waits::call_process-call_other-requires : goal.waits::call_process-call_other-requires
 waits::call_process-call_other-requires g t c =
     let passes = sym (rw c.in_default.is at c.refusal.ensures) in
-    record { ready = c.requires.ready; passes = passes; other = (c.in_default-prim.not-AcceptProcessOutput, c.in_default-prim.not-DeleteProcess, c.in_default-prim.not-KillBuffer) }
+    record { ready = c.requires.ready; manner = c.requires.manner; passes = passes; other = (c.in_default-prim.not-AcceptProcessOutput, c.in_default-prim.not-DeleteProcess, c.in_default-prim.not-KillBuffer) }
