@@ -1,0 +1,13 @@
+pub mod Arguments
+pub mod Blocks
+pub mod Changes
+pub mod Ending
+pub mod Handlers
+pub mod HostCalls
+pub mod Outcomes
+pub mod Outside
+pub mod Processes
+pub mod Sizes
+pub mod Waits
+pub mod Work
+pub mod Worlds
