@@ -66,16 +66,6 @@ fn a_wait_for_a_process_asks_the_others_too(rt: HostRuntime) -> Result<(), Fail>
 }
 
 #[test]
-fn a_wait_has_all_its_rounds(rt: HostRuntime) -> Result<(), Fail> {
-    let table = table_of(rt.alloc(), 2)?;
-    let mut wait = Wait::new(rt.alloc(), None, 1000, false, 256)?;
-    let list = asked(rt.alloc(), &mut wait, &table, 3000)?;
-    assert_eq!(rt; list.len(), 2000);
-    assert_eq!(rt; wait.next(&table), Step::Done(false));
-    Ok(())
-}
-
-#[test]
 fn the_target_is_asked_first(rt: HostRuntime) -> Result<(), Fail> {
     let table = table_of(rt.alloc(), 4)?;
     let mut wait = Wait::new(rt.alloc(), Some(2), 1, false, 4)?;
