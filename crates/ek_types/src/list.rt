@@ -1,5 +1,7 @@
 //! A list with a spare: how many more items fit with no memory taken.
 ghost use Rattle.std.specs.Prelude.{◌≡◌, ℕ, ◌+◌, ◌<◌, ◌≤◌, [], ◌∷◌, ◌++◌, length, IfOk, IsOk, OnOk, OnErr, slice_get, Some, List, map};
+ghost use Rattle.std.specs.Fn.{CalledAt};
+ghost use Rattle.std.specs.List.Retain.{IsFiltered};
 ghost use Rattle.ek_types.specs.Listing.{items_of, spare_of};
 
 use crate::memory::Mem;
@@ -91,6 +93,15 @@ impl<T: Drop> ListOf<T> {
     {
         self.items.push(x)?;
         Ok(())
+    }
+
+    /// Keeps the items that pass a test, in their order, and drops the others. It takes no memory.
+    pub fn retain<F: FnMut(&T) -> bool>(&mut self, f: F)
+        requires { F.IsAlwaysCallable f }
+        ensures items { IsFiltered (CalledAt F.FnMut) f (items_of self.old) (items_of self.new) }
+        ensures spare { spare_of self.old ≤ spare_of self.new }
+    {
+        self.items.retain(f);
     }
 }
 

@@ -1,0 +1,4 @@
+pub mod Adding
+pub mod Buffers
+pub mod Names
+pub mod Written

@@ -1,0 +1,9 @@
+//! Which functions hear of the changes of each buffer, and whether any does at all.
+#![tactic(auto)]
+
+mod hooks;
+mod lists;
+#[cfg(test)]
+mod tests;
+
+pub use hooks::{Hooks, MOST_HOOKS};
