@@ -1,0 +1,26 @@
+use Rattle.std.proofs.Common.{◌≡◌, true, false, length, map, ap, sym, ◌∙◌}
+use Rattle.std.specs.Prelude.{Some}
+use Rattle.std.proofs.lemmas.List.{length-map}
+use Rattle.plain_machine.specs.Natives.{takes}
+use Rattle.ek_types.specs.Listing.{items_of}
+use Rattle.ek_call.specs.Meaning.{view}
+use Rattle.ek_call.specs.Primitives.{prim_of}
+use Rattle.handler_code.specs.Calls.{call_asked}
+use Rattle.handler_code.proofs.Allowing.{wrong_count, never_made, may_be}
+use Rattle.handler_code.proofs.Counting.{all_made_same}
+use Rattle.handler_code.proofs.calls.allowed.Goals as goal
+
+pub returns-then-not-may_take : goal.returns-then-not-may_take
+returns-then-not-may_take c =
+    let count : takes (prim_of c.args.asked.now.prim) (length (map view (items_of c.args.asked.now.args))) ≡ false = ap (takes (prim_of c.args.asked.now.prim)) (length-map (items_of c.args.asked.now.args) view ∙ sym c.len.ensures) ∙ sym c.may_take.ensures ∙ c.if-not-may_take.true in
+    λ program s counts. sym (wrong_count program s (call_asked c.args.asked.now) count)
+
+pub returns-then-not-are_made : goal.returns-then-not-are_made
+returns-then-not-are_made c =
+    let count : takes (prim_of c.args.asked.now.prim) (length (map view (items_of c.args.asked.now.args))) ≡ true = ap (takes (prim_of c.args.asked.now.prim)) (length-map (items_of c.args.asked.now.args) view ∙ sym c.len.ensures) ∙ sym c.may_take.ensures ∙ c.if-not-may_take.false in
+    λ program s counts. sym (never_made program s (call_asked c.args.asked.now) count (sym (all_made_same c.args.made.now program s counts (map view (items_of c.args.asked.now.args))) ∙ sym c.are_made.ensures ∙ c.if-not-are_made.true))
+
+pub returns : goal.returns
+returns c =
+    let count : takes (prim_of c.args.asked.now.prim) (length (map view (items_of c.args.asked.now.args))) ≡ true = ap (takes (prim_of c.args.asked.now.prim)) (length-map (items_of c.args.asked.now.args) view ∙ sym c.len.ensures) ∙ sym c.may_take.ensures ∙ c.if-not-may_take.false in
+    λ program s counts. ap (λ vs. Some (prim_of c.args.asked.now.prim, vs)) c.in_ok-normal_values.ensures ∙ sym (may_be program s (call_asked c.args.asked.now) count (sym (all_made_same c.args.made.now program s counts (map view (items_of c.args.asked.now.args))) ∙ sym c.are_made.ensures ∙ c.if-not-are_made.false))
