@@ -48,7 +48,7 @@ goto i = if is_i64 i then Some (GotoChar, Int i ∷ []) else None
 
 -- point x goes back where it stood before the text from y to z was put in
 abbrev pub back : (x y z : ℤ) → Option NativeCall
-back x y z = if int_lt x y then goto x else (if int_lt y x && is_i64 (z -ℤ y) then goto (x +ℤ (z -ℤ y)) else None)
+back x y z = if int_lt x y then goto x else (if int_lt y x then goto (x +ℤ (z -ℤ y)) else None)
 
 abbrev pub point_back : List Value → List Reply → Option NativeCall
 point_back answers [] = back (number_of (arg answers 2)) (number_of (arg answers 4)) (number_of (arg answers 7))

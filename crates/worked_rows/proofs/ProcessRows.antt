@@ -3,7 +3,7 @@ use Rattle.std.specs.Fmt.{digits}
 use Rattle.std.specs.Char.{encode_utf8}
 use Rattle.std.proofs.Common.{refl}
 use Rattle.worked_rows.specs.Row.{Holds}
-use Rattle.worked_rows.specs.ProcessRows.{AreWhole, eight_cuttings, default_handlers, waits_without_a_process, spawn_refused, spawn_refused_leaves_a_void_name, character_cut_across_reads, held_tail_at_end_of_output, read_and_end_fail, filter_off_and_on, default_filter_outside_the_narrowing, kill_that_fails, real_children}
+use Rattle.worked_rows.specs.ProcessRows.{AreWhole, eight_cuttings, default_handlers, waits_without_a_process, spawn_refused, spawn_refused_leaves_a_void_name, character_cut_across_reads, held_tail_at_end_of_output, read_and_end_fail, filter_off_and_on, default_filter_outside_the_narrowing, kill_that_fails, real_children, scope_ends_with_its_handler}
 
 pub default_handlers_holds : Holds default_handlers
 unfolding digits encode_utf8
@@ -53,3 +53,7 @@ pub output_in_any_cutting : AreWhole eight_cuttings
 unfolding digits encode_utf8
 output_in_any_cutting =
     ((refl, refl, refl, refl), ((refl, refl, refl, refl), ((refl, refl, refl, refl), ((refl, refl, refl, refl), ((refl, refl, refl, refl), ((refl, refl, refl, refl), ((refl, refl, refl, refl), ((refl, refl, refl, refl), tt))))))))
+
+pub scope_ends_with_its_handler_holds : Holds scope_ends_with_its_handler
+unfolding digits encode_utf8
+scope_ends_with_its_handler_holds = (refl, refl, refl)

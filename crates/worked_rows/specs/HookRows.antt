@@ -104,3 +104,49 @@ hook_ended_by_a_fault =
     codes "buffer *scratch* point 3 min 1 max 3 modified t current" ∷
     codes "text \"ab\"" ∷ []
     )
+
+-- The end of a change that waits for its hooks stays in front of a text that goes in there.
+--     (defhandler h (b e) (goto-char 4)(insert "X"))
+--     (insert "abcdef")(add-hook 'before-change-functions 'h)(delete-region 2 4)(buffer-string)
+abbrev pub ends_of_a_pending_change : Row
+ends_of_a_pending_change =
+    let h : ℕ = 14 in let b : ℕ = 15 in let e : ℕ = 16 in
+    row (script (codes "h" ∷ codes "b" ∷ codes "e" ∷ []) (handler h (b ∷ e ∷ []) (call Prim.GotoChar (number 4 ∷ []) ∷ call Prim.Insert (string (codes "X") ∷ []) ∷ []) ∷ []) (
+    call Prim.Insert (string (codes "abcdef") ∷ []) ∷
+    call Prim.AddHook (symbol before_change_functions ∷ symbol h ∷ []) ∷
+    call Prim.DeleteRegion (number 2 ∷ number 4 ∷ []) ∷
+    call Prim.BufferString [] ∷ []
+    )) [] (
+    codes "= nil" ∷
+    codes "= (h)" ∷
+    codes "> before h 2 4" ∷
+    codes "  = 4" ∷
+    codes "  = nil" ∷
+    codes "< h" ∷
+    codes "= nil" ∷
+    codes "= \"aXdef\"" ∷
+    codes "buffer *scratch* point 3 min 1 max 6 modified t current" ∷
+    codes "text \"aXdef\"" ∷ []
+    )
+
+-- A function behind a change that ends by a fault empties its list too, so it is entered once.
+--     (defhandler h (b e n) (goto-char unset))
+--     (add-hook 'after-change-functions 'h)(insert "a")(insert "b")
+abbrev pub function_behind_a_change_ended_by_a_fault : Row
+function_behind_a_change_ended_by_a_fault =
+    let h : ℕ = 14 in let b : ℕ = 15 in let e : ℕ = 16 in let n : ℕ = 17 in
+    let unset : ℕ = 18 in
+    row (script (codes "h" ∷ codes "b" ∷ codes "e" ∷ codes "n" ∷ codes "unset" ∷ []) (handler h (b ∷ e ∷ n ∷ []) (call Prim.GotoChar (Name unset ∷ []) ∷ []) ∷ []) (
+    call Prim.AddHook (symbol after_change_functions ∷ symbol h ∷ []) ∷
+    call Prim.Insert (string (codes "a") ∷ []) ∷
+    call Prim.Insert (string (codes "b") ∷ []) ∷ []
+    )) [] (
+    codes "= (h)" ∷
+    codes "> after h 1 2 0" ∷
+    codes "  ! 3 void-variable" ∷
+    codes "< h" ∷
+    codes "= nil" ∷
+    codes "= nil" ∷
+    codes "buffer *scratch* point 3 min 1 max 3 modified t current" ∷
+    codes "text \"ab\"" ∷ []
+    )

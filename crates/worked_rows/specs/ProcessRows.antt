@@ -334,3 +334,28 @@ eight_cuttings =
 abbrev pub AreWhole : List (List (List ℕ)) → Type 0
 AreWhole [] = Unit {0}
 AreWhole (pieces ∷ cuttings) = IsWhole pieces × AreWhole cuttings
+
+-- The parameters of a handler end with it.
+--     (defhandler f (p s))
+--     (setq p (start-process "c" nil "cat"))(set-process-filter p 'f)(accept-process-output p)(goto-char s)
+abbrev pub scope_ends_with_its_handler : Row
+scope_ends_with_its_handler =
+    let f : ℕ = 14 in let p : ℕ = 15 in let s : ℕ = 16 in
+    row (script (codes "f" ∷ codes "p" ∷ codes "s" ∷ []) (handler f (p ∷ s ∷ []) [] ∷ []) (
+    set p Prim.StartProcess (string (codes "c") ∷ nil ∷ string (codes "cat") ∷ []) ∷
+    call Prim.SetProcessFilter (Name p ∷ symbol f ∷ []) ∷
+    call Prim.AcceptProcessOutput (Name p ∷ []) ∷
+    call Prim.GotoChar (Name s ∷ []) ∷ []
+    )) (spawned (codes "cat") [] 0 ∷ reads 0 (codes "a") ∷ killed 0 ∷ []) (
+    codes "= #<process c>" ∷
+    codes "= f" ∷
+    codes "> filter f #<process c> \"a\"" ∷
+    codes "< f" ∷
+    codes "= t" ∷
+    codes "! 3 void-variable" ∷
+    codes "kill #<process c>" ∷
+    codes "buffer *scratch* point 1 min 1 max 1 modified nil current" ∷
+    codes "text \"\"" ∷
+    codes "marker 0 #<marker in no buffer>" ∷
+    codes "process 0 #<process c> run 0" ∷ []
+    )

@@ -103,3 +103,40 @@ excursion_in_a_restriction =
     codes "buffer *scratch* point 1 min 1 max 1 modified nil current" ∷
     codes "text \"\"" ∷ []
     )
+
+-- The end of a restriction that is kept moves with the text in front of it.
+--     (insert "abcd")(narrow-to-region 2 4)(save-restriction (goto-char 4)(insert "X"))(point-max)
+abbrev pub kept_end_of_a_restriction : Row
+kept_end_of_a_restriction =
+    row (script [] [] (
+    call Prim.Insert (string (codes "abcd") ∷ []) ∷
+    call Prim.NarrowToRegion (number 2 ∷ number 4 ∷ []) ∷
+    In SaveRestriction (forms (call Prim.GotoChar (number 4 ∷ []) ∷ call Prim.Insert (string (codes "X") ∷ []) ∷ [])) ∷
+    call Prim.PointMax [] ∷ []
+    )) [] (
+    codes "= nil" ∷
+    codes "= nil" ∷
+    codes "= 4" ∷
+    codes "= nil" ∷
+    codes "= 5" ∷
+    codes "buffer *scratch* point 5 min 2 max 5 modified t current" ∷
+    codes "text \"abcXd\"" ∷ []
+    )
+
+-- A point that is kept stays in front of a text that goes in there.
+--     (insert "ab")(goto-char 2)(save-excursion (insert "X"))(point)
+abbrev pub kept_point_of_an_excursion : Row
+kept_point_of_an_excursion =
+    row (script [] [] (
+    call Prim.Insert (string (codes "ab") ∷ []) ∷
+    call Prim.GotoChar (number 2 ∷ []) ∷
+    In SaveExcursion (forms (call Prim.Insert (string (codes "X") ∷ []) ∷ [])) ∷
+    call Prim.PointAt [] ∷ []
+    )) [] (
+    codes "= nil" ∷
+    codes "= 2" ∷
+    codes "= nil" ∷
+    codes "= 2" ∷
+    codes "buffer *scratch* point 2 min 1 max 4 modified t current" ∷
+    codes "text \"aXb\"" ∷ []
+    )

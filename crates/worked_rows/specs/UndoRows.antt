@@ -1,7 +1,7 @@
 -- Worked rows: undo.
 use Rattle.std.specs.Prelude.{ℕ, [], ◌∷◌, codes}
 use Rattle.text_model.specs.Properties.{Symbol}
-use Rattle.editor_model.specs.Values.{Str, Prim}
+use Rattle.editor_model.specs.Values.{Str, Name, Prim}
 use Rattle.worked_rows.specs.Row.{Row, row, script, call, set, number, string, symbol, quoted, with_set}
 
 -- Two groups undone, and then redone by undoing the undoing; properties come back.
@@ -157,4 +157,33 @@ empty_group_first =
     codes "! 6 no-further-undo" ∷
     codes "buffer *scratch* point 1 min 1 max 1 modified nil current" ∷
     codes "text \"\"" ∷ []
+    )
+
+-- A marker that was set elsewhere since a deletion stays there when this is undone.
+--     (insert "abcd")(setq m (copy-marker 3))(undo-boundary)(delete-region 2 4)(set-marker m 1)(undo-start)(undo-more 1)
+--     (marker-position m)
+abbrev pub undo_leaves_a_marker_that_has_moved : Row
+undo_leaves_a_marker_that_has_moved =
+    let m : ℕ = 14 in
+    row (script (codes "m" ∷ []) [] (
+    call Prim.Insert (string (codes "abcd") ∷ []) ∷
+    set m Prim.CopyMarker (number 3 ∷ []) ∷
+    call Prim.UndoBoundary [] ∷
+    call Prim.DeleteRegion (number 2 ∷ number 4 ∷ []) ∷
+    call Prim.SetMarker (Name m ∷ number 1 ∷ []) ∷
+    call Prim.UndoStart [] ∷
+    call Prim.UndoMore (number 1 ∷ []) ∷
+    call Prim.MarkerPosition (Name m ∷ []) ∷ []
+    )) [] (
+    codes "= nil" ∷
+    codes "= #<marker at 3 in *scratch*>" ∷
+    codes "= nil" ∷
+    codes "= nil" ∷
+    codes "= #<marker at 1 in *scratch*>" ∷
+    codes "= nil" ∷
+    codes "= nil" ∷
+    codes "= 1" ∷
+    codes "buffer *scratch* point 5 min 1 max 5 modified t current" ∷
+    codes "text \"abcd\"" ∷
+    codes "marker 0 #<marker at 1 in *scratch*>" ∷ []
     )
