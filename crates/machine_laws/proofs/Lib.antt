@@ -37,3 +37,4 @@ pub mod Ended
 pub mod Tests
 pub mod Basics
 pub mod Bounded
+pub mod Rounds

@@ -6,3 +6,4 @@ pub mod Boundaries
 pub mod UndoneRuns
 pub mod Refusals
 pub mod Good
+pub mod Rounds

@@ -20,6 +20,7 @@ ghost use Rattle.machine_laws.specs.Good.{Good};
 ghost use Rattle.machine_laws.specs.Nesting.{SameDeeper, Shallow};
 ghost use Rattle.machine_laws.specs.OneRun.{ComputedRuns, OneEnd, OneRun, RunStops, RunsAreComputed};
 ghost use Rattle.machine_laws.specs.Refusals.{RefusalsLeave};
+ghost use Rattle.machine_laws.specs.Rounds.{RoundsAsk};
 ghost use Rattle.machine_laws.specs.UndoneRuns.{UndoReturns};
 
 // ONE RUN
@@ -66,6 +67,11 @@ pub fn handlers_stay_shallow()
 #[tactic(auto, using(crate::proofs::Deeper::same_deeper))]
 pub fn same_under_a_larger_bound()
     ensures { (program : Program) (bound deeper : ℕ) (from : Config) → SameDeeper program bound deeper from }
+{}
+
+/// Each round of a wait that begins asks a child, unless it is refused since no exchange may be made any more.
+pub fn rounds_ask()
+    ensures { (program : Program) (bound : ℕ) → RoundsAsk program bound }
 {}
 
 /// No more than 65,536 exchanges are made, but for kills.
