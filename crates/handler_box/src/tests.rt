@@ -1,0 +1,195 @@
+//! The shipped handlers against the reference, reply by reply, and lists of boxes.
+use crate::{Boxed, DropFilter, Handler, InsertFilter, NoteSentinel};
+use ek_call::{Fault, Primitive, Replies, Reply, Value, Values};
+use ek_types::{ListOf, Mem};
+use handler_code::{Natives, Next};
+use std::alloc::Global;
+use std::test::Fail;
+
+/// What the calls of the insert filter answer where point stands at `point` and the mark at 3, and three characters go in.
+fn inserted(call: usize, point: i64) -> Value {
+    match call {
+        0 => Value::Buffer(1),
+        2 => Value::Int(point),
+        3 => Value::Marker(7),
+        4 => Value::Int(3),
+        7 => Value::Int(6),
+        _ => Value::T,
+    }
+}
+
+/// What the calls of the note sentinel answer.
+fn noted(call: usize) -> Value {
+    match call {
+        0 => Value::Buffer(2),
+        2 => Value::Int(9),
+        _ => Value::T,
+    }
+}
+
+/// The first replies to the calls of the insert filter.
+fn replies(alloc: Global, count: usize, point: i64) -> Mem<Replies> {
+    let mut past = ListOf::new(alloc);
+    for call in 0..count {
+        past.push(Reply::Value(inserted(call, point)))?;
+    }
+    Ok(past)
+}
+
+/// The first replies to the calls of the note sentinel.
+fn notes(alloc: Global, count: usize) -> Mem<Replies> {
+    let mut past = ListOf::new(alloc);
+    for call in 0..count {
+        past.push(Reply::Value(noted(call)))?;
+    }
+    Ok(past)
+}
+
+/// A process and no text.
+fn arguments(alloc: Global) -> Mem<Values> {
+    let mut args = ListOf::new(alloc);
+    args.push(Value::Process(4))?;
+    args.push(Value::Nil)?;
+    Ok(args)
+}
+
+/// The call that a handler makes next, and the number that it gives as the first argument.
+fn asked<H: Handler>(alloc: Global, handler: &H, past: &Replies) -> Mem<Option<(Primitive, i64)>> {
+    let args = arguments(alloc)?;
+    match handler.next(&args, past)? {
+        Next::Call(call) => Ok(Some((call.prim, first_number(&call.args)))),
+        Next::Done => Ok(None),
+    }
+}
+
+/// The number of the first argument.
+fn first_number(args: &Values) -> i64 {
+    if args.len() == 0 {
+        return -1;
+    }
+    match args.at(0) {
+        Value::Int(i) => *i,
+        Value::Buffer(n) => i64::from(*n),
+        Value::Marker(n) => i64::from(*n),
+        Value::Process(n) => i64::from(*n),
+        _ => -2,
+    }
+}
+
+#[test]
+fn the_insert_filter_makes_its_calls_in_order(rt: HostRuntime) -> Result<(), Fail> {
+    let calls = [
+        Some((Primitive::ProcessBuffer, 4)),
+        Some((Primitive::SetBuffer, 1)),
+        Some((Primitive::Point, -1)),
+        Some((Primitive::ProcessMark, 4)),
+        Some((Primitive::MarkerPosition, 7)),
+        Some((Primitive::GotoChar, 7)),
+        Some((Primitive::Insert, -2)),
+        Some((Primitive::Point, -1)),
+        Some((Primitive::SetMarker, 7)),
+        Some((Primitive::GotoChar, 8)),
+        None,
+    ];
+    for (count, call) in calls.iter().enumerate() {
+        let past = replies(rt.alloc(), count, 5)?;
+        assert_eq!(rt; asked(rt.alloc(), &InsertFilter::new(), &past)?, *call);
+    }
+    Ok(())
+}
+
+#[test]
+fn a_fault_or_nil_at_any_place_ends_the_insert_filter(rt: HostRuntime) -> Result<(), Fail> {
+    for count in 0..9 {
+        let mut past = replies(rt.alloc(), count, 5)?;
+        past.push(Reply::Fault(Fault::WrongType))?;
+        assert_eq!(rt; asked(rt.alloc(), &InsertFilter::new(), &past)?, None);
+        let mut past = replies(rt.alloc(), count, 5)?;
+        past.push(Reply::Value(Value::Nil))?;
+        let goes_on = [1, 5, 6, 8].contains(&count);
+        assert_eq!(rt;
+            asked(rt.alloc(), &InsertFilter::new(), &past)?.is_some(),
+            goes_on
+        );
+    }
+    Ok(())
+}
+
+#[test]
+fn point_goes_back_where_it_stood(rt: HostRuntime) -> Result<(), Fail> {
+    for (point, place) in [
+        (1, Some(1)),
+        (2, Some(2)),
+        (3, None),
+        (4, Some(7)),
+        (i64::MAX, None),
+    ] {
+        let past = replies(rt.alloc(), 9, point)?;
+        let call = asked(rt.alloc(), &InsertFilter::new(), &past)?;
+        assert_eq!(rt; call.map(|c| c.1), place);
+    }
+    Ok(())
+}
+
+#[test]
+fn the_note_sentinel_makes_its_calls_in_order(rt: HostRuntime) -> Result<(), Fail> {
+    let calls = [
+        Some((Primitive::GetBufferCreate, -2)),
+        Some((Primitive::SetBuffer, 2)),
+        Some((Primitive::PointMax, -1)),
+        Some((Primitive::GotoChar, 9)),
+        Some((Primitive::Insert, -2)),
+        None,
+    ];
+    for (count, call) in calls.iter().enumerate() {
+        let past = notes(rt.alloc(), count)?;
+        assert_eq!(rt; asked(rt.alloc(), &NoteSentinel::new(), &past)?, *call);
+    }
+    for count in 0..5 {
+        let mut past = notes(rt.alloc(), count)?;
+        past.push(Reply::Fault(Fault::BufferKilled))?;
+        assert_eq!(rt; asked(rt.alloc(), &NoteSentinel::new(), &past)?, None);
+    }
+    Ok(())
+}
+
+#[test]
+fn after_256_replies_each_is_done(rt: HostRuntime) -> Result<(), Fail> {
+    let past = replies(rt.alloc(), 256, 5)?;
+    assert_eq!(rt; asked(rt.alloc(), &InsertFilter::new(), &past)?, None);
+    assert_eq!(rt; asked(rt.alloc(), &NoteSentinel::new(), &past)?, None);
+    assert_eq!(rt; asked(rt.alloc(), &DropFilter::new(), &past)?, None);
+    Ok(())
+}
+
+#[test]
+fn boxes_are_natives_in_their_order(rt: HostRuntime) -> Result<(), Fail> {
+    let alloc = rt.alloc();
+    let mut list: Vec<Box<dyn Handler>> = Vec::new(alloc);
+    list.push(Box::new(alloc, NoteSentinel::new())?)?;
+    list.push(Box::new(alloc, InsertFilter::new())?)?;
+    let boxed = Boxed::new(list);
+    assert_eq!(rt; boxed.count(), 2);
+    assert_eq!(rt; boxed.name(0), "note-sentinel");
+    assert_eq!(rt; boxed.name(1), "insert-filter");
+    let args = arguments(alloc)?;
+    let past = ListOf::new(alloc);
+    let Next::Call(call) = boxed.next(1, &args, &past)? else {
+        return Err(Fail::from("no call"));
+    };
+    assert_eq!(rt; call.prim, Primitive::ProcessBuffer);
+    Ok(())
+}
+
+#[test]
+fn a_list_has_up_to_65536_boxes(rt: HostRuntime) -> Result<(), Fail> {
+    let alloc = rt.alloc();
+    let mut list: Vec<Box<dyn Handler>> = Vec::new(alloc);
+    for _ in 0..65536_u32 {
+        list.push(Box::new(alloc, DropFilter::new())?)?;
+    }
+    let boxed = Boxed::new(list);
+    assert_eq!(rt; boxed.count(), 65536);
+    assert_eq!(rt; boxed.name(65535), "drop-filter");
+    Ok(())
+}
