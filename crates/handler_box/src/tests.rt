@@ -185,7 +185,7 @@ fn boxes_are_natives_in_their_order(rt: HostRuntime) -> Result<(), Fail> {
 fn a_list_has_up_to_65536_boxes(rt: HostRuntime) -> Result<(), Fail> {
     let alloc = rt.alloc();
     let mut list: Vec<Box<dyn Handler>> = Vec::new(alloc);
-    for _ in 0..65536 {
+    for _ in 0..65536_u32 {
         list.push(Box::new(alloc, DropFilter::new())?)?;
     }
     let boxed = Boxed::new(list);
