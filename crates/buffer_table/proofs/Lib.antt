@@ -8,3 +8,4 @@ pub mod Removing
 pub mod Closing
 pub mod Undoing
 pub mod Shown
+pub mod Reading

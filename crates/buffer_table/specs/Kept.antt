@@ -37,6 +37,11 @@ registers_of registers = map (λ r. (number_of r.0, view r.1)) registers
 abbrev pub editor_of : Kept → Editor
 editor_of k = record { buffers = map (option_map (live_of k.pool)) k.buffers; current = k.current; marks = k.marks; registers = registers_of k.registers }
 
+-- the text of a buffer can be read with its property sets
+pub record IsReadable (pool : Pooled) (b : Stored) : Type 0 where
+  pub lies : LiesIn pool b.text
+  pub size : length (characters pool b.text) ≡ length b.sets
+
 -- the blocks of all live buffers
 abbrev pub blocks_in : List (Option Named) → ℕ
 blocks_in [] = 0

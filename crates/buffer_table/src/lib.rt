@@ -2,6 +2,7 @@
 #![tactic(auto)]
 
 mod editor;
+mod lending;
 mod on_buffer;
 mod on_marks;
 mod properties;
@@ -13,3 +14,4 @@ mod tests;
 mod whole;
 
 pub use editor::Editor;
+pub use lending::BufferText;

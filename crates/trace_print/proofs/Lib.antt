@@ -1,0 +1,10 @@
+pub mod Gathering
+pub mod Live
+pub mod Numbered
+pub mod Objects
+pub mod Printing
+pub mod Spaced
+pub mod Stepping
+pub mod Stretches
+pub mod Telling
+pub mod Values

@@ -1,0 +1,10 @@
+use Rattle.std.proofs.Common.{sym, arith, ap, ◌∙◌}
+use Rattle.trace_print.proofs.Printing.{prints_then, prints_same, written}
+use Rattle.trace_print.proofs.Telling.{dump_told}
+use Rattle.trace_print.proofs.line.dump.Goals as goal
+
+pub returns : goal.returns
+returns g c = λ s known.
+    let said = prints_then c.buffers.ensures (prints_then c.markers.ensures (prints_then c.overlays.ensures c.processes.ensures)) in
+    let same = sym (said.same ∙ c.new-out.ensures.same) in
+    written c.new-out.ensures.sink c.new-out.ensures.fresh c.new-out.ensures.empty (grind (arith, same)) (prints_same (dump_told c.args.names.now s known c.args.names.now.symbols.now) said) c.finish.ensures

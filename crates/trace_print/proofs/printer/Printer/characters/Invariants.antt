@@ -1,0 +1,7 @@
+use Rattle.std.proofs.Common.{take, flat_map}
+use Rattle.plain_machine.specs.Lines.{shown_ch}
+use Rattle.trace_print.specs.Printing.{Prints}
+use Rattle.trace_print.proofs.printer.Printer.characters.Given as goal
+
+abbrev pub invariant-loop-i : goal.invariant-loop-i
+invariant-loop-i g l = Prints g.K.Sink.state l.initial.self l.self (flat_map shown_ch (take l.i (g.T.Characters.chars l.text)))

@@ -1,0 +1,8 @@
+pub mod Outcomes
+pub mod Printing
+pub mod Pairs
+pub mod Standing
+pub mod Objects
+pub mod Strings
+pub mod Kinds
+pub mod Dumped
