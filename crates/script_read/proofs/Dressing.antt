@@ -1,5 +1,5 @@
 -- The characters of a text get the sets of their runs, one run after another.
-use Rattle.std.proofs.Common.{◌≡◌, ℕ, ◌+◌, ◌-◌, ◌≤◌, ◌<◌, List, [], ◌∷◌, ◌++◌, Bool, true, false, ◌&&◌, map, length, take, drop, take-append-drop, length-append, length-drop, refl, sym, ap, ◌∙◌, append_assoc, append-nil, arith, Some, None, get_or, subst}
+use Rattle.std.proofs.Common.{◌≡◌, ℕ, ◌+◌, ◌-◌, ◌≤◌, ◌<◌, List, [], ◌∷◌, ◌++◌, Bool, true, false, ◌&&◌, map, length, take, drop, take-append-drop, length-append, length-drop, refl, sym, ap, ◌∙◌, append_assoc, arith, Some, None, get_or, subst}
 use Rattle.std.specs.Prelude.{Option, nat_le, nat_lt}
 use Rattle.std.proofs.Math.Seq.{take-append_seam, drop-append_seam}
 use Rattle.std.proofs.lemmas.Bool.{and_parts}
@@ -9,7 +9,7 @@ use Rattle.std.proofs.Math.ListN.{drop_of_length-le}
 use Rattle.text_model.specs.Characters.{Ch}
 use Rattle.text_model.specs.Properties.{Cell, PropSet, bare, with_sets, edited, Replace}
 use Rattle.script_read.specs.Lexing.{◌>>=◌}
-use Rattle.script_read.specs.PropStrings.{Run, in_run, cells_from}
+use Rattle.script_read.specs.PropStrings.{Run, cells_from}
 
 le_true : (n m : ℕ) → nat_le n m ≡ true → n ≤ m
 le_true n m e = grind (arith, nat_tests)

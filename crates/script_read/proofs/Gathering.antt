@@ -1,5 +1,5 @@
 -- Properties gathered from the last to the first are those of the list.
-use Rattle.std.proofs.Common.{◌≡◌, ℕ, zero, suc, ◌+◌, ◌*◌, ◌-◌, ◌≤◌, ◌<◌, ◌==◌, List, [], ◌∷◌, ◌++◌, Bool, true, false, ◌&&◌, ◌||◌, not, map, length, take, drop, refl, sym, ap, ◌∙◌, append_assoc, append-nil, arith, Some, None, option_map, slice_get}
+use Rattle.std.proofs.Common.{◌≡◌, ℕ, zero, suc, ◌+◌, ◌*◌, ◌-◌, ◌≤◌, ◌<◌, ◌==◌, List, [], ◌∷◌, ◌++◌, Bool, true, false, ◌||◌, not, map, length, take, drop, refl, sym, ap, ◌∙◌, append_assoc, append-nil, arith, Some, None, option_map, slice_get}
 use Rattle.std.specs.Prelude.{Option, nat_lt, is_some, is_none, cond}
 use Rattle.std.specs.List.{list_any}
 use Rattle.std.specs.Map.{lookup}
@@ -10,9 +10,9 @@ use Rattle.std.proofs.lemmas.Bool.Decides.{nat_tests}
 use Rattle.std.proofs.lemmas.Option.{same_Some}
 use Rattle.std.proofs.lemmas.List.{length-map}
 use Rattle.text_model.specs.Characters.{Ch}
-use Rattle.text_model.specs.Properties.{Cell, PropSet, PropVal, Symbols, put, without, with_value}
+use Rattle.text_model.specs.Properties.{Cell, PropSet, PropVal, Symbols, put, without}
 use Rattle.text_model.specs.Ordered.{Rising, HasValues, IsProper, IsValue}
-use Rattle.editor_model.specs.Values.{Value, Values, Sym, Items, End, More, values, symbol_names, as_prop}
+use Rattle.editor_model.specs.Values.{Value, Sym, Items, More, values, symbol_names, as_prop}
 use Rattle.editor_model.specs.Arguments.{is_symbol}
 use Rattle.ek_call.specs.Meaning.{view}
 use Rattle.ek_call.specs.declared.value.Value as written

@@ -1,12 +1,12 @@
 -- What a script of the grammar keeps.
-use Rattle.std.proofs.Common.{◌≡◌, ℕ, zero, suc, ◌+◌, ◌<◌, ◌≤◌, List, [], ◌∷◌, ◌++◌, map, length, refl, sym, ap, ◌∙◌, arith, Some, None, inl, inr, slice_get, max}
-use Rattle.std.specs.Prelude.{Option, Bool, true, false, IsTrue, not, ◌==◌, nat_lt}
+use Rattle.std.proofs.Common.{◌≡◌, ℕ, ◌+◌, ◌<◌, ◌≤◌, List, [], ◌∷◌, ◌++◌, map, length, refl, ap, ◌∙◌, arith, Some, None, inl, inr, max}
+use Rattle.std.specs.Prelude.{Option, Bool, true, false, ◌==◌, nat_lt}
 use Rattle.std.proofs.lemmas.Option.{slice_get_within}
 use Rattle.text_model.specs.Characters.{Ch}
 use Rattle.text_model.specs.Properties.{Cell, PropSet, PropVal, Truth, Number, Text, Symbol, Symbols, put, without, with_value, bare}
 use Rattle.editor_model.specs.Values.{Value, Values, Nil, T, Int, Sym, Str, Items, End, More, as_prop, symbol_names, Arg, Const, Name, Call, Form, Forms, Do, Setq, In, WhenEq, NoForms, Then, HandlerDef, Script}
 use Rattle.plain_machine.specs.Words.{Word}
-use Rattle.plain_machine.specs.Atoms.{Joined, IsSymbol, AreSymbols, IsItem, AreItems, IsPropertyList, no_more, property, AreRuns, no_run, run, IsConst, IsArg, AreArgs}
+use Rattle.plain_machine.specs.Atoms.{IsSymbol, AreSymbols, IsItem, AreItems, IsPropertyList, no_more, property, AreRuns, no_run, run, IsConst, IsArg, AreArgs}
 use Rattle.plain_machine.specs.Grammar.{Top, Handler, Run, IsCall, IsForm, AreForms, AreParams, IsTop, AreTops, handlers_of, forms_of, KeepsLimits, AllKeepLimits, depth, depth_all, IsScript}
 use Rattle.script_read.specs.Kept.{AreBelow, IsNamedProperty, IsNamedSet, IsNamedText, IsNamed, AreNamed, IsNamedArg, AreNamedArgs, IsKeptCall, IsKeptForm, AreKeptForms, IsKeptHandler, AreKeptHandlers, IsKept}
 

@@ -1,8 +1,8 @@
 -- A word that begins with another byte.
-use Rattle.std.proofs.Common.{◌≡◌, ℕ, zero, suc, ◌==◌, List, [], ◌∷◌, Bool, true, false, not, ◌&&◌, take, refl, ap, sym, ◌∙◌, None}
+use Rattle.std.proofs.Common.{◌≡◌, ℕ, zero, suc, ◌==◌, List, [], ◌∷◌, true, false, take, refl, None}
 use Rattle.std.specs.Str.{bytes_eq}
 use Rattle.script_read.specs.FirstBytes.{begin_otherwise}
-use Rattle.script_read.specs.Lexing.{skipped, word_length, split_word, word_at, behind}
+use Rattle.script_read.specs.Lexing.{skipped, word_length, behind}
 use Rattle.script_read.proofs.Bools.{not_true}
 
 taken_otherwise : (n : ℕ) (bytes word : List ℕ) → begin_otherwise bytes word ≡ true → bytes_eq (take n bytes) word ≡ false

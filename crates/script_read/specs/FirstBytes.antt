@@ -1,5 +1,5 @@
 -- The bytes with which two words begin.
-use Rattle.std.specs.Prelude.{ℕ, ◌==◌, Bool, false, not, List, [], ◌∷◌}
+use Rattle.std.specs.Prelude.{ℕ, ◌==◌, Bool, false, not, List, ◌∷◌}
 
 -- both begin with a byte, and not with the same one
 abbrev pub begin_otherwise : List ℕ → List ℕ → Bool

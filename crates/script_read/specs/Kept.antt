@@ -4,7 +4,7 @@ use Rattle.std.specs.Prelude.{ℕ, ◌<◌, ◌≤◌, IsTrue, List, [], ◌∷�
 use Rattle.text_model.specs.Properties.{Cell, PropSet, PropVal, Symbol, Symbols}
 use Rattle.editor_model.specs.Values.{Value, Values, Sym, Str, Items, End, More, Arg, Const, Name, Call, Form, Forms, Do, Setq, In, WhenEq, NoForms, Then, HandlerDef, Script}
 use Rattle.plain_machine.specs.Natives.{takes}
-use Rattle.plain_machine.specs.Grammar.{depth, depth_all, size_all, all_differ}
+use Rattle.plain_machine.specs.Grammar.{depth_all, size_all, all_differ}
 
 -- SYMBOLS, of which there are so many
 abbrev pub AreBelow : (count : ℕ) → List ℕ → Type 0

@@ -1,7 +1,7 @@
-use Rattle.std.proofs.Common.{◌≡◌, ◌+◌, ◌-◌, ◌*◌, ◌/◌, ◌<◌, ◌≤◌, map, drop, length, [], Some, None, sym, ap, ◌∙◌, arith}
+use Rattle.std.proofs.Common.{◌≡◌, ◌+◌, ◌-◌, ◌*◌, ◌/◌, ◌≤◌, map, drop, length, [], Some, sym, ap, ◌∙◌, arith}
 use Rattle.ek_types.specs.Listing.{items_of}
 use Rattle.ek_call.specs.Meaning.{view}
-use Rattle.script_read.specs.PropStrings.{Named, named_of}
+use Rattle.script_read.specs.PropStrings.{named_of}
 use Rattle.script_read.specs.PropSets.{property_of}
 use Rattle.script_read.proofs.Gathering.{nothing_gathered, not_added, added, pair_more, pair_fails, none_left, odd_list}
 use Rattle.script_read.proofs.properties.gathered.Goals as goal

@@ -1,4 +1,4 @@
-use Rattle.std.proofs.Common.{◌≡◌, ◌++◌, map, [], ap, sym, ◌∙◌, subst}
+use Rattle.std.proofs.Common.{◌++◌, map, ap, sym, ◌∙◌, subst}
 use Rattle.text_model.specs.Ordered.{IsProper}
 use Rattle.ek_types.specs.Property.{pair_of}
 use Rattle.script_read.specs.PropSets.{set_given}

@@ -1,10 +1,10 @@
-use Rattle.std.proofs.Common.{map, ap, ◌∙◌, sym, drop, ◌+◌, ◌∷◌}
+use Rattle.std.proofs.Common.{map, ap, ◌∙◌, sym, drop, ◌+◌}
 use Rattle.std.proofs.lemmas.List.{map-append}
 use Rattle.editor_model.specs.Values.{values, symbol_names}
 use Rattle.ek_types.specs.Listing.{items_of}
 use Rattle.ek_types.specs.Property.{number_of}
 use Rattle.ek_call.specs.Meaning.{view}
-use Rattle.script_read.proofs.Gathering.{no_name_before, names_before, name_before, drop_next, no_symbol}
+use Rattle.script_read.proofs.Gathering.{names_before, name_before, drop_next, no_symbol}
 use Rattle.script_read.proofs.properties.symbols.Goals as goal
 
 pub returns-in_default : goal.returns-in_default
