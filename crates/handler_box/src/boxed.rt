@@ -51,10 +51,17 @@ impl Natives for Boxed {
     }
 
     fn name(&self, i: u32) -> &str {
-        name_of(&self.list[i as usize])
+        match self.list.get(i as usize) {
+            Some(handler) => name_of(handler),
+            None => "",
+        }
     }
 
     fn next(&self, i: u32, args: &Values, past: &Replies) -> Mem<Next> {
-        next_of(&self.list[i as usize], args, past)
+        let asked = self.list.get(i as usize);
+        match asked {
+            Some(handler) => next_of(handler, args, past),
+            None => Ok(Next::Done),
+        }
     }
 }

@@ -20,7 +20,7 @@ pub enum Next {
 
 /// A list of natives, each seen as its name and a function of its arguments and of the replies to its calls so far.
 pub trait Natives {
-    ghost use Rattle.std.specs.Prelude.{◌≡◌, ◌<◌, ◌≤◌, ℕ, List, Option, Some, map, length, slice_get, IfOk};
+    ghost use Rattle.std.specs.Prelude.{◌≡◌, ◌≤◌, ℕ, List, [], Option, map, length, slice_get, unwrap_or, IfOk};
     ghost use Rattle.editor_model.specs.Values.{Value, Reply, Prim};
     ghost use Rattle.ek_types.specs.Listing.{items_of};
     ghost use Rattle.ek_call.specs.Meaning.{view, reply_of};
@@ -36,13 +36,11 @@ pub trait Natives {
         ensures count { result ≡ length (names self.now) }
         ensures few { length (names self.now) ≤ 65536 };
 
-    /// The name of native `i`, counted from 0 and below the count.
+    /// The name of native `i`, counted from 0, and the empty one where there is none of this number.
     fn name(&self, i: u32) -> &str
-        requires { i < length (names self.now) }
-        ensures { slice_get (names self.now) i ≡ Some result.now };
+        ensures { result.now ≡ unwrap_or (slice_get (names self.now) i) [] };
 
-    /// What native `i`, counted from 0 and below the count, does next.
+    /// What native `i`, counted from 0, does next.
     fn next(&self, i: u32, args: &Values, past: &Replies) -> Mem<Next>
-        requires { i < length (names self.now) }
         ensures { IfOk result (λ next. asked_of next ≡ does self.now i (map view (items_of args.now)) (map reply_of (items_of past.now))) };
 }
