@@ -132,6 +132,16 @@ fn property_records(
 }
 
 impl Buffer {
+    /// Whether a change of the properties of the characters from `from` to before `to` would change something.
+    pub fn would_change(&self, from: usize, to: usize, edit: &PropEdit) -> Mem<bool>
+        requires order { from ≤ to }
+        requires range { to ≤ length self.now.sets }
+        ensures { (text : List Cell) → sets_in text ≡ self.now.sets → IfOk result (λ b. b ≡ is_some_record (property_records (edit_of edit.now) from to text)) }
+    {
+        let records = property_records(self.alloc, edit, &self.props, from, to)?;
+        Ok(!records.is_empty())
+    }
+
     /// Changes the properties of the characters from `from` to before `to`, and says whether something is to be recorded of
     /// it: else nothing changes. A refusal leaves the buffer as it was.
     pub(crate) fn change_properties(&mut self, from: usize, to: usize, edit: &PropEdit) -> Mem<bool>

@@ -5,6 +5,7 @@ mod editor;
 mod lending;
 mod on_buffer;
 mod on_marks;
+mod previews;
 mod properties;
 mod questions;
 mod registers;

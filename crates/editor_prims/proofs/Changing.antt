@@ -1,0 +1,53 @@
+-- Changes of one buffer.
+use Rattle.std.proofs.Common.{◌≡◌, ℕ, ◌≤◌, Bool, true, false, List, [], ◌∷◌, length, refl, sym, ap, ◌∙◌, arith}
+use Rattle.std.specs.Prelude.{Option, Some, None, is_some, slice_set}
+use Rattle.text_model.specs.Commit.{Site, Buffer}
+use Rattle.editor_model.specs.Editor.{Editor, Live, live, is_live, buffer_at, empty_buffer, change_site, change_buffer}
+use Rattle.editor_model.specs.Values.{Value, Fault, Answered}
+use Rattle.editor_model.specs.Answers.{Test, refuse, first_fault, Applied, applied, applied_of}
+use Rattle.text_model.specs.Places.{clip}
+use Rattle.editor_model.specs.TextCalls.{narrowed, widened}
+
+-- where no live buffer has the number, nothing changes
+pub unchanged : (e : Editor) (id : ℕ) (change : Site → Site) → is_live e id ≡ false → e ≡ change_site id change e
+unchanged e id change h = go (live e id) h
+  where
+    go : (o : Option Live) → is_some o ≡ false → e ≡ (let x : Editor = elim o [
+      | None ↦ e
+      | Some l ↦
+          let site : Site = change (record { buffer = l.buffer; marks = e.marks }) in
+          record e { buffers = slice_set e.buffers id (Some (record l { buffer = site.buffer })); marks = site.marks }
+    ] in x)
+    go None h = refl
+    go (Some l) h = cc
+
+-- two changes that do the same to a buffer
+pub changed_alike : (e : Editor) (id : ℕ) (f g : Buffer → Buffer) → f (buffer_at e id) ≡ g (buffer_at e id) → change_buffer id f e ≡ change_buffer id g e
+changed_alike e id f g h = go (live e id) h
+  where
+    go : (o : Option Live) → f (let b : Buffer = elim o [ Some l ↦ l.buffer | None ↦ empty_buffer ] in b) ≡ g (let b : Buffer = elim o [ Some l ↦ l.buffer | None ↦ empty_buffer ] in b)
+        → (let x : Editor = elim o [
+          | None ↦ e
+          | Some l ↦ record e { buffers = slice_set e.buffers id (Some (record l { buffer = f l.buffer })); marks = e.marks }
+        ] in x) ≡ (let x : Editor = elim o [
+          | None ↦ e
+          | Some l ↦ record e { buffers = slice_set e.buffers id (Some (record l { buffer = g l.buffer })); marks = e.marks }
+        ] in x)
+    go None h = refl
+    go (Some l) h = ap (λ (b : Buffer). let x : Editor = record e { buffers = slice_set e.buffers id (Some (record l { buffer = b })); marks = e.marks } in x) h
+
+-- TESTS THAT ALL PASS
+pub applies : (e new goal : Editor) (tests : List Test) (v w : Value) → first_fault tests ≡ None → new ≡ goal → v ≡ w → (let a : Applied = record { editor = new; reply = Answered v } in a) ≡ applied e tests goal w
+applies e new goal tests v w h g s =
+    ap (λ n. let a : Applied = record { editor = n; reply = Answered v } in a) g
+    ∙ ap (λ x. let a : Applied = record { editor = goal; reply = Answered x } in a) s
+    ∙ sym (ap (λ f. applied_of f e goal w) h)
+
+pub two_pass : (t u : Test) → None ≡ t → None ≡ u → first_fault (t ∷ u ∷ []) ≡ None
+two_pass None None h k = refl
+two_pass None (Some f) h k = cc
+two_pass (Some f) u h k = cc
+
+pub test_passed : (f : Fault) (b : Bool) → None ≡ refuse f b → b ≡ true
+test_passed f true h = refl
+test_passed f false h = cc

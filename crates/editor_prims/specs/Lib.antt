@@ -1,0 +1,5 @@
+pub mod Meaning
+pub mod Names
+pub mod Overlays
+pub mod Planning
+pub mod PropertyArguments

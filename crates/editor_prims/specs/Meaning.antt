@@ -1,0 +1,69 @@
+-- What tests, answers and prepared changes of the code stand for.
+use Rattle.std.specs.Prelude.{◌≡◌, Option, Some, None, Result, Ok, Err}
+use Rattle.editor_model.specs.Values as model
+use Rattle.editor_model.specs.Answers as answers
+use Rattle.editor_model.specs.Editor.{Editor}
+use Rattle.ek_call.specs.Meaning.{view}
+use Rattle.ek_call.specs.Faults.{fault_of}
+use Rattle.ek_call.specs.declared.value.Value.{Value}
+use Rattle.ek_call.specs.declared.fault.Fault.{Fault}
+use Rattle.prop_intervals.specs.Edits.{edit_of}
+use Rattle.editor_prims.specs.declared.failure.Failure.{Failure}
+use Rattle.editor_prims.specs.declared.failure.Failure.TheVariants as failure
+use Rattle.editor_prims.specs.declared.change.What.{What}
+use Rattle.editor_prims.specs.declared.change.What.TheVariants as what
+use Rattle.editor_prims.specs.declared.change.Change.{Change}
+use Rattle.editor_prims.specs.declared.change.Prepared.{Prepared}
+use Rattle.editor_prims.specs.declared.change.Prepared.TheVariants as prepared
+use Rattle.editor_prims.specs.declared.change.Committed.{Committed}
+use Rattle.editor_prims.specs.declared.change.Committed.TheVariants as committed
+
+-- TESTS
+-- the fault with which a test refuses, if it does
+abbrev pub fault_in : {T : Type 0} → Result T Fault → Option model.Fault
+fault_in (Ok x) = None
+fault_in (Err f) = Some (fault_of f)
+
+-- CALLS
+-- what a call that only asks comes to; want of memory says nothing
+abbrev pub Answers : Result Value Failure → model.Reply → Type 0
+Answers (Ok v) reply = model.Answered (view v) ≡ reply
+Answers (Err (failure.Refused f)) reply = model.Refused (fault_of f) ≡ reply
+Answers (Err failure.NoMemory) reply = Unit {0}
+
+-- what a call that sets state comes to; want of memory leaves the editor as it was
+abbrev pub Applies : Result Value Failure → (old new : Editor) → answers.Applied → Type 0
+Applies (Ok v) old new call = record { editor = new; reply = model.Answered (view v) } ≡ call
+Applies (Err (failure.Refused f)) old new call = record { editor = new; reply = model.Refused (fault_of f) } ≡ call
+Applies (Err failure.NoMemory) old new call = new ≡ old
+
+-- CHANGES
+abbrev pub what_of : What → answers.What
+what_of (what.Put piece all point_after widen mark) = answers.Put piece all point_after widen mark
+what_of (what.Props edit) = answers.Props (edit_of edit)
+what_of (what.UndoGroups n) = answers.UndoGroups n
+
+abbrev pub change_of : Change → answers.Change
+change_of c = record { buffer = c.buffer; from = c.from; to = c.to; what = what_of c.what; reply = view c.reply }
+
+abbrev pub prepared_of : Prepared → answers.Prepared
+prepared_of (prepared.Change c) = answers.Changes (change_of c)
+prepared_of (prepared.Quiet c) = answers.Quiet (change_of c)
+prepared_of (prepared.Nothing v) = answers.Nothing (view v)
+prepared_of (prepared.Fault f) = answers.Barred (fault_of f)
+
+abbrev pub committed_of : Committed → answers.Committed
+committed_of (committed.Done from to old) = answers.Done from to old
+committed_of (committed.Fault f) = answers.Failed (fault_of f)
+
+-- what a call that changes a text comes to before anything is changed
+abbrev pub Prepares : Result Prepared Failure → answers.Prepared → Type 0
+Prepares (Ok p) call = prepared_of p ≡ call
+Prepares (Err (failure.Refused f)) call = answers.Barred (fault_of f) ≡ call
+Prepares (Err failure.NoMemory) call = Unit {0}
+
+-- what a commit comes to; want of memory leaves the editor as it was
+abbrev pub Commits : Result Committed Failure → (old new : Editor) → answers.Commit → Type 0
+Commits (Ok c) old new call = record { editor = new; committed = committed_of c } ≡ call
+Commits (Err (failure.Refused f)) old new call = record { editor = new; committed = answers.Failed (fault_of f) } ≡ call
+Commits (Err failure.NoMemory) old new call = new ≡ old

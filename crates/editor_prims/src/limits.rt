@@ -1,0 +1,77 @@
+//! The limits that calls keep.
+ghost use Rattle.std.specs.Prelude.{◌≡◌};
+ghost use Rattle.editor_model.specs.Arguments.{has_room, must_be_fewer, must_be_short, must_fit_a_string, must_have_room};
+ghost use Rattle.ek_call.specs.Meaning.{view};
+ghost use Rattle.buffer_table.specs.Kept.{editor_of};
+ghost use Rattle.editor_prims.specs.Meaning.{fault_in};
+
+use crate::kinds::must;
+use buffer_table::Editor;
+use ek_call::{Fault, Value};
+
+/// The most buffers that are ever made.
+pub const MOST_BUFFERS: u32 = 256;
+
+/// The most markers that are ever made.
+pub const MOST_MARKERS: u32 = 65536;
+
+/// The most overlays that are ever made.
+pub const MOST_OVERLAYS: u32 = 65536;
+
+/// The most characters of one text.
+const LONGEST_TEXT: u128 = 4_194_304;
+
+/// The most characters of all texts together.
+const LONGEST_TEXTS: u128 = 16_777_216;
+
+/// The most characters of a string that is made from a buffer.
+const LONGEST_STRING: usize = 1_048_576;
+
+/// The most characters of a name as it is given.
+const LONGEST_NAME: usize = 256;
+
+/// One more is to be made, and `most` may ever be.
+pub fn must_be_fewer(most: u32, made: u32) -> Result<(), Fault>
+    ensures { fault_in result ≡ must_be_fewer most made }
+{
+    must(made < most, Fault::TooMany)
+}
+
+/// A name is no longer than a name may be.
+pub fn must_be_short(v: &Value) -> Result<(), Fault>
+    ensures { fault_in result ≡ must_be_short (view v.now) }
+{
+    let length = match v {
+        Value::Str(text) => text.len(),
+        _ => 0,
+    };
+    must(length <= LONGEST_NAME, Fault::TooMany)
+}
+
+/// So many characters are to be made a string.
+pub fn must_fit_a_string(length: usize) -> Result<(), Fault>
+    ensures { fault_in result ≡ must_fit_a_string length }
+{
+    must(length <= LONGEST_STRING, Fault::TooMany)
+}
+
+/// Whether `n` more characters fit in a buffer.
+fn has_room(editor: &Editor, id: u32, n: u128) -> bool
+    ensures { result ≡ has_room (editor_of editor.now) id n }
+{
+    if n == 0 {
+        return true;
+    }
+    if n > LONGEST_TEXT {
+        return false;
+    }
+    let size = editor.size(id) as u128;
+    size + n <= LONGEST_TEXT && editor.characters() <= LONGEST_TEXTS - n
+}
+
+/// So many more characters are to be put in a buffer.
+pub fn must_have_room(editor: &Editor, id: u32, n: u128) -> Result<(), Fault>
+    ensures { fault_in result ≡ must_have_room (editor_of editor.now) id n }
+{
+    must(has_room(editor, id, n), Fault::BufferFull)
+}

@@ -1,0 +1,376 @@
+//! The calls on point, on the text and on the accessible portion of a buffer.
+ghost use Rattle.std.specs.Prelude.{◌≡◌, ◌≤◌, [], length, IfOk, None};
+ghost use Rattle.editor_model.specs.Values.{at_place, truth, Answered};
+ghost use Rattle.editor_model.specs.Editor.{here, buffer_at, change_buffer, marker_of};
+ghost use Rattle.narrow_region.specs.Positions.{place_of};
+ghost use Rattle.text_model.specs.Properties.{part};
+ghost use Rattle.editor_model.specs.Answers.{first_fault};
+ghost use Rattle.editor_model.specs.TextCalls as calls;
+ghost use Rattle.editor_model.specs.Arguments.{place_or};
+ghost use Rattle.ek_call.specs.Meaning.{view};
+ghost use Rattle.buffer_table.specs.Kept.{editor_of};
+ghost use Rattle.editor_prims.specs.Meaning.{Answers, Applies, Prepares, fault_in, prepared_of};
+
+use crate::change::{Change, Prepared, What};
+use crate::failure::Failure;
+use crate::kinds::{
+    must_be_buffer, must_be_buffer_or_nil, must_be_position, must_be_position_or_nil,
+};
+use crate::limits::{must_fit_a_string, must_have_room};
+use crate::objects;
+use crate::places::{
+    from_of, is_before_text, must_be_accessible, must_be_nil_or_accessible, must_lie_in,
+    must_point_somewhere, place, position, spot, to_of,
+};
+use crate::values::{at_place, count, plain, truth};
+use buffer_table::Editor;
+use ek_call::{Fault, Value};
+use ek_types::{Chars, Copied, Mem, Piece};
+use std::alloc::Global;
+
+pub fn point(editor: &Editor) -> Result<Value, Failure>
+    ensures { Answers result (Answered (at_place (here (editor_of editor.now)).point)) }
+{
+    Ok(at_place(editor.bounds(editor.current()).point)?)
+}
+
+pub fn point_min(editor: &Editor) -> Result<Value, Failure>
+    ensures { Answers result (Answered (at_place (here (editor_of editor.now)).begin)) }
+{
+    Ok(at_place(editor.bounds(editor.current()).start)?)
+}
+
+pub fn point_max(editor: &Editor) -> Result<Value, Failure>
+    ensures { Answers result (Answered (at_place (here (editor_of editor.now)).end)) }
+{
+    Ok(at_place(editor.bounds(editor.current()).end)?)
+}
+
+pub fn buffer_narrowed_p(editor: &Editor) -> Result<Value, Failure>
+    ensures { Answers result (Answered (truth (calls.is_narrowed (here (editor_of editor.now))))) }
+{
+    let id = editor.current();
+    let portion = editor.bounds(id);
+    let whole = portion.start == 0 && portion.end == editor.size(id);
+    Ok(truth(!whole))
+}
+
+pub fn buffer_size(editor: &Editor, b: &Value) -> Result<Value, Failure>
+    ensures { Answers result (calls.buffer_size (editor_of editor.now) (view b.now)) }
+{
+    must_be_buffer_or_nil(b)?;
+    let id = objects::buffer(editor, b)?;
+    Ok(count(editor.size(id))?)
+}
+
+/// The code of the character of the accessible portion at a place, or nil.
+fn code_at(editor: &Editor, id: u32, place: usize) -> Value
+    ensures { view result ≡ calls.code_value (calls.char_at (buffer_at (editor_of editor.now) id) place) }
+{
+    let portion = editor.bounds(id);
+    if place < portion.start || portion.end <= place {
+        return Value::Nil;
+    }
+    Value::Int(i64::from(editor.char_at(id, place).code()))
+}
+
+pub fn char_after(editor: &Editor, p: &Value) -> Result<Value, Failure>
+    ensures { Answers result (calls.char_after (editor_of editor.now) (view p.now)) }
+{
+    let id = editor.current();
+    if p.is_nil() {
+        return Ok(code_at(editor, id, editor.bounds(id).point));
+    }
+    must_be_position(p)?;
+    must_point_somewhere(editor, p)?;
+    if is_before_text(editor, p) {
+        return Ok(Value::Nil);
+    }
+    Ok(code_at(editor, id, place(editor, p)))
+}
+
+/// A part of a text.
+fn part(editor: &Editor, id: u32, from: usize, to: usize) -> Mem<Piece>
+    requires order { from ≤ to }
+    requires range { to ≤ length (buffer_at (editor_of editor.now) id).text }
+    ensures { IfOk result (λ piece. piece ≡ part from to (buffer_at (editor_of editor.now) id).text) }
+{
+    if from == to {
+        let alloc = editor.allocator();
+        return Ok(Piece::plain(alloc, Chars::new(alloc)));
+    }
+    editor.substring(id, from, to)
+}
+
+pub fn buffer_string(editor: &Editor) -> Result<Value, Failure>
+    ensures { Answers result (calls.buffer_string (editor_of editor.now)) }
+{
+    let id = editor.current();
+    let portion = editor.bounds(id);
+    must_fit_a_string(portion.end - portion.start)?;
+    Ok(Value::Str(part(editor, id, portion.start, portion.end)?))
+}
+
+/// A region in the accessible portion of the current buffer.
+fn must_be_a_region(editor: &Editor, a: &Value, b: &Value) -> Result<(), Fault>
+    ensures { fault_in result ≡ first_fault (calls.must_be_a_region (editor_of editor.now) (view a.now) (view b.now) []) }
+{
+    must_be_position(a)?;
+    must_be_position(b)?;
+    must_be_accessible(editor.current(), editor, a)?;
+    must_be_accessible(editor.current(), editor, b)
+}
+
+/// A region whose text fits in a string.
+fn must_fit_a_region(editor: &Editor, a: &Value, b: &Value) -> Result<(), Fault>
+    ensures { fault_in result ≡ first_fault (calls.must_fit_a_region (editor_of editor.now) (view a.now) (view b.now)) }
+{
+    must_be_position(a)?;
+    must_be_position(b)?;
+    must_be_accessible(editor.current(), editor, a)?;
+    must_be_accessible(editor.current(), editor, b)?;
+    must_fit_a_string(to_of(editor, a, b) - from_of(editor, a, b))
+}
+
+/// The text of a region.
+fn region_text(editor: &Editor, a: &Value, b: &Value) -> Mem<Piece>
+    requires { first_fault (calls.must_fit_a_region (editor_of editor.now) (view a.now) (view b.now)) ≡ None }
+    ensures { IfOk result (λ piece. piece ≡ calls.region_text (editor_of editor.now) (view a.now) (view b.now)) }
+{
+    // Read for what it ensures: the accessible portion lies in the text.
+    let _portion = editor.bounds(editor.current());
+    part(
+        editor,
+        editor.current(),
+        from_of(editor, a, b),
+        to_of(editor, a, b),
+    )
+}
+
+pub fn buffer_substring(editor: &Editor, a: &Value, b: &Value) -> Result<Value, Failure>
+    ensures { Answers result (calls.buffer_substring (editor_of editor.now) (view a.now) (view b.now)) }
+{
+    must_fit_a_region(editor, a, b)?;
+    Ok(Value::Str(region_text(editor, a, b)?))
+}
+
+pub fn buffer_substring_no_properties(
+    editor: &Editor,
+    a: &Value,
+    b: &Value,
+) -> Result<Value, Failure>
+    ensures { Answers result (calls.buffer_substring_no_properties (editor_of editor.now) (view a.now) (view b.now)) }
+{
+    must_fit_a_region(editor, a, b)?;
+    let text = region_text(editor, a, b)?;
+    Ok(plain(editor.allocator(), text.text())?)
+}
+
+pub fn delete_and_extract_region(editor: &Editor, a: &Value, b: &Value) -> Result<Prepared, Failure>
+    ensures { Prepares result (calls.delete_and_extract_region (editor_of editor.now) (view a.now) (view b.now)) }
+{
+    must_fit_a_region(editor, a, b)?;
+    let text = Value::Str(region_text(editor, a, b)?);
+    Ok(deletion(
+        editor.allocator(),
+        editor.current(),
+        from_of(editor, a, b),
+        to_of(editor, a, b),
+        false,
+        text,
+    ))
+}
+
+/// The change that takes a part out; an empty part changes nothing.
+fn deletion(
+    alloc: Global,
+    buffer: u32,
+    from: usize,
+    to: usize,
+    widen: bool,
+    reply: Value,
+) -> Prepared
+    ensures { prepared_of result ≡ calls.deletion buffer from to widen (view reply) }
+{
+    if from == to {
+        return Prepared::Nothing(reply);
+    }
+    Prepared::Change(Change {
+        buffer,
+        from,
+        to,
+        what: What::Put {
+            piece: Piece::plain(alloc, Chars::new(alloc)),
+            all: false,
+            point_after: false,
+            widen,
+            mark: None,
+        },
+        reply,
+    })
+}
+
+pub fn delete_region(editor: &Editor, a: &Value, b: &Value) -> Result<Prepared, Failure>
+    ensures { Prepares result (calls.delete_region (editor_of editor.now) (view a.now) (view b.now)) }
+{
+    must_be_a_region(editor, a, b)?;
+    Ok(deletion(
+        editor.allocator(),
+        editor.current(),
+        from_of(editor, a, b),
+        to_of(editor, a, b),
+        false,
+        Value::Nil,
+    ))
+}
+
+pub fn erase_buffer(editor: &Editor) -> Result<Prepared, Failure>
+    ensures { Prepares result (calls.erase_buffer (editor_of editor.now)) }
+{
+    let id = editor.current();
+    Ok(deletion(editor.allocator(), id, 0, editor.size(id), true, Value::Nil))
+}
+
+/// Point of the current buffer goes to a position, or to the nearer end of the accessible portion.
+fn go_to(editor: &mut Editor, position: i64)
+    ensures { editor_of editor.new ≡ change_buffer (editor_of editor.old).current (calls.point_at (place_of position)) (editor_of editor.old) }
+{
+    let id = editor.current();
+    editor.goto(id, position);
+}
+
+pub fn goto_char(editor: &mut Editor, p: &Value) -> Result<Value, Failure>
+    ensures { Applies result (editor_of editor.old) (editor_of editor.new) (calls.goto_char (editor_of editor.old) (view p.now)) }
+{
+    must_be_position(p)?;
+    must_point_somewhere(editor, p)?;
+    let answer = p.copy()?;
+    let position = position(editor, p)?;
+    go_to(editor, position);
+    Ok(answer)
+}
+
+/// A part of the current buffer becomes its accessible portion.
+fn narrow(editor: &mut Editor, from: usize, to: usize)
+    requires order { from ≤ to }
+    requires range { to ≤ length (here (editor_of editor.old)).text }
+    ensures { editor_of editor.new ≡ change_buffer (editor_of editor.old).current (calls.narrowed from to) (editor_of editor.old) }
+{
+    let id = editor.current();
+    editor.narrow(id, from, to);
+}
+
+pub fn narrow_to_region(editor: &mut Editor, a: &Value, b: &Value) -> Result<Value, Failure>
+    ensures { Applies result (editor_of editor.old) (editor_of editor.new) (calls.narrow_to_region (editor_of editor.old) (view a.now) (view b.now)) }
+{
+    let size = editor.size(editor.current());
+    must_be_position(a)?;
+    must_be_position(b)?;
+    must_lie_in(0, size, editor, a)?;
+    must_lie_in(0, size, editor, b)?;
+    let from = from_of(editor, a, b);
+    let to = to_of(editor, a, b);
+    narrow(editor, from, to);
+    Ok(Value::Nil)
+}
+
+pub fn widen(editor: &mut Editor) -> Result<Value, Failure>
+    ensures { Applies result (editor_of editor.old) (editor_of editor.new) (calls.widen (editor_of editor.old)) }
+{
+    let id = editor.current();
+    editor.widen(id);
+    Ok(Value::Nil)
+}
+
+/// The change that puts a piece in at a place; an empty piece changes nothing.
+pub fn insertion(buffer: u32, at: usize, piece: Piece, all: bool) -> Prepared
+    ensures { prepared_of result ≡ calls.insertion buffer at piece all }
+{
+    if piece.is_empty() {
+        return Prepared::Nothing(Value::Nil);
+    }
+    Prepared::Change(Change {
+        buffer,
+        from: at,
+        to: at,
+        what: What::Put {
+            piece,
+            all,
+            point_after: true,
+            widen: false,
+            mark: None,
+        },
+        reply: Value::Nil,
+    })
+}
+
+/// A place where an argument gives one, and else another.
+fn place_or(default: usize, editor: &Editor, v: &Value) -> usize
+    ensures { result ≡ place_or default (editor_of editor.now) (view v.now) }
+{
+    if v.is_nil() {
+        default
+    } else {
+        place(editor, v)
+    }
+}
+
+pub fn insert_buffer_substring(
+    editor: &Editor,
+    buffer: &Value,
+    a: &Value,
+    b: &Value,
+) -> Result<Prepared, Failure>
+    ensures { Prepares result (calls.insert_buffer_substring (editor_of editor.now) (view buffer.now) (view a.now) (view b.now)) }
+{
+    must_be_buffer(buffer)?;
+    must_be_position_or_nil(a)?;
+    must_be_position_or_nil(b)?;
+    let source = objects::buffer(editor, buffer)?;
+    must_be_nil_or_accessible(source, editor, a)?;
+    must_be_nil_or_accessible(source, editor, b)?;
+    let portion = editor.bounds(source);
+    let one = place_or(portion.start, editor, a);
+    let other = place_or(portion.end, editor, b);
+    let from = one.min(other);
+    let to = one.max(other);
+    must_fit_a_string(to - from)?;
+    must_have_room(editor, editor.current(), (to - from) as u128)?;
+    let piece = part(editor, source, from, to)?;
+    let point = editor.bounds(editor.current()).point;
+    Ok(insertion(editor.current(), point, piece, false))
+}
+
+/// The place of a mark in a buffer; one that isn't there counts as the end of the accessible portion.
+fn place_in(editor: &Editor, id: u32, mark: u32) -> usize
+    ensures { result ≡ calls.place_in id (buffer_at (editor_of editor.now) id) (marker_of (editor_of editor.now) mark).spot }
+{
+    match spot(editor, mark) {
+        Some((buffer, place)) if buffer == id => place,
+        _ => editor.bounds(id).end,
+    }
+}
+
+/// Prepares the insertion of a process's output at its mark, which goes behind the text.
+pub fn prepare_output(editor: &Editor, id: u32, mark: u32, text: Piece) -> Prepared
+    ensures { prepared_of result ≡ calls.prepare_output (editor_of editor.now) id mark text }
+{
+    match must_have_room(editor, id, text.len() as u128) {
+        Ok(()) => {}
+        Err(fault) => return Prepared::Fault(fault),
+    }
+    let at = place_in(editor, id, mark);
+    Prepared::Change(Change {
+        buffer: id,
+        from: at,
+        to: at,
+        what: What::Put {
+            piece: text,
+            all: true,
+            point_after: false,
+            widen: false,
+            mark: Some(mark),
+        },
+        reply: Value::Nil,
+    })
+}
