@@ -19,8 +19,6 @@ mod property_changes;
 mod property_lists;
 mod property_values;
 mod replies;
-#[cfg(test)]
-mod tests;
 mod texts;
 mod undo;
 mod undo_more;
