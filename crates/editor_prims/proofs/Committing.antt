@@ -1,15 +1,15 @@
 -- A piece put in, or a part taken out, in a buffer that may be widened first.
-use Rattle.std.proofs.Common.{◌≡◌, ℕ, zero, suc, ◌+◌, ◌-◌, ◌≤◌, Bool, true, false, List, [], ◌∷◌, ◌++◌, length, take, drop, refl, sym, ap, ◌∙◌, arith, length-append, length-take, length-drop}
+use Rattle.std.proofs.Common.{◌≡◌, ℕ, zero, suc, ◌+◌, ◌≤◌, Bool, true, false, List, [], ◌∷◌, ◌++◌, length, take, drop, refl, sym, ap, ◌∙◌, arith, length-append, length-take, length-drop}
 use Rattle.std.specs.Prelude.{◌==◌, if◌then◌else◌, Option, Some, None, is_some, unwrap_or, slice_get, slice_set}
 use Rattle.text_model.proofs.Lists.{set_same}
 use Rattle.text_model.specs.Properties.{Cell, splice}
 use Rattle.text_model.specs.Places.{clip}
-use Rattle.text_model.specs.Commit.{Buffer, Site, replaced, no_pending, deleted, inserted}
-use Rattle.editor_model.specs.Commits.{put_site, point_to, first_widened}
-use Rattle.editor_model.specs.TextCalls.{point_at, narrowed, widened}
+use Rattle.text_model.specs.Commit.{Buffer, Site, replaced, no_pending, deleted}
+use Rattle.editor_model.specs.Commits.{put_site, first_widened}
+use Rattle.editor_model.specs.TextCalls.{narrowed, widened}
 use Rattle.editor_model.specs.Editor.{Editor, Live, live, is_live, buffer_at, empty_buffer, change_site, change_buffer}
 use Rattle.buffer_table.specs.Places.{IsPlace}
-use Rattle.editor_prims.proofs.Twice.{stepped, step, twice, lives_still}
+use Rattle.editor_prims.proofs.Twice.{step, twice, lives_still}
 
 -- what becomes of a live buffer that is changed
 pub buffer_after : (e : Editor) (id : ℕ) (f : Site → Site) → is_live e id ≡ true → buffer_at (change_site id f e) id ≡ (f (record { buffer = buffer_at e id; marks = e.marks })).buffer

@@ -1,12 +1,12 @@
 -- Overlays that are asked one after the other: which stand in front of a position, and where the first of them begins or ends.
-use Rattle.std.proofs.Common.{◌≡◌, ℕ, zero, suc, ◌+◌, ◌-◌, ◌<◌, ◌≤◌, Bool, true, false, List, [], ◌∷◌, ◌++◌, length, map, drop, refl, sym, ap, ◌∙◌, arith, append_assoc, append-nil}
-use Rattle.std.specs.Prelude.{◌&&◌, ◌||◌, ◌==◌, nat_le, nat_lt, min, max, if◌then◌else◌, filter, Option, Some, None, slice_get, unwrap_or}
-use Rattle.std.specs.List.{enumerate_from, flat_map}
-use Rattle.std.proofs.lemmas.Bool.{lt-ltb, le-ltb, ltb-true, ltb-false, lt-leb, eq-eqb, ne_eqb}
+use Rattle.std.proofs.Common.{◌≡◌, ℕ, zero, suc, ◌+◌, ◌<◌, ◌≤◌, Bool, true, false, List, [], ◌∷◌, ◌++◌, length, drop, refl, sym, ap, ◌∙◌, arith, append_assoc, append-nil}
+use Rattle.std.specs.Prelude.{◌&&◌, ◌||◌, ◌==◌, nat_lt, min, if◌then◌else◌, filter, Some, None, slice_get, unwrap_or}
+use Rattle.std.specs.List.{enumerate_from}
+use Rattle.std.proofs.lemmas.Bool.{lt-ltb, le-ltb, ltb-false, lt-leb, eq-eqb, ne_eqb}
 use Rattle.std.proofs.lemmas.List.{drop_all}
 use Rattle.text_model.proofs.Lists.{drop_at}
 use Rattle.text_model.specs.Marks.{Overlay, Span}
-use Rattle.text_model.specs.OverlayQuestions.{overlays_where, span_passes, ends_of_span, overlay_ends, least, greatest, next_end, previous_end, lies_within, overlaps, stands_in, covers}
+use Rattle.text_model.specs.OverlayQuestions.{span_passes, ends_of_span, overlay_ends, least, greatest, previous_end, lies_within, overlaps, stands_in}
 use Rattle.editor_model.specs.Editor.{Editor, overlay_of}
 use Rattle.overlay_set.specs.Numbered.{numbers_of}
 

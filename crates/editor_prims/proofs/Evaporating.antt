@@ -1,5 +1,5 @@
 -- Overlays that are changed, and taken out of their buffers where they are empty and evaporate.
-use Rattle.std.proofs.Common.{◌≡◌, ℕ, zero, suc, ◌+◌, ◌<◌, ◌≤◌, Bool, true, false, List, [], ◌∷◌, length, refl, sym, ap, ◌∙◌, arith, eq-eqb}
+use Rattle.std.proofs.Common.{◌≡◌, ℕ, zero, suc, ◌<◌, ◌≤◌, true, false, List, [], ◌∷◌, length, refl, sym, ap, ◌∙◌, arith, eq-eqb}
 use Rattle.std.specs.Prelude.{◌&&◌, ◌==◌, if◌then◌else◌, Option, Some, None, is_some, slice_get, slice_set, unwrap_or}
 use Rattle.std.proofs.lemmas.Bool.{and_from, and_right}
 use Rattle.text_model.specs.Properties.{get}

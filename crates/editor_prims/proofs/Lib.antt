@@ -16,3 +16,4 @@ pub mod Symbols
 pub mod Committing
 pub mod Planning
 pub mod Ends
+pub mod Others

@@ -1,5 +1,5 @@
 -- A marker that is made, set and said to advance or not, one after the other.
-use Rattle.std.proofs.Common.{◌≡◌, ℕ, zero, suc, ◌+◌, ◌<◌, Bool, List, [], ◌∷◌, ◌++◌, length, refl, sym, ap, subst, ◌∙◌, arith}
+use Rattle.std.proofs.Common.{◌≡◌, ℕ, Bool, List, [], ◌∷◌, ◌++◌, length, refl, sym, ap, subst, ◌∙◌}
 use Rattle.std.specs.Prelude.{Option, Some, None, IfSome, slice_get, slice_set, unwrap_or}
 use Rattle.text_model.specs.Marks.{Marker, Spot}
 use Rattle.marker_set.specs.Numbered.{nowhere}

@@ -1,6 +1,6 @@
 -- Names that no rival has.
-use Rattle.std.proofs.Common.{◌≡◌, ◌≢◌, ℕ, zero, suc, ◌+◌, ◌-◌, ◌<◌, ◌≤◌, Bool, true, false, List, [], ◌∷◌, length, refl, sym, ap, ◌∙◌, arith}
-use Rattle.std.specs.Prelude.{◌==◌, Option, Some, None, is_some, slice_get, slice_set, unwrap_or}
+use Rattle.std.proofs.Common.{◌≡◌, ◌≢◌, ℕ, zero, suc, ◌+◌, ◌-◌, ◌<◌, Bool, true, false, List, [], ◌∷◌, length, refl, ap, ◌∙◌, arith}
+use Rattle.std.specs.Prelude.{Option, Some, None, is_some, slice_get, slice_set, unwrap_or}
 use Rattle.text_model.proofs.Lists.{set_other}
 use Rattle.editor_model.specs.Editor.{Editor, Live, Name, find_from, numbered_name, first_numbered, free_name}
 use Rattle.editor_prims.specs.Names.{is_named, rivals}

@@ -1,12 +1,12 @@
 -- Property lists, read from their ends.
-use Rattle.std.proofs.Common.{◌≡◌, ℕ, zero, suc, ◌+◌, ◌-◌, ◌*◌, ◌<◌, ◌≤◌, Bool, true, false, List, [], ◌∷◌, ◌++◌, length, map, take, drop, refl, sym, ap, ◌∙◌, arith, append_assoc, append-nil}
+use Rattle.std.proofs.Common.{◌≡◌, ℕ, zero, suc, ◌+◌, ◌*◌, ◌≤◌, Bool, true, false, List, [], ◌∷◌, ◌++◌, length, map, take, drop, refl, sym, ap, ◌∙◌, arith, append_assoc}
 use Rattle.std.specs.Prelude.{slice_get, Option, Some, None, filter, is_none, is_some, unwrap_or, ◌==◌, if◌then◌else◌}
 use Rattle.std.specs.List.{list_any}
-use Rattle.std.proofs.lemmas.List.{drop_all, take_all}
+use Rattle.std.proofs.lemmas.List.{take_all}
 use Rattle.text_model.proofs.Lists.{take_one_more, drop_at}
 use Rattle.text_model.specs.Properties.{PropVal}
 use Rattle.editor_model.specs.Values.{Value, Sym, Pairs, as_prop, with_pair, pairs_of, items, values}
-use Rattle.editor_model.specs.PropertyCalls.{set_of_pairs, names_of_pairs, nil_names}
+use Rattle.editor_model.specs.PropertyCalls.{names_of_pairs, nil_names}
 use Rattle.editor_prims.specs.declared.property_lists.Pair.{Pair}
 use Rattle.editor_prims.specs.PropertyArguments.{backwards, paired, pair_of}
 

@@ -1,11 +1,11 @@
 -- A plan of undoing, and the tests that undoing meets.
-use Rattle.std.proofs.Common.{◌≡◌, ℕ, ◌<◌, Bool, true, false, List, [], ◌∷◌, length, refl, sym, ap, ◌∙◌, arith}
+use Rattle.std.proofs.Common.{◌≡◌, ℕ, Bool, true, false, List, [], ◌∷◌, length, refl, sym, ap, arith}
 use Rattle.std.specs.Prelude.{not, nat_lt, Option, Some, None, is_some, Result, Ok, Err}
 use Rattle.std.proofs.lemmas.Bool.{lt-ltb}
-use Rattle.text_model.specs.Undo.{Undo, Entry, pending, groups, undone, trial, oldest}
+use Rattle.text_model.specs.Undo.{Entry, pending, groups, undone, trial, oldest}
 use Rattle.text_model.specs.Commit.{Buffer}
 use Rattle.editor_model.specs.Values.{UndoDisabled, NoFurtherUndo, UndoOutside, Fault}
-use Rattle.editor_model.specs.Answers.{Test, refuse, first_fault}
+use Rattle.editor_model.specs.Answers.{refuse, first_fault}
 use Rattle.editor_model.specs.UndoCalls.{undo_tests}
 use Rattle.undo_list.specs.declared.plan.Plan.{Plan}
 use Rattle.undo_list.specs.declared.plan.Refused.{Refused}

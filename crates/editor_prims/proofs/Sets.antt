@@ -1,5 +1,5 @@
 -- Properties given anew one after the other.
-use Rattle.std.proofs.Common.{◌≡◌, ℕ, ◌+◌, List, drop, ap, ◌∙◌}
+use Rattle.std.proofs.Common.{◌≡◌, ℕ, ◌+◌, drop, ap, ◌∙◌}
 use Rattle.std.specs.Prelude.{slice_get, Some}
 use Rattle.text_model.specs.Properties.{PropVal, PropSet, put, put_all, with_value, given}
 use Rattle.text_model.specs.Ordered.{IsProper}

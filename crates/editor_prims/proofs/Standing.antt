@@ -1,14 +1,15 @@
 -- Which overlays stand where.
-use Rattle.std.proofs.Common.{◌≡◌, ℕ, zero, suc, ◌+◌, ◌-◌, ◌<◌, ◌≤◌, Bool, true, false, List, [], ◌∷◌, length, map, refl, sym, ap, subst, ◌∙◌, arith}
-use Rattle.std.specs.Prelude.{◌&&◌, ◌==◌, nat_le, nat_lt, if◌then◌else◌, filter, Option, Some, None, is_some, slice_get, option_map}
+use Rattle.std.proofs.Common.{◌≡◌, ℕ, zero, suc, ◌+◌, ◌-◌, ◌<◌, Bool, true, false, List, [], ◌∷◌, map, refl, ap, subst, ◌∙◌, arith}
+use Rattle.std.specs.Prelude.{◌==◌, nat_le, nat_lt, if◌then◌else◌, min, max, filter, Option, Some, None, is_some, slice_get, option_map, unwrap_or}
 use Rattle.std.specs.List.{enumerate_from}
 use Rattle.std.proofs.lemmas.Option.{same_Some}
 use Rattle.std.proofs.lemmas.Bool.{lt-leb, and_left, and_right}
-use Rattle.text_model.specs.Properties.{get}
+use Rattle.text_model.specs.Properties.{PropSet, get}
 use Rattle.text_model.specs.Marks.{Overlay, Span}
-use Rattle.text_model.specs.OverlayQuestions.{overlays_where, span_passes, covers, winner, greater, greatest_of, outranks}
-use Rattle.editor_model.specs.Values.{Value, TheOverlay, list}
-use Rattle.editor_model.specs.OverlayCalls.{overlay_values}
+use Rattle.text_model.specs.OverlayQuestions.{overlays_where, span_passes, covers, lies_within, winner, greater, greatest_of, outranks}
+use Rattle.editor_model.specs.Values.{TheOverlay, list}
+use Rattle.editor_model.specs.Editor.{Editor, overlay_of}
+use Rattle.editor_model.specs.OverlayCalls.{overlay_values, char_property}
 use Rattle.overlay_set.specs.Numbered.{numbers_of}
 
 -- NO OVERLAY COVERS WHAT LIES BEFORE THE TEXT
@@ -66,3 +67,42 @@ winner_stands id p name overlays o e =
     (filtered (λ o. slice_get overlays o.0 ≡ Some o.1) (λ o. is_some (get o.1.props name)) (overlays_where id (covers p) overlays)
     (filtered (λ o. slice_get overlays o.0 ≡ Some o.1) (λ o. span_passes id (covers p) o.1.span) (enumerate_from 0 overlays)
     (enumerated overlays overlays 0 (λ i. ap (slice_get overlays) (let k : 0 + i ≡ i = omega arith in k))))) e
+
+-- the winner's value, and the text's where there is no winner
+pub won : (e : Editor) (id p name k : ℕ) (set : PropSet) → Some k ≡ option_map (λ o. o.0) (winner id p name e.marks.overlays) → get (overlay_of e k).props name ≡ char_property (winner id p name e.marks.overlays) name set
+won e id p name k set h = go (winner id p name e.marks.overlays) refl h
+  where
+    none : Overlay
+    none = record { span = None; front_advance = false; rear_advance = false; props = [] }
+
+    go : (w : Option (ℕ × Overlay)) → winner id p name e.marks.overlays ≡ w → Some k ≡ option_map (λ o. o.0) w → get (overlay_of e k).props name ≡ char_property w name set
+    go None is h = cc
+    go (Some o) is h =
+        ap (λ (j : ℕ). get (unwrap_or (slice_get e.marks.overlays j) none).props name) (same_Some k o.0 h)
+        ∙ ap (λ (x : Option Overlay). get (unwrap_or x none).props name) (winner_stands id p name e.marks.overlays o is)
+
+pub not_won : (e : Editor) (id p name : ℕ) (set : PropSet) → None ≡ option_map (λ o. o.0) (winner id p name e.marks.overlays) → get set name ≡ char_property (winner id p name e.marks.overlays) name set
+not_won e id p name set h = go (winner id p name e.marks.overlays) h
+  where
+    go : (w : Option (ℕ × Overlay)) → None ≡ option_map (λ o. o.0) w → get set name ≡ char_property w name set
+    go None h = refl
+    go (Some o) h = cc
+
+-- POSITIONS AND PLACES
+pub place_next : (p : ℕ) → (p == 0) ≡ false → p - 1 + 1 ≡ p
+place_next zero h = cc
+place_next (suc p) h = omega arith
+
+pub first_next : (p q from : ℕ) → 0 < min p q → from ≡ min (p - 1) (q - 1) → from + 1 ≡ min p q
+first_next p q from h e = omega arith
+
+pub last_next : (p q to : ℕ) → 0 < min p q → to ≡ max (p - 1) (q - 1) → to + 1 ≡ max p q
+last_next p q to h e = omega arith
+
+pub same_part : (id i first b last l end e : ℕ) (overlays : List Overlay) → id ≡ i → first ≡ b → last ≡ l → end ≡ e
+    → numbers_of (overlays_where id (lies_within first last end) overlays) ≡ numbers_of (overlays_where i (lies_within b l e) overlays)
+same_part id i first b last l end e overlays h f k n =
+    ap (λ (x : ℕ). numbers_of (overlays_where x (lies_within first last end) overlays)) h
+    ∙ ap (λ (x : ℕ). numbers_of (overlays_where i (lies_within x last end) overlays)) f
+    ∙ ap (λ (x : ℕ). numbers_of (overlays_where i (lies_within b x end) overlays)) k
+    ∙ ap (λ (x : ℕ). numbers_of (overlays_where i (lies_within b l x) overlays)) n

@@ -1,5 +1,5 @@
 -- Lists of symbols, one symbol after the other.
-use Rattle.std.proofs.Common.{◌≡◌, ℕ, ◌+◌, ◌≤◌, ◌<◌, Bool, true, false, List, [], ◌∷◌, ◌++◌, length, map, drop, refl, sym, ap, ◌∙◌, append_assoc, append-nil, arith}
+use Rattle.std.proofs.Common.{◌≡◌, ℕ, ◌+◌, ◌≤◌, Bool, true, false, List, [], ◌∷◌, ◌++◌, length, drop, refl, sym, ap, ◌∙◌, append_assoc, append-nil, arith}
 use Rattle.std.specs.Prelude.{slice_get, Option, Some, None, is_some, option_map, unwrap_or}
 use Rattle.std.proofs.lemmas.List.{drop_all}
 use Rattle.text_model.proofs.Lists.{drop_at}

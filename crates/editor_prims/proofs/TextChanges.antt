@@ -1,11 +1,11 @@
 -- Places where properties change, and characters that have a value.
-use Rattle.std.proofs.Common.{◌≡◌, ℕ, zero, suc, ◌+◌, ◌<◌, ◌≤◌, Bool, true, false, List, [], ◌∷◌, length, map, take, drop, refl, sym, ap, ◌∙◌, arith}
-use Rattle.std.specs.Prelude.{◌&&◌, nat_lt, if◌then◌else◌, filter, Option, Some, None, slice_get, option_map}
+use Rattle.std.proofs.Common.{◌≡◌, ℕ, zero, suc, ◌+◌, ◌<◌, ◌≤◌, Bool, true, false, List, [], ◌∷◌, map, take, drop, refl, sym, ap, ◌∙◌, arith}
+use Rattle.std.specs.Prelude.{◌&&◌, nat_lt, if◌then◌else◌, Option, Some, None, slice_get, option_map}
 use Rattle.std.proofs.lemmas.Bool.{ltb-true, ltb-false, le-ltb, lt-ltb}
 use Rattle.std.proofs.lemmas.List.{drop_all, length-take}
 use Rattle.text_model.proofs.Lists.{drop_at}
 use Rattle.text_model.specs.Properties.{Cell, PropSet, get, same_set, same_option, same_value}
-use Rattle.text_model.specs.PropertyQuestions.{first, last, between, changes, changes_after, unless_same, next_change, previous_change, first_where}
+use Rattle.text_model.specs.PropertyQuestions.{first, last, between, changes, changes_after, unless_same, first_where}
 use Rattle.prop_intervals.specs.Sets.{changes_of, sets_in}
 use Rattle.editor_prims.specs.PropertyArguments.{found_before, found_behind, changes_in}
 

@@ -1,5 +1,5 @@
 -- What is undone, or why it is refused.
-use Rattle.std.specs.Prelude.{◌≡◌, ℕ, ◌==◌, Option, Some, None, length, Result, Ok, Err}
+use Rattle.std.specs.Prelude.{◌≡◌, ℕ, Some, None, length, Result, Ok, Err}
 use Rattle.text_model.specs.Undo.{undone}
 use Rattle.text_model.specs.Commit.{Buffer}
 use Rattle.editor_model.specs.Answers.{first_fault}

@@ -1,30 +1,33 @@
 //! The calls on buffers, texts, markers, properties, overlays and undo, on the whole editor.
 #![tactic(auto)]
 
-mod buffers;
+pub mod buffers;
 mod change;
 mod commits;
 mod failure;
-mod inserts;
+pub mod inserts;
 mod kinds;
 mod limits;
-mod markers;
+pub mod markers;
 mod names;
 mod objects;
-mod overlay_questions;
-mod overlays;
+pub mod overlay_questions;
+pub mod overlays;
 mod places;
-mod properties;
-mod property_changes;
+pub mod properties;
+pub mod property_changes;
 mod property_lists;
 mod property_values;
 mod replies;
-mod texts;
-mod undo;
-mod undo_more;
-mod undo_records;
+mod table;
+pub mod texts;
+pub mod undo;
+pub mod undo_more;
+pub mod undo_records;
 mod values;
 
 pub use change::{Change, Committed, Prepared, What};
 pub use commits::commit;
+pub use failure::Failure;
+pub use table::{apply, prepare, query};
 pub use texts::prepare_output;

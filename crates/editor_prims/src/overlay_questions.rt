@@ -1,5 +1,5 @@
 //! Which overlays stand where ("Finding Overlays" in the GNU Emacs Lisp Reference Manual).
-ghost use Rattle.std.specs.Prelude.{◌≡◌, ◌+◌, nat_lt, map, filter, if◌then◌else◌, IfOk, OnOk, ◌++◌, ◌∷◌, []};
+ghost use Rattle.std.specs.Prelude.{◌≡◌, ◌≤◌, ◌+◌, nat_lt, map, option_map, filter, if◌then◌else◌, IfOk, OnOk, ◌++◌, ◌∷◌, []};
 ghost use Rattle.overlay_set.specs.Numbered.{numbers_of, span_of};
 ghost use Rattle.text_model.specs.OverlayQuestions.{overlays_where, span_passes, covers, lies_within, winner, ends_of_span, least, next_end, previous_end};
 ghost use Rattle.editor_model.specs.Values.{of_prop, TheOverlay, list};
@@ -37,16 +37,30 @@ fn overlay_list(numbers: &Numbers) -> Mem<Value>
     Ok(list(values))
 }
 
-/// The overlays of the current buffer that cover a position.
-#[tactic(auto, using(crate::proofs::Standing::none_covers, crate::proofs::Standing::listed))]
-fn covering(editor: &Editor, p: &Value) -> Mem<Value>
-    ensures { IfOk result (λ v. view v ≡ calls.overlay_values (overlays_where (editor_of editor.now).current (covers (position (editor_of editor.now) (view p.now))) (editor_of editor.now).marks.overlays)) }
+/// The numbers of the overlays of a buffer that cover a place.
+fn covering_place(editor: &Editor, id: u32, place: usize) -> Mem<Numbers>
+    ensures { IfOk result (λ numbers. items_of numbers ≡ numbers_of (overlays_where id (covers (place + 1)) (editor_of editor.now).marks.overlays)) }
+{
+    editor.marks().overlays.at(id, place)
+}
+
+/// The numbers of the overlays of the current buffer that cover a position.
+fn covering(editor: &Editor, p: &Value) -> Mem<Numbers>
+    ensures { IfOk result (λ numbers. items_of numbers ≡ numbers_of (overlays_where (editor_of editor.now).current (covers (position (editor_of editor.now) (view p.now))) (editor_of editor.now).marks.overlays)) }
 {
     if is_before_text(editor, p) {
-        return Ok(Value::Nil);
+        let none = Numbers::new(editor.allocator());
+        return Ok(none);
     }
-    let overlays = &editor.marks().overlays;
-    overlay_list(&overlays.at(editor.current(), place(editor, p))?)
+    let id = editor.current();
+    covering_place(editor, id, place(editor, p))
+}
+
+/// The overlays of the current buffer that cover a position.
+fn covering_list(editor: &Editor, p: &Value) -> Mem<Value>
+    ensures { IfOk result (λ v. view v ≡ calls.overlay_values (overlays_where (editor_of editor.now).current (covers (position (editor_of editor.now) (view p.now))) (editor_of editor.now).marks.overlays)) }
+{
+    overlay_list(&covering(editor, p)?)
 }
 
 pub fn overlays_at(editor: &Editor, p: &Value) -> Result<Value, Failure>
@@ -54,18 +68,22 @@ pub fn overlays_at(editor: &Editor, p: &Value) -> Result<Value, Failure>
 {
     must_be_position(p)?;
     must_point_somewhere(editor, p)?;
-    Ok(covering(editor, p)?)
+    Ok(covering_list(editor, p)?)
+}
+
+/// The number of the overlay of a buffer that wins at a place, of those that have a property.
+fn winner(editor: &Editor, id: u32, place: usize, name: Sym) -> Option<u32>
+    ensures { result ≡ option_map (λ o. o.0) (winner id (place + 1) (number_of name) (editor_of editor.now).marks.overlays) }
+{
+    editor.marks().overlays.winner(id, place, name)
 }
 
 /// The value of a property at a place of the current buffer: that of the overlay that wins, or the text's.
 fn char_property(editor: &Editor, place: usize, name: Sym) -> Mem<Value>
     ensures { IfOk result (λ v. view v ≡ of_prop (calls.char_property (winner (editor_of editor.now).current (place + 1) (number_of name) (editor_of editor.now).marks.overlays) (number_of name) (set_at (here (editor_of editor.now)) place))) }
 {
-    match editor
-        .marks()
-        .overlays
-        .winner(editor.current(), place, name)
-    {
+    let id = editor.current();
+    match winner(editor, id, place, name) {
         Some(k) => of_prop(editor.allocator(), overlay_value(editor, k, name)),
         None => text_property(editor, place, name),
     }
@@ -131,6 +149,14 @@ fn standing_in_front(editor: &Editor, id: u32, last: u128, end: usize) -> Mem<Nu
     Ok(numbers)
 }
 
+/// The numbers of the overlays of a buffer that stand between two places.
+fn standing_within(editor: &Editor, id: u32, from: usize, to: usize, end: usize) -> Mem<Numbers>
+    requires { from ≤ to }
+    ensures { IfOk result (λ numbers. items_of numbers ≡ numbers_of (overlays_where id (lies_within (from + 1) (to + 1) (end + 1)) (editor_of editor.now).marks.overlays)) }
+{
+    editor.marks().overlays.within(id, from, to, end)
+}
+
 /// The numbers of the overlays of the current buffer that stand between two positions.
 fn standing(editor: &Editor, a: &Value, b: &Value) -> Mem<Numbers>
     ensures { IfOk result (λ numbers. items_of numbers ≡ numbers_of (overlays_where (editor_of editor.now).current (lies_within (calls.first_position (editor_of editor.now) (view a.now) (view b.now)) (calls.last_position (editor_of editor.now) (view a.now) (view b.now)) (calls.end_position (editor_of editor.now))) (editor_of editor.now).marks.overlays)) }
@@ -138,11 +164,19 @@ fn standing(editor: &Editor, a: &Value, b: &Value) -> Mem<Numbers>
     let id = editor.current();
     let end = editor.bounds(id).end;
     let (one, other) = (position(editor, a), position(editor, b));
-    if one == 0 || other == 0 {
-        return standing_in_front(editor, id, one.max(other), end);
+    let first = one.min(other);
+    let last = one.max(other);
+    if first == 0 {
+        return standing_in_front(editor, id, last, end);
     }
-    let overlays = &editor.marks().overlays;
-    overlays.within(id, from_of(editor, a, b), to_of(editor, a, b), end)
+    standing_within(editor, id, from_of(editor, a, b), to_of(editor, a, b), end)
+}
+
+/// The overlays of the current buffer that stand between two positions.
+fn standing_list(editor: &Editor, a: &Value, b: &Value) -> Mem<Value>
+    ensures { IfOk result (λ v. view v ≡ calls.overlay_values (overlays_where (editor_of editor.now).current (lies_within (calls.first_position (editor_of editor.now) (view a.now) (view b.now)) (calls.last_position (editor_of editor.now) (view a.now) (view b.now)) (calls.end_position (editor_of editor.now))) (editor_of editor.now).marks.overlays)) }
+{
+    overlay_list(&standing(editor, a, b)?)
 }
 
 pub fn overlays_in(editor: &Editor, a: &Value, b: &Value) -> Result<Value, Failure>
@@ -152,7 +186,7 @@ pub fn overlays_in(editor: &Editor, a: &Value, b: &Value) -> Result<Value, Failu
     must_be_position(b)?;
     must_point_somewhere(editor, a)?;
     must_point_somewhere(editor, b)?;
-    Ok(overlay_list(&standing(editor, a, b)?)?)
+    Ok(standing_list(editor, a, b)?)
 }
 
 /// The nearest of the places of an overlay of a buffer and another place.

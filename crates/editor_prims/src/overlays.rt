@@ -191,10 +191,12 @@ fn put(editor: &mut Editor, k: u32, name: Sym, v: Option<&PropVal>) -> Mem<()>
     ensures ok { OnOk result (editor_of editor.new ≡ change_overlay k (λ old. calls.kept (record old { props = put_property old.props (number_of name) (given_of (option_map (λ p. prop_of p.now) v.entry)) })) (editor_of editor.old)) }
     ensures err { OnErr result (editor_of editor.new ≡ editor_of editor.old) }
 {
-    if k < editor.marks().overlays.count() {
-        editor.put_overlay(k, name, v)?;
-        evaporate(editor, k);
+    let count = overlay_count(editor);
+    if count <= k {
+        return Ok(());
     }
+    editor.put_overlay(k, name, v)?;
+    evaporate(editor, k);
     Ok(())
 }
 
@@ -223,10 +225,12 @@ fn shift(editor: &mut Editor, k: u32, id: u32, from: usize, to: usize) -> Mem<()
     ensures ok { OnOk result (editor_of editor.new ≡ change_overlay k (λ old. calls.kept (record old { span = Some (record { buffer = id; start = from; end = to }) })) (editor_of editor.old)) }
     ensures err { OnErr result (editor_of editor.new ≡ editor_of editor.old) }
 {
-    if k < editor.marks().overlays.count() {
-        editor.move_overlay(k, id, from, to)?;
-        evaporate(editor, k);
+    let count = overlay_count(editor);
+    if count <= k {
+        return Ok(());
     }
+    editor.move_overlay(k, id, from, to)?;
+    evaporate(editor, k);
     Ok(())
 }
 

@@ -1,5 +1,6 @@
-use Rattle.std.proofs.Common.{◌≡◌, ◌∙◌, ap, sym, length, arith}
+use Rattle.std.proofs.Common.{◌≡◌, ◌∙◌, ap, length, false, arith}
 use Rattle.editor_model.specs.Editor.{Editor, is_live, buffer_at, change_site, change_buffer}
+use Rattle.text_model.specs.Commit.{Site}
 use Rattle.editor_model.specs.Commits.{put_site}
 use Rattle.editor_model.specs.TextCalls.{narrowed, widened}
 use Rattle.buffer_table.specs.Kept.{editor_of}
@@ -9,7 +10,7 @@ use Rattle.editor_prims.proofs.commits.put_widened.Goals as goal
 
 pub put_with_point-requires-clause-live : goal.put_with_point-requires-clause-live
 put_with_point-requires-clause-live c =
-    ap (λ (x : Editor). is_live x c.args.id) c.widen.ensures ∙ lives_still (editor_of c.args.editor.now) c.args.id _ c.requires.live
+    ap (λ (x : Editor). is_live x c.args.id) c.widen.ensures ∙ lives_still (editor_of c.args.editor.now) c.args.id (λ (site : Site). record site { buffer = widened site.buffer }) c.requires.live
 
 pub put_with_point-requires-clause-range : goal.put_with_point-requires-clause-range
 put_with_point-requires-clause-range c =
@@ -20,7 +21,7 @@ put_with_point-requires-clause-range c =
 
 pub narrow-requires-clause-live : goal.narrow-requires-clause-live
 narrow-requires-clause-live c =
-    ap (λ (x : Editor). is_live x c.args.id) (c.in-Err.ensures.err ∙ c.widen.ensures) ∙ lives_still (editor_of c.args.editor.now) c.args.id _ c.requires.live
+    ap (λ (x : Editor). is_live x c.args.id) (c.in-Err.ensures.err ∙ c.widen.ensures) ∙ lives_still (editor_of c.args.editor.now) c.args.id (λ (site : Site). record site { buffer = widened site.buffer }) c.requires.live
 
 pub narrow-requires-clause-range : goal.narrow-requires-clause-range
 narrow-requires-clause-range c =

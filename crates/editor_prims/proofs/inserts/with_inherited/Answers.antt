@@ -1,5 +1,4 @@
-use Rattle.std.proofs.Common.{◌≡◌, ◌∙◌, ◌++◌, ◌≤◌, length, map, take, drop, arith}
-use Rattle.text_model.specs.Properties.{put_all}
+use Rattle.std.proofs.Common.{◌∙◌, arith}
 use Rattle.editor_prims.proofs.Inheriting.{run_more, runs_all, run_size}
 use Rattle.editor_prims.proofs.inserts.with_inherited.Goals as goal
 

@@ -1,6 +1,6 @@
-use Rattle.std.proofs.Common.{◌∙◌, ◌<◌, length, ap, sym, arith}
-use Rattle.marker_set.specs.Numbered.{nowhere, spot_of}
-use Rattle.editor_model.specs.Editor.{Editor, with_marker, set_marker_spot, change_marker}
+use Rattle.std.proofs.Common.{◌∙◌, ap}
+use Rattle.marker_set.specs.Numbered.{spot_of}
+use Rattle.editor_model.specs.Editor.{Editor, set_marker_spot, change_marker}
 use Rattle.buffer_table.specs.Kept.{editor_of}
 use Rattle.editor_prims.proofs.Making.{made, still_places}
 use Rattle.editor_prims.proofs.markers.make.Goals as goal

@@ -1,4 +1,4 @@
-use Rattle.std.proofs.Common.{◌≡◌, ◌+◌, ◌∙◌, ap, arith}
+use Rattle.std.proofs.Common.{◌+◌, ◌∙◌, ap, arith}
 use Rattle.std.specs.Prelude.{filter, nat_lt}
 use Rattle.text_model.specs.OverlayQuestions.{ends_of_span, least}
 use Rattle.editor_model.specs.Editor.{overlay_of}

@@ -1,4 +1,4 @@
-use Rattle.std.proofs.Common.{ap, ◌∙◌, map, length, arith}
+use Rattle.std.proofs.Common.{ap, ◌∙◌, map, arith}
 use Rattle.editor_model.specs.Values.{TheOverlay, list}
 use Rattle.ek_types.specs.Listing.{items_of}
 use Rattle.ek_call.specs.Meaning.{view}

@@ -1,6 +1,5 @@
-use Rattle.std.proofs.Common.{◌≡◌, ◌+◌, ◌∙◌, ◌∷◌, ◌++◌, [], ap, arith}
-use Rattle.std.specs.Prelude.{if◌then◌else◌, Some, slice_get}
-use Rattle.std.proofs.lemmas.Option.{slice_get-get_or}
+use Rattle.std.proofs.Common.{◌+◌, ◌∙◌, ◌∷◌, ◌++◌, [], ap, arith}
+use Rattle.std.specs.Prelude.{if◌then◌else◌}
 use Rattle.text_model.specs.OverlayQuestions.{span_passes, lies_within}
 use Rattle.editor_model.specs.Editor.{overlay_of}
 use Rattle.buffer_table.specs.Kept.{editor_of}

@@ -2,7 +2,7 @@ use Rattle.std.proofs.Common.{ℕ, ap, sym, ◌∙◌, length, arith}
 use Rattle.std.specs.Prelude.{option_map}
 use Rattle.editor_model.specs.Editor.{buffer_at}
 use Rattle.ek_types.specs.Property.{number_of}
-use Rattle.prop_intervals.specs.Sets.{changes_of, sets_in}
+use Rattle.prop_intervals.specs.Sets.{sets_in}
 use Rattle.text_model.specs.PropertyQuestions.{next_change}
 use Rattle.buffer_table.specs.Kept.{editor_of}
 use Rattle.editor_prims.specs.PropertyArguments.{found_before, changes_in}

@@ -1,8 +1,8 @@
-use Rattle.std.proofs.Common.{ℕ, ap, sym, ◌∙◌, length, arith}
+use Rattle.std.proofs.Common.{ℕ, ap, sym, ◌∙◌}
 use Rattle.std.specs.Prelude.{option_map}
 use Rattle.editor_model.specs.Editor.{buffer_at}
 use Rattle.ek_types.specs.Property.{number_of}
-use Rattle.prop_intervals.specs.Sets.{changes_of, sets_in}
+use Rattle.prop_intervals.specs.Sets.{sets_in}
 use Rattle.text_model.specs.PropertyQuestions.{previous_change}
 use Rattle.buffer_table.specs.Kept.{editor_of}
 use Rattle.editor_prims.specs.PropertyArguments.{found_behind, changes_in}

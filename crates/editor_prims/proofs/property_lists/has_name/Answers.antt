@@ -1,9 +1,9 @@
-use Rattle.std.proofs.Common.{◌∙◌, ap, sym, take, arith}
+use Rattle.std.proofs.Common.{◌∙◌, ap, sym}
 use Rattle.std.specs.Prelude.{◌==◌, ◌||◌}
 use Rattle.std.specs.List.{list_any}
 use Rattle.ek_types.specs.Listing.{items_of}
 use Rattle.ek_types.specs.Property.{number_of}
-use Rattle.editor_prims.specs.PropertyArguments.{backwards, pair_of}
+use Rattle.editor_prims.specs.PropertyArguments.{pair_of}
 use Rattle.editor_prims.proofs.Pairing.{one_back}
 use Rattle.editor_prims.proofs.property_lists.has_name.Goals as goal
 

@@ -1,5 +1,4 @@
 use Rattle.std.proofs.Common.{◌≡◌, ◌+◌, ◌-◌, ◌++◌, ◌∙◌, ap, sym, map, take, arith}
-use Rattle.std.proofs.lemmas.List.{map-append}
 use Rattle.ek_types.specs.Listing.{items_of}
 use Rattle.ek_types.specs.Property.{number_of}
 use Rattle.editor_model.specs.PropertyCalls.{nil_names}

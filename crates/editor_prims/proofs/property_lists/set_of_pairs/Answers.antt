@@ -1,8 +1,8 @@
-use Rattle.std.proofs.Common.{◌∙◌, ap, sym, arith}
+use Rattle.std.proofs.Common.{◌∙◌, ap, sym}
 use Rattle.text_model.specs.Properties.{put}
 use Rattle.ek_types.specs.Listing.{items_of}
 use Rattle.editor_model.specs.PropertyCalls.{set_of_pairs}
-use Rattle.editor_prims.specs.PropertyArguments.{backwards, pair_of}
+use Rattle.editor_prims.specs.PropertyArguments.{pair_of}
 use Rattle.editor_prims.proofs.Pairing.{one_back}
 use Rattle.editor_prims.proofs.property_lists.set_of_pairs.Goals as goal
 

@@ -4,7 +4,7 @@ use Rattle.ek_types.specs.Listing.{items_of}
 use Rattle.ek_types.specs.Property.{number_of}
 use Rattle.editor_model.specs.Values.{as_prop}
 use Rattle.editor_prims.specs.PropertyArguments.{backwards}
-use Rattle.editor_prims.proofs.Pairing.{pushed_pair, pair_added, pair_twice, no_value}
+use Rattle.editor_prims.proofs.Pairing.{pushed_pair, pair_added}
 use Rattle.editor_prims.proofs.property_lists.with_named.Goals as goal
 
 pub returns : goal.returns

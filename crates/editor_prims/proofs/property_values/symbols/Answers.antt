@@ -1,4 +1,4 @@
-use Rattle.std.proofs.Common.{◌∙◌, ap, sym, map, option_map, arith}
+use Rattle.std.proofs.Common.{◌∙◌, ap, map, option_map, arith}
 use Rattle.std.proofs.lemmas.Option.{slice_get-map}
 use Rattle.std.proofs.lemmas.List.{length-map}
 use Rattle.ek_types.specs.Listing.{items_of}

@@ -1,5 +1,5 @@
 use Rattle.std.proofs.Common.{◌≡◌, map, take}
-use Rattle.editor_model.specs.Editor.{here}
+use Rattle.editor_model.specs.Editor.{buffer_at}
 use Rattle.editor_model.specs.UndoCalls.{record_value}
 use Rattle.ek_types.specs.Listing.{items_of}
 use Rattle.ek_call.specs.Meaning.{view}
@@ -7,4 +7,4 @@ use Rattle.buffer_table.specs.Kept.{editor_of}
 use Rattle.editor_prims.proofs.undo_records.record_values.Given as goal
 
 abbrev pub invariant-loop-i : goal.invariant-loop-i
-invariant-loop-i l = map view (items_of l.values) ≡ map (λ e. record_value e.what) (take l.i (here (editor_of l.editor)).undo.entries)
+invariant-loop-i l = map view (items_of l.values) ≡ map (λ e. record_value e.what) (take l.i (buffer_at (editor_of l.editor) l.id).undo.entries)
