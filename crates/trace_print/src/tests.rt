@@ -169,7 +169,7 @@ fn mark(rt: &impl Abort, editor: &mut Editor, id: u32, place: usize, advances: b
 /// A second buffer with a marker, killed.
 fn kill_second(rt: &impl Abort, alloc: Global, editor: &mut Editor) {
     let name = letters(alloc, b"w").expect(rt, "a name");
-    assert!(rt; editor.count() < 9);
+    assert!(rt; editor.count() < 9 && editor.find(&name).is_none());
     let w = editor.make(&name).expect(rt, "a buffer");
     mark(rt, editor, w, 0, true);
     assert!(rt; editor.text(w).is_some() && editor.count() < 9);
