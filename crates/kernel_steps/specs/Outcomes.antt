@@ -1,0 +1,46 @@
+-- What the run of a script comes to: the bytes that it wrote, and the exchanges that it made.
+use Rattle.std.specs.Prelude.{◌≡◌, ℕ, ◌≤◌, true, false, All, List, ◌∷◌, ◌++◌, length, slice_get, Some, Result, Ok, Err}
+use Rattle.editor_model.specs.Values.{Script}
+use Rattle.plain_machine.specs.Exchanges.{Exchange, children_started}
+use Rattle.plain_machine.specs.State.{Program}
+use Rattle.plain_machine.specs.Items.{Said}
+use Rattle.plain_machine.specs.Run.{lines, start}
+use Rattle.plain_machine.specs.WholeRuns.{Ran, BrokenOff}
+use Rattle.machine_laws.specs.Entries.{entered, heard, is_entry, has_entry}
+use Rattle.ek_types.specs.Io.{SinkState}
+use Rattle.kernel_steps.specs.Outside.{deepest, CameTo}
+use Rattle.kernel_steps.specs.Ending.{IsAnsweredKill}
+use Rattle.kernel_steps.specs.declared.stop.Stop.{Stop}
+
+-- The filter of each process was entered with just what was read from its child, decoded. Process p is the one whose child
+-- was started as number p, counted from 0.
+abbrev pub AreHeard : List Exchange → List Said → Type 0
+AreHeard exchanges said = (p child : ℕ) → slice_get (children_started exchanges) p ≡ Some child → entered p said ≡ heard child exchanges
+
+-- each process has at most one sentinel entry, and no filter entry behind it
+abbrev pub SentinelsComeLast : List Said → Type 0
+SentinelsComeLast said =
+    (before after : List Said) (x : Said) (p : ℕ) → said ≡ before ++ x ∷ after → is_entry true p x.event ≡ true → (has_entry true p after ≡ false) × (has_entry false p after ≡ false)
+
+-- A run that came to its end. The sink hasn't failed where it had room for what was written.
+pub record RanScript (program : Program) (script : Script) (exchanges : List Exchange) (written : List ℕ) (before now : SinkState) : Type 0 where
+  pub ran : Ran program deepest script exchanges written
+  pub entries : AreHeard exchanges ran.said
+  pub sentinels : SentinelsComeLast ran.said
+  pub roomy : length written ≤ before.room → now.faults ≡ before.faults
+
+-- A run that was broken off. For want of memory what it wrote is whole lines: with all entries, for it isn't broken off between
+-- a read and the entry that this causes. After a failed write it stopped at that line, and nothing was asked behind it but the
+-- kills. The sink hasn't failed where it had room for all that was said.
+pub record StoppedScript (why : Stop) (program : Program) (script : Script) (exchanges : List Exchange) (written : List ℕ) (before now : SinkState) : Type 0 where
+  pub broken : BrokenOff program deepest script exchanges written
+  pub answered : All IsAnsweredKill broken.kills
+  pub came : CameTo why program (start script) broken.made broken.said broken.last written
+  pub entries : AreHeard broken.made broken.said
+  pub sentinels : SentinelsComeLast broken.said
+  pub roomy : length (lines broken.said) ≤ before.room → now.faults ≡ before.faults
+
+-- how the run of a script ended, by its result
+abbrev pub EndsAs : {T : Type 0} → Result T Stop → Program → Script → List Exchange → (written : List ℕ) → (before now : SinkState) → Type 0
+EndsAs (Ok x) program script exchanges written before now = RanScript program script exchanges written before now
+EndsAs (Err why) program script exchanges written before now = StoppedScript why program script exchanges written before now

@@ -1,0 +1,49 @@
+//! The run of a whole script.
+ghost use Rattle.std.specs.Prelude.{◌≡◌, ◌^◌, ◌≤◌, ℕ, List, length, Err};
+ghost use Rattle.std.specs.Io.KnownBytes.{Appends};
+ghost use Rattle.plain_machine.specs.Exchanges.{Exchange};
+ghost use Rattle.plain_machine.specs.State.{new_state};
+ghost use Rattle.ek_types.specs.Io.{HasCause};
+ghost use Rattle.ek_call.specs.Meaning.{script_of};
+ghost use Rattle.kernel_steps.specs.HostCalls.{CallsSince};
+ghost use Rattle.kernel_steps.specs.Outcomes.{EndsAs};
+
+use crate::ending::finish;
+use crate::forms::run_top;
+use crate::kernel::Kernel;
+use crate::program::Program;
+use crate::stop::Stop;
+use ek_call::Script;
+use ek_types::Sink;
+use host_link::Host;
+
+/// Runs the forms of a script on a kernel that is new, kills the children that still run, and
+/// writes the lines and the dump.
+///
+/// Where it succeeds the lines are those of the plain machine's whole run. A run that was broken
+/// off says how far the machine came; no child lives then. Filters are entered with just what was
+/// read, and sentinels come last. The exchanges are the calls on the host.
+pub fn run_script<M: Kernel, P: Program, H: Host, K: Sink>(
+    kernel: &mut M,
+    program: &P,
+    script: &Script,
+    host: &mut H,
+    sink: &mut K,
+) -> Result<(), Stop>
+    requires new { M.state kernel.old ≡ new_state }
+    requires few { length (H.state host.old).kills ≤ 2 ^ 31 }
+    ensures outcome { (written : List ℕ) × (exchanges : List Exchange) ×
+        Appends (K.state sink.old).held (K.state sink.new).held written
+        × CallsSince H.state H.made host.old host.new exchanges
+        × EndsAs result (P.meant program.now) (script_of script.now) exchanges written
+        (K.state sink.old) (K.state sink.new) }
+    ensures cause { HasCause (K.state sink.old).faults (K.state sink.new).faults (result ≡
+        Err Stop.WriteFault) }
+{
+    machine_laws::kills_are_left();
+    machine_laws::whole_runs_hear_all();
+    machine_laws::broken_runs_hear_all();
+    machine_laws::sentinels_come_last();
+    let ran = run_top(kernel, program, host, sink, &script.forms);
+    finish(ran, kernel, program, host, sink)
+}
