@@ -1,7 +1,7 @@
 //! What is fixed for a run.
 ghost use Rattle.std.specs.Prelude.{◌≡◌, List, Option, map, IfOk, option_map};
 ghost use Rattle.editor_model.specs.Values.{Value as Meant, Reply as Replied, Prim};
-ghost use Rattle.plain_machine.specs.Arguments.{handler_def};
+ghost use Rattle.plain_machine.specs.Arguments.{handler_def, is_handler};
 ghost use Rattle.plain_machine.specs.State.{Program as Plain};
 ghost use Rattle.ek_types.specs.Listing.{items_of};
 ghost use Rattle.ek_types.specs.Property.{number_of};
@@ -28,6 +28,10 @@ pub trait Program {
     /// The parameters of a handler: those of the script's of its name, else none.
     fn params(&self, handler: Option<Sym>) -> &[Sym]
         ensures { map number_of result.now ≡ params_of (meant self.now) (option_map number_of handler) };
+
+    /// Whether a name is that of a handler of the script or of a native.
+    fn is_handler(&self, name: Sym) -> bool
+        ensures { result ≡ is_handler (meant self.now) name.0 };
 
     /// The number of the native of a name.
     fn native(&self, name: Sym) -> u32

@@ -1,5 +1,5 @@
 //! All processes of a run, by number.
-ghost use Rattle.std.specs.Prelude.{◌≡◌, ◌+◌, ◌<◌, ◌≤◌, [], ◌∷◌, ◌++◌, List, length, option_map, slice_get, Some, None, true, false, OnOk, OnErr, IfOk};
+ghost use Rattle.std.specs.Prelude.{◌≡◌, ◌+◌, ◌<◌, ◌≤◌, [], ◌∷◌, ◌++◌, List, length, map, option_map, slice_get, Some, None, true, false, OnOk, OnErr, IfOk};
 ghost use Rattle.text_model.specs.Decoding.{characters, tail, all_characters};
 ghost use Rattle.plain_machine.specs.State.{State, Process as Meant, process, change_process};
 ghost use Rattle.plain_machine.specs.Arguments.{find_process, free_name, process_name};
@@ -16,7 +16,7 @@ use crate::names::{Letters, numbered};
 use crate::place::{Place, moved};
 use crate::process::{Filter, Process, Status};
 use ek_call::{Fault, Value};
-use ek_types::{Chars, Mem, Sym};
+use ek_types::{Chars, Mem, Piece, Sym};
 use std::alloc::Global;
 use std::marker::Model;
 use std::mem;
@@ -135,6 +135,13 @@ impl Processes {
             }
         }
         None
+    }
+
+    /// The number of the listed process whose name has the characters of a string.
+    pub fn named(&self, name: &Piece) -> Option<u32>
+        ensures { result ≡ find_process 0 self.now (map (λ c. c.0) name.now) }
+    {
+        self.find(name)
     }
 
     /// The name itself, or the first with `<1>`, `<2>` and so on behind it that no listed process has.

@@ -1,0 +1,122 @@
+//! Blocks that save and restore (GNU Emacs Lisp Reference Manual, Excursions and Narrowing).
+ghost use Rattle.std.specs.Prelude.{◌≡◌, IfOk, OnOk, OnErr, IfSome};
+ghost use Rattle.text_model.specs.Marks as marks;
+ghost use Rattle.plain_machine.specs.Forms.{current, if_live, kept_of, opened, pop, put_back, restored, with_saved, saved_of, bounds_kept};
+ghost use Rattle.editor_model.specs.Editor.{here};
+ghost use Rattle.buffer_table.specs.Kept.{editor_of};
+ghost use Rattle.buffer_table.specs.Places.{IsKeptIn};
+ghost use Rattle.narrow_region.specs.Kept.{IsOrdered, kept_of as saved_as};
+ghost use Rattle.kernel_steps.specs.Blocks.{block_of, kept_as};
+ghost use Rattle.kernel_run.specs.Meaning.{state_of};
+
+use crate::kernel::Kernel;
+use ek_types::Mem;
+use kernel_steps::{Block, Kept};
+use narrow_region::{Bounds, Saved};
+
+/// The ends of an accessible portion, or none where the whole text is accessible.
+fn ends(bounds: Bounds, size: usize) -> Option<(usize, usize)> {
+    if bounds.start == 0 && bounds.end == size {
+        return None;
+    }
+    Some((bounds.start, bounds.end))
+}
+
+/// Keeps the current buffer and point in it. A refusal leaves all as it was.
+fn keep_excursion(kernel: &mut Kernel) -> Mem<()>
+    ensures ok { OnOk result (state_of kernel.new ≡ opened (block_of Block.Excursion) (state_of kernel.old)) }
+    ensures err { OnErr result (state_of kernel.new ≡ state_of kernel.old) }
+{
+    let buffer = kernel.editor.current();
+    let point = kernel.editor.bounds(buffer).point;
+    kernel.editor.push_saved(Saved::Excursion(buffer, point))
+}
+
+/// Keeps the current buffer and its accessible portion. A refusal leaves all as it was.
+fn keep_restriction(kernel: &mut Kernel) -> Mem<()>
+    ensures ok { OnOk result (state_of kernel.new ≡ opened (block_of Block.Restriction) (state_of kernel.old)) }
+    ensures err { OnErr result (state_of kernel.new ≡ state_of kernel.old) }
+{
+    let buffer = kernel.editor.current();
+    let kept = ends(kernel.editor.bounds(buffer), kernel.editor.size(buffer));
+    kernel.editor.push_saved(Saved::Restriction(buffer, kept))
+}
+
+/// Begins a block, and says what is to be restored behind it. A refusal leaves all as it was.
+pub fn open(kernel: &mut Kernel, block: Block) -> Mem<Kept>
+    ensures kept { IfOk result (λ kept. kept_as kept ≡ kept_of (block_of block) (state_of kernel.old)) }
+    ensures ok { OnOk result (state_of kernel.new ≡ opened (block_of block) (state_of kernel.old)) }
+    ensures err { OnErr result (state_of kernel.new ≡ state_of kernel.old) }
+{
+    match block {
+        Block::Excursion => {
+            keep_excursion(kernel)?;
+            Ok(Kept::Excursion)
+        }
+        Block::Restriction => {
+            keep_restriction(kernel)?;
+            Ok(Kept::Restriction)
+        }
+        Block::CurrentBuffer => Ok(Kept::Buffer(kernel.editor.current())),
+        Block::NoHooks => Ok(Kept::Hooks(kernel.hooks.inhibit(true))),
+    }
+}
+
+/// Makes a buffer current, if it lives.
+pub fn make_current(kernel: &mut Kernel, buffer: u32)
+    ensures { state_of kernel.new ≡ if_live (state_of kernel.old) buffer (current buffer (state_of kernel.old)) }
+{
+    if kernel.editor.is_live(buffer) {
+        kernel.editor.set_current(buffer);
+    }
+}
+
+/// Puts back what was kept, where its buffer lives.
+fn put_back(kernel: &mut Kernel, saved: Saved)
+    requires place { IsKeptIn (editor_of kernel.old.editor) (saved_as saved) }
+    requires ordered { IsOrdered (saved_as saved) }
+    ensures { state_of kernel.new ≡ put_back (saved_as saved) (state_of kernel.old) }
+{
+    let editor = &mut kernel.editor;
+    match saved {
+        Saved::Excursion(buffer, point) => {
+            if editor.is_live(buffer) {
+                editor.set_current(buffer);
+                editor.goto_place(buffer, point);
+            }
+        }
+        Saved::Restriction(buffer, None) => {
+            if editor.is_live(buffer) {
+                editor.widen(buffer);
+            }
+        }
+        Saved::Restriction(buffer, Some((start, end))) => {
+            if editor.is_live(buffer) {
+                editor.narrow(buffer, start, end);
+            }
+        }
+        Saved::Change(_, _, _) => {}
+    }
+}
+
+/// Takes away what was kept last, and puts it back.
+fn pop(kernel: &mut Kernel)
+    ensures { state_of kernel.new ≡ pop (state_of kernel.old) }
+{
+    if let Some(saved) = kernel.editor.pop_saved() {
+        put_back(kernel, saved);
+    }
+}
+
+/// Restores what a block kept.
+pub fn restore(kernel: &mut Kernel, kept: Kept)
+    ensures { state_of kernel.new ≡ restored (kept_as kept) (state_of kernel.old) }
+{
+    match kept {
+        Kept::Excursion | Kept::Restriction => pop(kernel),
+        Kept::Buffer(buffer) => make_current(kernel, buffer),
+        Kept::Hooks(inhibited) => {
+            kernel.hooks.inhibit(inhibited);
+        }
+    }
+}

@@ -1,0 +1,83 @@
+//! Buffers that are killed, with their processes.
+ghost use Rattle.std.specs.Prelude.{◌≡◌, IfOk, OnOk, OnErr};
+ghost use Rattle.plain_machine.specs.Arguments.{running_in};
+ghost use Rattle.plain_machine.specs.Refusals.{must_be_replaceable};
+ghost use Rattle.ek_call.specs.Meaning.{reply_of};
+ghost use Rattle.buffer_table.specs.Kept.{editor_of};
+ghost use Rattle.editor_prims.specs.Meaning.{fault_in};
+ghost use Rattle.kernel_steps.specs.Waits.{killed_by};
+ghost use Rattle.kernel_run.specs.Meaning.{state_of};
+
+use crate::kernel::Kernel;
+use buffer_table::Editor;
+use editor_prims::arguments::{MOST_BUFFERS, must_be_fewer};
+use ek_call::{Fault, Reply, Value};
+use ek_types::Mem;
+use process_table::{Process, Status};
+
+/// Whether a buffer is the only one that lives.
+fn is_last(editor: &Editor, buffer: u32) -> bool {
+    for other in 0..editor.count() {
+        if other != buffer && editor.is_live(other) {
+            return false;
+        }
+    }
+    editor.is_live(buffer)
+}
+
+/// The last live buffer is killed only where one more can be made.
+pub fn must_be_replaceable(editor: &Editor, buffer: u32) -> Result<(), Fault>
+    ensures { fault_in result ≡ must_be_replaceable (editor_of editor.now) buffer }
+{
+    if is_last(editor, buffer) {
+        must_be_fewer(MOST_BUFFERS, editor.count())
+    } else {
+        Ok(())
+    }
+}
+
+/// Whether a process runs and has this buffer.
+fn runs_in(process: &Process, buffer: u32) -> bool {
+    matches!(process.status(), Status::Run) && process.buffer() == Some(buffer)
+}
+
+/// The running processes of a buffer, by rising number.
+pub fn running_in(kernel: &Kernel, buffer: u32) -> Mem<Vec<u32>>
+    ensures { IfOk result (λ ps. ps.items ≡ running_in (state_of kernel.now) buffer) }
+{
+    let mut found = Vec::new(kernel.alloc);
+    for p in 0..kernel.processes.count() {
+        if runs_in(kernel.processes.get(p), buffer) {
+            found.push(p)?;
+        }
+    }
+    Ok(found)
+}
+
+/// Whether a buffer has a running process.
+pub fn has_running(kernel: &Kernel, buffer: u32) -> bool {
+    for p in 0..kernel.processes.count() {
+        if runs_in(kernel.processes.get(p), buffer) {
+            return true;
+        }
+    }
+    false
+}
+
+/// Kills a buffer, if it lives. A refusal leaves all as it was.
+pub fn kill_live(kernel: &mut Kernel, buffer: u32) -> Mem<Reply>
+    ensures reply { IfOk result (λ r. reply_of r ≡ (killed_by (state_of kernel.old).editor buffer).reply) }
+    ensures ok { OnOk result (state_of kernel.new ≡
+        record (state_of kernel.old) { editor = (killed_by (state_of kernel.old).editor buffer).editor }) }
+    ensures err { OnErr result (state_of kernel.new ≡ state_of kernel.old) }
+{
+    if !kernel.editor.is_live(buffer) {
+        return Ok(Reply::Value(Value::Nil));
+    }
+    match must_be_replaceable(&kernel.editor, buffer) {
+        Err(fault) => return Ok(Reply::Fault(fault)),
+        Ok(()) => {}
+    }
+    kernel.editor.kill(buffer)?;
+    Ok(Reply::Value(Value::T))
+}

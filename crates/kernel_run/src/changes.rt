@@ -1,0 +1,94 @@
+//! Changes of texts: their ends are kept while hook functions run, and they are made there.
+ghost use Rattle.std.specs.Prelude.{◌≡◌, map, IfOk, OnOk, OnErr};
+ghost use Rattle.text_model.specs.Properties.{Cell};
+ghost use Rattle.editor_model.specs.Editor.{Editor as Meant};
+ghost use Rattle.editor_model.specs.Commits.{commit};
+ghost use Rattle.plain_machine.specs.Forms.{at_kept, saved_of};
+ghost use Rattle.plain_machine.specs.Handling.{mark_of_process, process_buffer_of};
+ghost use Rattle.ek_types.specs.Listing.{items_of};
+ghost use Rattle.ek_call.specs.Meaning.{view};
+ghost use Rattle.editor_prims.specs.Meaning.{change_of, committed_of, prepared_of};
+ghost use Rattle.kernel_steps.specs.Changes.{begun, behind_commit, done_at, ends_behind, ends_of};
+ghost use Rattle.kernel_run.specs.Meaning.{state_of};
+
+use crate::kernel::Kernel;
+use editor_prims::{Change, Committed, commit_at};
+use ek_call::{Value, Values};
+use ek_types::{ListOf, Mem, NoMemory};
+use narrow_region::Saved;
+use std::alloc::Global;
+
+/// Whether the ends of a change lie in the text of a live buffer, in their order.
+fn fits(kernel: &Kernel, change: &Change) -> bool {
+    kernel.editor.is_live(change.buffer)
+        && change.from <= change.to
+        && change.to <= kernel.editor.size(change.buffer)
+}
+
+/// Keeps the ends of a change, which move with the text. A refusal leaves all as it was; it is answered, too, where the ends
+/// don't lie in the text: no call prepares such a change.
+pub fn keep_ends(kernel: &mut Kernel, change: &Change) -> Mem<()>
+    ensures ok { OnOk result (state_of kernel.new ≡ begun (change_of change.now) (state_of kernel.old)) }
+    ensures err { OnErr result (state_of kernel.new ≡ state_of kernel.old) }
+{
+    if !fits(kernel, change) {
+        return Err(NoMemory);
+    }
+    kernel
+        .editor
+        .push_saved(Saved::Change(change.buffer, change.from, change.to))
+}
+
+/// Makes a change where its ends were kept, and leaves them kept. A refusal leaves all as it was.
+fn commit_there(kernel: &mut Kernel, change: &Change) -> Mem<Committed>
+    ensures ok { IfOk result (λ d. record { editor = (state_of kernel.new).editor; committed = committed_of d } ≡
+        done_at (change_of change.now) (state_of kernel.old)) }
+    ensures rest { IfOk result (λ d. state_of kernel.new ≡
+        record (state_of kernel.old) { editor = (state_of kernel.new).editor }) }
+    ensures err { OnErr result (state_of kernel.new ≡ state_of kernel.old) }
+{
+    let (from, to) = match kernel.editor.last_saved() {
+        Some(Saved::Change(_, from, to)) => (from, to),
+        _ => (change.from, change.to),
+    };
+    commit_at(&mut kernel.editor, change, from, to)
+}
+
+/// Makes a change at its kept ends, which are kept no longer. A refusal leaves all as it was.
+pub fn commit(kernel: &mut Kernel, change: &Change) -> Mem<Committed>
+    ensures done { IfOk result (λ d. committed_of d ≡
+        (done_at (change_of change.now) (state_of kernel.old)).committed) }
+    ensures ok { IfOk result (λ d. state_of kernel.new ≡
+        behind_commit (change_of change.now) (committed_of d) (state_of kernel.old)) }
+    ensures err { OnErr result (state_of kernel.new ≡ state_of kernel.old) }
+{
+    let committed = commit_there(kernel, change)?;
+    let _kept = kernel.editor.pop_saved();
+    Ok(committed)
+}
+
+/// A place as the position that a hook function gets. One that no value can hold counts as want of memory.
+fn position(place: usize) -> Mem<Value> {
+    editor_prims::arguments::at_place(place)
+}
+
+/// The ends of a change, as its hook functions get them.
+pub fn ends(alloc: Global, change: &Change) -> Mem<Values>
+    ensures { IfOk result (λ args. map view (items_of args) ≡ ends_of change.now.from change.now.to) }
+{
+    let mut args = ListOf::new(alloc);
+    args.push(position(change.from)?)?;
+    args.push(position(change.to)?)?;
+    Ok(args)
+}
+
+/// The ends behind a change, and the length before it, as its hook functions get them.
+pub fn ends_behind(alloc: Global, from: usize, to: usize, old: usize) -> Mem<Values>
+    ensures { IfOk result (λ args. map view (items_of args) ≡ ends_behind from to old) }
+{
+    let mut args = ListOf::new(alloc);
+    args.push(position(from)?)?;
+    args.push(position(to)?)?;
+    args.push(editor_prims::arguments::count(old)?)?;
+    Ok(args)
+}

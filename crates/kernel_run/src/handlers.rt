@@ -1,0 +1,198 @@
+//! Handlers: what entering and leaving them does, and what the default ones put in.
+ghost use Rattle.std.specs.Prelude.{◌≡◌, ◌∷◌, ◌+◌, map, IfOk, OnOk, OnErr, IfSome, IfNone, None, Some, option_map};
+ghost use Rattle.text_model.specs.Properties.{Cell};
+ghost use Rattle.plain_machine.specs.State.{Program as Plain};
+ghost use Rattle.plain_machine.specs.Handling.{bound_params, in_scope, left_state, mark_of_process, plain_text, process_buffer_of, second};
+ghost use Rattle.ek_types.specs.Listing.{items_of};
+ghost use Rattle.ek_types.specs.Property.{number_of};
+ghost use Rattle.ek_call.specs.Meaning.{view};
+ghost use Rattle.editor_prims.specs.Meaning.{prepared_of};
+ghost use Rattle.handler_code.specs.Calls.{allowed as may, call_asked};
+ghost use Rattle.kernel_steps.specs.Handlers.{default_prepared, default_state, default_text, ended_state, hook_names, kind_of};
+ghost use Rattle.kernel_run.specs.Meaning.{state_of};
+
+use crate::blocks::make_current;
+use crate::kernel::Kernel;
+use editor_prims::{Prepared, prepare_output};
+use ek_call::{Value, Values, argument};
+use ek_types::{Ch, Chars, ListOf, Mem, NoMemory, Piece, Sym, SymList};
+use handler_code::{Made, NativeCall, allowed};
+use kernel_steps::{Kind, Program};
+use std::alloc::Global;
+
+/// A handler is entered: its parameters are bound. A refusal leaves all as it was.
+pub fn enter(kernel: &mut Kernel, params: &[Sym], args: &Values) -> Mem<()>
+    ensures ok { OnOk result (state_of kernel.new ≡
+        in_scope (bound_params (map number_of params.now) (map view (items_of args.now))) (record
+        (state_of kernel.old) { depth = (state_of kernel.old).depth + 1 })) }
+    ensures err { OnErr result (state_of kernel.new ≡ state_of kernel.old) }
+{
+    let Some(deeper) = kernel.depth.checked_add(1) else {
+        return Err(NoMemory);
+    };
+    kernel.scopes.push(params, args)?;
+    kernel.depth = deeper;
+    Ok(())
+}
+
+/// A handler is left, and the buffer that was current before it is put back, if it lives.
+pub fn leave(kernel: &mut Kernel, current: u32)
+    ensures { state_of kernel.new ≡ left_state (state_of kernel.old) current }
+{
+    kernel.depth = kernel.depth.saturating_sub(1);
+    kernel.scopes.pop();
+    make_current(kernel, current);
+}
+
+/// Empties a list of hook functions, if its buffer lives.
+fn clear_hooks(kernel: &mut Kernel, buffer: u32, before: bool) {
+    if kernel.editor.is_live(buffer) {
+        kernel.hooks.clear(buffer, before);
+    }
+}
+
+/// What the end of a handler does besides: a process leaves the list behind its sentinel, and a hook function that ended by a
+/// fault empties the list that it stands on.
+pub fn end_handler(kernel: &mut Kernel, kind: Kind, faulted: bool)
+    ensures { state_of kernel.new ≡ ended_state (kind_of kind) faulted (state_of kernel.old) }
+{
+    match kind {
+        Kind::Sentinel(p) => {
+            if p < kernel.processes.count() {
+                kernel.processes.unlist(p);
+            }
+        }
+        Kind::Before(buffer) => {
+            if faulted {
+                clear_hooks(kernel, buffer, true);
+            }
+        }
+        Kind::After(buffer) => {
+            if faulted {
+                clear_hooks(kernel, buffer, false);
+            }
+        }
+        Kind::Filter(_) => {}
+    }
+}
+
+/// The hook functions of a kind, in a list of their own.
+pub fn hooks(kernel: &Kernel, kind: Kind) -> Mem<SymList>
+    ensures { IfOk result (λ names. map number_of (items_of names) ≡ hook_names (kind_of kind) (state_of kernel.now)) }
+{
+    match kind {
+        Kind::Before(buffer) => kernel.hooks.names(buffer, true),
+        Kind::After(buffer) => kernel.hooks.names(buffer, false),
+        Kind::Filter(_) | Kind::Sentinel(_) => Ok(ListOf::new(kernel.alloc)),
+    }
+}
+
+/// What was made so far.
+fn made<P: Program>(kernel: &Kernel, program: &P) -> Made {
+    Made {
+        symbols: program.symbols().count(),
+        buffers: kernel.editor.count(),
+        markers: kernel.editor.marker_count(),
+        overlays: kernel.editor.overlay_count(),
+        processes: kernel.processes.count(),
+    }
+}
+
+/// A native's call, if a script might make it, with each empty list as nil.
+pub fn allow<P: Program>(kernel: &Kernel, program: &P, asked: &NativeCall) -> Mem<Option<NativeCall>>
+    ensures { IfOk result (λ call. option_map call_asked call ≡
+        may (P.meant program.now) (state_of kernel.now) (call_asked asked.now)) }
+{
+    allowed(&made(kernel, program), asked)
+}
+
+/// The buffer of a process, where it lives.
+fn live_buffer(kernel: &Kernel, p: u32) -> Option<u32>
+    ensures { result ≡ process_buffer_of (state_of kernel.now) p }
+{
+    if p >= kernel.processes.count() {
+        return None;
+    }
+    let buffer = kernel.processes.get(p).buffer()?;
+    if kernel.editor.is_live(buffer) {
+        Some(buffer)
+    } else {
+        None
+    }
+}
+
+/// Puts characters behind others. A refusal leaves a part of them there.
+fn append(text: &mut Chars, more: &Chars) -> Mem<()> {
+    for i in 0..more.len() {
+        text.push(more.at(i))?;
+    }
+    Ok(())
+}
+
+/// Puts characters of one byte each behind others. A refusal leaves a part of them there.
+fn append_ascii(text: &mut Chars, words: &[u8]) -> Mem<()> {
+    for byte in words {
+        text.push(Ch::Scalar(char::from(*byte)))?;
+    }
+    Ok(())
+}
+
+/// Puts what a handler was told behind other characters: the second of its arguments.
+fn append_told(text: &mut Chars, args: &Values) -> Mem<()> {
+    match argument(args, 1) {
+        Some(Value::Str(told)) => append(text, told.text()),
+        _ => Ok(()),
+    }
+}
+
+/// What the default filter puts in: what it was told.
+fn filter_text(alloc: Global, args: &Values) -> Mem<Piece>
+    ensures { IfOk result (λ text. text ≡ plain_text (second (map view (items_of args.now)))) }
+{
+    let mut text = Chars::new(alloc);
+    append_told(&mut text, args)?;
+    Ok(Piece::plain(alloc, text))
+}
+
+/// What the default sentinel puts in: a line with the name of the process and what it was told.
+fn sentinel_text(kernel: &Kernel, p: u32, args: &Values) -> Mem<Piece> {
+    let mut text = Chars::new(kernel.alloc);
+    append_ascii(&mut text, b"\nProcess ")?;
+    if p < kernel.processes.count() {
+        append(&mut text, kernel.processes.get(p).name())?;
+    }
+    append_ascii(&mut text, b" ")?;
+    append_told(&mut text, args)?;
+    Ok(Piece::plain(kernel.alloc, text))
+}
+
+/// Prepares the insertion of a text at the mark of a process, whose buffer becomes current; nothing without a live buffer.
+fn prepare_text(kernel: &mut Kernel, p: u32, text: Piece) -> Prepared {
+    let Some(buffer) = live_buffer(kernel, p) else {
+        return Prepared::Nothing(Value::Nil);
+    };
+    let mark = kernel.processes.get(p).mark();
+    let prepared = prepare_output(&kernel.editor, buffer, mark, text);
+    kernel.editor.set_current(buffer);
+    prepared
+}
+
+/// Prepares the insertion of a default handler, whose buffer becomes current. A refusal leaves all as it was.
+pub fn prepare_default(kernel: &mut Kernel, kind: Kind, args: &Values) -> Mem<Prepared>
+    ensures prepared { IfOk result (λ p. prepared_of p ≡
+        default_prepared (kind_of kind) (map view (items_of args.now)) (state_of kernel.old)) }
+    ensures ok { OnOk result (state_of kernel.new ≡ default_state (kind_of kind) (state_of kernel.old)) }
+    ensures err { OnErr result (state_of kernel.new ≡ state_of kernel.old) }
+{
+    match kind {
+        Kind::Filter(p) => {
+            let text = filter_text(kernel.alloc, args)?;
+            Ok(prepare_text(kernel, p, text))
+        }
+        Kind::Sentinel(p) => {
+            let text = sentinel_text(kernel, p, args)?;
+            Ok(prepare_text(kernel, p, text))
+        }
+        Kind::Before(_) | Kind::After(_) => Ok(Prepared::Nothing(Value::Nil)),
+    }
+}

@@ -1,0 +1,107 @@
+//! The parameters of the handlers that are running.
+ghost use Rattle.std.specs.Prelude.{◌≡◌, ℕ, [], ◌∷◌, true, map, drop, is_some, option_map, IfOk, OnOk, OnErr};
+ghost use Rattle.editor_model.specs.Values.{Value as Meant};
+ghost use Rattle.editor_model.specs.Editor.{register, with_register};
+ghost use Rattle.plain_machine.specs.Handling.{bound_params};
+ghost use Rattle.ek_types.specs.Listing.{items_of};
+ghost use Rattle.ek_types.specs.Property.{number_of};
+ghost use Rattle.ek_call.specs.Meaning.{view};
+ghost use Rattle.buffer_table.specs.Kept.{registers_of};
+ghost use Rattle.kernel_run.specs.Meaning.{innermost, scopes_of};
+
+use ek_call::{Value, Values, argument};
+use ek_types::{Copied, Mem, Sym};
+use std::alloc::Global;
+use std::mem;
+
+/// The parameters of one handler with their values.
+type Scope = Vec<(Sym, Value)>;
+
+/// The parameters of each handler that is running, the innermost last.
+#[derive(Drop)]
+pub struct Scopes {
+    list: Vec<Scope>,
+}
+
+/// Where a parameter stands in a scope.
+fn place_of(scope: &[(Sym, Value)], name: Sym) -> Option<usize> {
+    for i in 0..scope.len() {
+        if scope[i].0.0 == name.0 {
+            return Some(i);
+        }
+    }
+    None
+}
+
+/// The parameters with their values: a missing argument is nil, and further ones are dropped.
+fn bound(alloc: Global, params: &[Sym], args: &Values) -> Mem<Scope>
+    ensures { IfOk result (λ scope. registers_of scope.items ≡
+        bound_params (map number_of params.now) (map view (items_of args.now))) }
+{
+    let mut scope = Vec::new(alloc);
+    for i in 0..params.len() {
+        let value = match argument(args, i) {
+            Some(value) => value.copy()?,
+            None => Value::Nil,
+        };
+        scope.push((params[i], value))?;
+    }
+    Ok(scope)
+}
+
+impl Scopes {
+    /// No handler is running.
+    pub fn new(alloc: Global) -> Scopes
+        ensures { scopes_of result ≡ [] }
+    {
+        Scopes {
+            list: Vec::new(alloc),
+        }
+    }
+
+    /// The value of a parameter of the innermost handler, if it has one of this name.
+    pub fn value(&self, name: Sym) -> Option<&Value>
+        ensures { option_map (λ v. view v.now) result ≡ register (innermost (scopes_of self.now)) name.0 }
+    {
+        let scope = self.list.last()?;
+        match place_of(scope.as_slice(), name) {
+            Some(i) => Some(&scope[i].1),
+            None => None,
+        }
+    }
+
+    /// Gives a parameter of the innermost handler a value. It has one of this name.
+    pub fn set(&mut self, name: Sym, value: Value)
+        requires { is_some (register (innermost (scopes_of self.old)) name.0) ≡ true }
+        ensures { scopes_of self.new ≡
+            with_register name.0 (view value) (innermost (scopes_of self.old)) ∷ drop 1 (scopes_of self.old) }
+    {
+        match self.list.last_mut() {
+            Some(scope) => match place_of(scope.as_slice(), name) {
+                Some(i) => {
+                    let _before = mem::replace(&mut scope[i], (name, value));
+                }
+                None => unreachable!(),
+            },
+            None => unreachable!(),
+        }
+    }
+
+    /// A handler begins: its parameters get their values. A refusal leaves all as it was.
+    pub fn push(&mut self, params: &[Sym], args: &Values) -> Mem<()>
+        ensures ok { OnOk result (scopes_of self.new ≡
+            bound_params (map number_of params.now) (map view (items_of args.now)) ∷ scopes_of self.old) }
+        ensures err { OnErr result (scopes_of self.new ≡ scopes_of self.old) }
+    {
+        let scope = bound(*self.list.allocator(), params, args)?;
+        self.list.push(scope)?;
+        Ok(())
+    }
+
+    /// The innermost handler ends.
+    pub fn pop(&mut self)
+        ensures { scopes_of self.new ≡ drop 1 (scopes_of self.old) }
+    {
+        let _scope = self.list.pop();
+    }
+}

@@ -1,0 +1,285 @@
+//! Calls on hooks and processes that ask the host nothing and enter nothing.
+ghost use Rattle.std.specs.Prelude.{◌≡◌, ◌∷◌, ◌<◌, ◌==◌, true, false, not, map, filter, length, if◌then◌else◌, IfOk, OnOk, OnErr, option_map, slice_get, Some};
+ghost use Rattle.std.specs.List.{list_any};
+ghost use Rattle.editor_model.specs.Values.{Sym as symbol, AddHook, RemoveHook, SetProcessFilter, SetProcessSentinel, SetProcessBuffer, list};
+ghost use Rattle.editor_model.specs.Arguments.{arg, symbol_of};
+ghost use Rattle.plain_machine.specs.State.{Process as Meant};
+ghost use Rattle.plain_machine.specs.Arguments.{filter_of, sentinel_of};
+ghost use Rattle.plain_machine.specs.Calls.{buffer_value, exit_value, get_process, listed, status_symbol, told_of, told_of_one};
+ghost use Rattle.plain_machine.specs.Arguments.{filter_value, sentinel_value};
+ghost use Rattle.plain_machine.specs.Hooks.{before_change_functions, hook_added, hook_here, hook_removed};
+ghost use Rattle.process_table.specs.Meaning.{filter_of as filter_meant, status_of};
+ghost use Rattle.ek_types.specs.Listing.{items_of};
+ghost use Rattle.ek_types.specs.Property.{number_of};
+ghost use Rattle.ek_call.specs.Meaning.{view};
+ghost use Rattle.ek_call.specs.Primitives.{prim_of};
+ghost use Rattle.kernel_steps.specs.Processes.{IsSilent, set_by, told_by};
+ghost use Rattle.kernel_steps.specs.Waits.{Passes};
+ghost use Rattle.kernel_run.specs.Meaning.{state_of};
+
+use crate::arguments::{arg, nil};
+use crate::kernel::Kernel;
+use crate::questions::{process, process_buffer};
+use crate::refusals::BEFORE_CHANGE_FUNCTIONS;
+use editor_prims::arguments::{list, plain, truth};
+use ek_call::{Primitive, Value, Values};
+use ek_types::{Copied, ListOf, Mem, Sym, SymList};
+use kernel_steps::Program;
+use process_table::{Filter, Process, Status};
+use std::alloc::Global;
+
+// HOOKS
+
+/// The symbol that a value is; the first one where it is none.
+pub fn symbol_of(v: &Value) -> Sym
+    ensures { result.0 ≡ symbol_of (view v.now) }
+{
+    match v {
+        Value::Sym(name) => *name,
+        _ => Sym(0),
+    }
+}
+
+/// Whether a value names the functions before a change.
+pub fn is_before(hook: &Value) -> bool
+    ensures { result ≡ (symbol_of (view hook.now) == before_change_functions) }
+{
+    symbol_of(hook).0 == BEFORE_CHANGE_FUNCTIONS
+}
+
+/// The hook functions of the current buffer with one in front, unless it stands there, as values.
+fn with_hook(names: &SymList, name: Sym) -> Mem<Values> {
+    let mut values = ListOf::new(names.allocator());
+    if !names.as_slice().iter().any(|n| n.0 == name.0) {
+        values.push(Value::Sym(name))?;
+    }
+    for i in 0..names.len() {
+        values.push(Value::Sym(*names.at(i)))?;
+    }
+    Ok(values)
+}
+
+/// The hook functions of the current buffer without one, as values.
+fn without_hook(names: &SymList, name: Sym) -> Mem<Values> {
+    let mut values = ListOf::new(names.allocator());
+    for i in 0..names.len() {
+        let other = *names.at(i);
+        if other.0 != name.0 {
+            values.push(Value::Sym(other))?;
+        }
+    }
+    Ok(values)
+}
+
+/// Puts a function in front of a list of the current buffer. A refusal leaves all as it was.
+fn add_hook(kernel: &mut Kernel, hook: &Value, function: &Value) -> Mem<Value> {
+    let current = kernel.editor.current();
+    let before = is_before(hook);
+    let name = symbol_of(function);
+    let values = with_hook(kernel.hooks.list(current, before), name)?;
+    kernel.hooks.add(current, before, name)?;
+    Ok(list(values))
+}
+
+/// Takes a function out of a list of the current buffer. A refusal leaves all as it was.
+fn remove_hook(kernel: &mut Kernel, hook: &Value, function: &Value) -> Mem<Value> {
+    let current = kernel.editor.current();
+    let before = is_before(hook);
+    let name = symbol_of(function);
+    let values = without_hook(kernel.hooks.list(current, before), name)?;
+    kernel.hooks.remove(current, before, name);
+    Ok(list(values))
+}
+
+// QUESTIONS
+
+/// The listed processes.
+fn process_list(kernel: &Kernel) -> Mem<Value>
+    ensures { IfOk result (λ v. view v ≡ list (listed (state_of kernel.now))) }
+{
+    let mut values = ListOf::new(kernel.alloc);
+    for p in 0..kernel.processes.count() {
+        if kernel.processes.get(p).listed() {
+            values.push(Value::Process(p))?;
+        }
+    }
+    Ok(list(values))
+}
+
+/// The process itself, or the listed one of a name, or nil.
+fn get_process(kernel: &Kernel, v: &Value) -> Mem<Value>
+    ensures { IfOk result (λ w. view w ≡ get_process (state_of kernel.now) (view v.now)) }
+{
+    match v {
+        Value::Str(name) => match kernel.processes.named(name) {
+            Some(p) => Ok(Value::Process(p)),
+            None => Ok(Value::Nil),
+        },
+        _ => v.copy(),
+    }
+}
+
+/// The symbols `run`, `exit`, `signal` and `failed`.
+fn status_value(status: Status) -> Value
+    ensures { view result ≡ symbol (status_symbol (status_of status)) }
+{
+    match status {
+        Status::Run => Value::Sym(Sym(6)),
+        Status::Exit(_) => Value::Sym(Sym(7)),
+        Status::Signal => Value::Sym(Sym(8)),
+        Status::Failed => Value::Sym(Sym(9)),
+    }
+}
+
+/// 0 of a process that runs, the code of one that exited, else nil.
+fn exit_value(status: Status) -> Value
+    ensures { view result ≡ exit_value (status_of status) }
+{
+    match status {
+        Status::Run => Value::Int(0),
+        Status::Exit(code) => Value::Int(i64::from(code)),
+        Status::Signal | Status::Failed => Value::Nil,
+    }
+}
+
+fn filter_value(filter: Filter) -> Value
+    ensures { view result ≡ filter_value (filter_meant filter) }
+{
+    match filter {
+        Filter::Default => Value::Nil,
+        Filter::Off => Value::T,
+        Filter::Named(name) => Value::Sym(name),
+    }
+}
+
+fn sentinel_value(sentinel: Option<Sym>) -> Value
+    ensures { view result ≡ sentinel_value (option_map number_of sentinel) }
+{
+    match sentinel {
+        Some(name) => Value::Sym(name),
+        None => Value::Nil,
+    }
+}
+
+fn buffer_value(buffer: Option<u32>) -> Value
+    ensures { view result ≡ buffer_value buffer }
+{
+    match buffer {
+        Some(id) => Value::Buffer(id),
+        None => Value::Nil,
+    }
+}
+
+/// What a call that asks about a process answers.
+fn told(alloc: Global, prim: Primitive, process: &Process) -> Mem<Value>
+    ensures { IfOk result (λ v. view v ≡ told_of (prim_of prim) process.now) }
+{
+    match prim {
+        Primitive::ProcessName => plain(alloc, process.name()),
+        Primitive::ProcessStatus => Ok(status_value(process.status())),
+        Primitive::ProcessBuffer => Ok(buffer_value(process.buffer())),
+        Primitive::ProcessMark => Ok(Value::Marker(process.mark())),
+        Primitive::ProcessLiveP => Ok(truth(matches!(process.status(), Status::Run))),
+        Primitive::ProcessExitStatus => Ok(exit_value(process.status())),
+        Primitive::ProcessFilter => Ok(filter_value(process.filter())),
+        Primitive::ProcessSentinel => Ok(sentinel_value(process.sentinel())),
+        _ => Ok(Value::Nil),
+    }
+}
+
+/// What a call that asks about one process answers; nil where it wasn't made.
+fn told_of_one(kernel: &Kernel, prim: Primitive, p: u32) -> Mem<Value> {
+    if p >= kernel.processes.count() {
+        return Ok(Value::Nil);
+    }
+    told(kernel.alloc, prim, kernel.processes.get(p))
+}
+
+// SETTING
+
+/// The filter that a value is.
+fn filter_of(v: &Value) -> Filter
+    ensures { filter_meant result ≡ filter_of (view v.now) }
+{
+    match v {
+        Value::Sym(name) => Filter::Named(*name),
+        Value::T => Filter::Off,
+        _ => Filter::Default,
+    }
+}
+
+/// The sentinel that a value is.
+fn sentinel_of(v: &Value) -> Option<Sym>
+    ensures { option_map number_of result ≡ sentinel_of (view v.now) }
+{
+    match v {
+        Value::Sym(name) => Some(*name),
+        _ => None,
+    }
+}
+
+/// Sets the filter of a process that was made. A refusal leaves all as it was.
+fn set_filter(kernel: &mut Kernel, v: &Value, filter: &Value) -> Mem<Value> {
+    let answer = filter.copy()?;
+    let p = process(kernel, v);
+    if p < kernel.processes.count() {
+        kernel.processes.set_filter(p, filter_of(filter));
+    }
+    Ok(answer)
+}
+
+/// Sets the sentinel of a process that was made. A refusal leaves all as it was.
+fn set_sentinel(kernel: &mut Kernel, v: &Value, sentinel: &Value) -> Mem<Value> {
+    let answer = sentinel.copy()?;
+    let p = process(kernel, v);
+    if p < kernel.processes.count() {
+        kernel.processes.set_sentinel(p, sentinel_of(sentinel));
+    }
+    Ok(answer)
+}
+
+/// Sets the buffer of a process that was made. A refusal leaves all as it was.
+fn set_buffer(kernel: &mut Kernel, v: &Value, b: &Value) -> Mem<Value> {
+    let answer = b.copy()?;
+    let p = process(kernel, v);
+    if p < kernel.processes.count() {
+        let buffer = process_buffer(&kernel.editor, b);
+        kernel.processes.set_buffer(p, buffer);
+    }
+    Ok(answer)
+}
+
+/// Makes a call on hooks or processes that asks the host nothing, enters nothing and isn't refused. Want of memory leaves
+/// all as it was.
+pub fn call_silently<P: Program>(
+    kernel: &mut Kernel,
+    program: &P,
+    prim: Primitive,
+    args: &Values,
+) -> Mem<Value>
+    requires silent { IsSilent (prim_of prim) }
+    requires passes { Passes (P.meant program.now) (state_of kernel.old) (prim_of prim)
+        (map view (items_of args.now)) }
+    ensures value { IfOk result (λ v. view v ≡
+        told_by (state_of kernel.old) (prim_of prim) (map view (items_of args.now))) }
+    ensures ok { OnOk result (state_of kernel.new ≡
+        set_by (prim_of prim) (map view (items_of args.now)) (state_of kernel.old)) }
+    ensures err { OnErr result (state_of kernel.new ≡ state_of kernel.old) }
+{
+    let nil = nil();
+    let a = arg(args, 0, &nil);
+    let b = arg(args, 1, &nil);
+    match prim {
+        Primitive::AddHook => add_hook(kernel, a, b),
+        Primitive::RemoveHook => remove_hook(kernel, a, b),
+        Primitive::ProcessList => process_list(kernel),
+        Primitive::GetProcess => get_process(kernel, a),
+        Primitive::SetProcessFilter => set_filter(kernel, a, b),
+        Primitive::SetProcessSentinel => set_sentinel(kernel, a, b),
+        Primitive::SetProcessBuffer => set_buffer(kernel, a, b),
+        _ => {
+            let p = process(kernel, a);
+            told_of_one(kernel, prim, p)
+        }
+    }
+}

@@ -1,0 +1,146 @@
+//! Starting a process: its memory is taken before its child is asked for.
+ghost use Rattle.std.specs.Prelude.{◌≡◌, ◌≤◌, ◌+◌, ◌<◌, true, map, length, IfOk, OnOk};
+ghost use Rattle.editor_model.specs.Arguments.{arg};
+ghost use Rattle.editor_model.specs.Values.{StartProcess};
+ghost use Rattle.plain_machine.specs.Refusals.{may_ask, most_sent};
+ghost use Rattle.plain_machine.specs.State.{change_process};
+ghost use Rattle.plain_machine.specs.Calls.{started, with_input_closed};
+ghost use Rattle.ek_types.specs.Listing.{items_of};
+ghost use Rattle.ek_call.specs.Meaning.{view};
+ghost use Rattle.kernel_steps.specs.Processes.{asked_once, counted};
+ghost use Rattle.kernel_steps.specs.Waits.{Passes};
+ghost use Rattle.kernel_run.specs.Meaning.{state_of};
+ghost use Rattle.kernel_run.specs.Starting.{HasPlace, IsPlaceFor};
+
+use crate::arguments::{arg, name_of, nil};
+use crate::kernel::Kernel;
+use crate::place::StartPlace;
+use crate::questions::process_buffer;
+use crate::refusals::is_new_name;
+use buffer_table::BufferRoom;
+use ek_call::{Value, Values};
+use ek_types::Mem;
+use kernel_steps::Program;
+use std::mem;
+
+/// Counts an exchange.
+pub fn count_asked(kernel: &mut Kernel)
+    requires { may_ask (state_of kernel.old) ≡ true }
+    ensures { state_of kernel.new ≡ asked_once (state_of kernel.old) }
+{
+    kernel.asked += 1;
+}
+
+/// Counts an exchange that sent so many bytes.
+pub fn count_sent(kernel: &mut Kernel, bytes: usize)
+    requires asked { may_ask (state_of kernel.old) ≡ true }
+    requires sent { (state_of kernel.old).sent + bytes ≤ most_sent }
+    ensures { state_of kernel.new ≡ counted bytes (state_of kernel.old) }
+{
+    kernel.asked += 1;
+    kernel.sent += bytes as u32;
+}
+
+/// Counts an exchange, by which the input of a process was closed.
+pub fn note_closed(kernel: &mut Kernel, p: u32)
+    requires asked { may_ask (state_of kernel.old) ≡ true }
+    requires made { p < length (state_of kernel.old).processes }
+    ensures { state_of kernel.new ≡ change_process p with_input_closed (asked_once (state_of kernel.old)) }
+{
+    kernel.asked += 1;
+    kernel.processes.close_input(p);
+}
+
+/// Gives back the room of a start that came to nothing.
+fn drop_place(kernel: &mut Kernel)
+    ensures { state_of kernel.new ≡ state_of kernel.old }
+{
+    if let Some(place) = mem::replace(&mut kernel.place, None) {
+        place.release();
+    }
+}
+
+/// Room for the buffer of a start, where it is to be made.
+fn reserve_buffer(kernel: &Kernel, b: &Value) -> Mem<Option<BufferRoom>> {
+    if !is_new_name(&kernel.editor, b) {
+        return Ok(None);
+    }
+    let name = name_of(kernel.alloc, b)?;
+    Ok(Some(kernel.editor.reserve_buffer(name)?))
+}
+
+/// Room for a start with these arguments.
+fn reserve_place(kernel: &Kernel, args: &Values) -> Mem<StartPlace>
+    ensures { IfOk result (λ place. IsPlaceFor place (state_of kernel.now) (map view (items_of args.now))) }
+{
+    let nil = nil();
+    let name = name_of(kernel.alloc, arg(args, 0, &nil))?;
+    let process = kernel
+        .processes
+        .reserve(&kernel.processes.free_name(&name)?)?;
+    let mark = kernel.editor.reserve_marker()?;
+    Ok(StartPlace {
+        process,
+        mark,
+        buffer: reserve_buffer(kernel, arg(args, 1, &nil))?,
+    })
+}
+
+/// Takes all the memory that a start needs, for its process, its mark and its buffer. The state is as it was.
+pub fn reserve_process<P: Program>(kernel: &mut Kernel, program: &P, args: &Values) -> Mem<()>
+    requires { Passes (P.meant program.now) (state_of kernel.old) StartProcess (map view (items_of args.now)) }
+    ensures place { OnOk result (HasPlace kernel.new (map view (items_of args.now))) }
+    ensures state { state_of kernel.new ≡ state_of kernel.old }
+{
+    drop_place(kernel);
+    kernel.place = Some(reserve_place(kernel, args)?);
+    Ok(())
+}
+
+/// Makes the buffer of a start, where it is new.
+fn make_buffer(kernel: &mut Kernel, room: Option<BufferRoom>) {
+    if let Some(room) = room {
+        kernel.editor.make_reserved(room);
+    }
+}
+
+/// Puts a new mark at the end of the accessible portion of a buffer, or nowhere.
+fn put_mark(kernel: &mut Kernel, mark: u32, buffer: Option<u32>) {
+    if let Some(id) = buffer {
+        let end = kernel.editor.bounds(id).end;
+        kernel.editor.set_marker(mark, Some((id, end)));
+    }
+}
+
+/// Makes the process of a child that was started in the room that was taken.
+fn start_in(kernel: &mut Kernel, place: StartPlace, b: &Value, child: u32) -> u32 {
+    let StartPlace {
+        process,
+        mark,
+        buffer,
+    } = place;
+    make_buffer(kernel, buffer);
+    let id = process_buffer(&kernel.editor, b);
+    let mark = kernel.editor.make_marker_reserved(mark);
+    put_mark(kernel, mark, id);
+    kernel.asked += 1;
+    kernel.processes.add_reserved(process, child, id, mark)
+}
+
+/// Makes the process of a child that was started, and gives its number. It takes no memory.
+pub fn start<P: Program>(kernel: &mut Kernel, program: &P, args: &Values, child: u32) -> u32
+    requires passes { Passes (P.meant program.now) (state_of kernel.old) StartProcess
+        (map view (items_of args.now)) }
+    requires place { HasPlace kernel.old (map view (items_of args.now)) }
+    ensures number { result ≡ length (state_of kernel.old).processes }
+    ensures state { state_of kernel.new ≡
+        started (state_of kernel.old) (arg (map view (items_of args.now)) 0) (arg
+        (map view (items_of args.now)) 1) child }
+{
+    let nil = nil();
+    let b = arg(args, 1, &nil);
+    match mem::replace(&mut kernel.place, None) {
+        Some(place) => start_in(kernel, place, b, child),
+        None => unreachable!(),
+    }
+}
