@@ -1,3 +1,4 @@
 pub mod Kept
 pub mod Places
+pub mod Room
 pub mod Standing

@@ -1,5 +1,5 @@
 //! The editor.
-ghost use Rattle.std.specs.Prelude.{◌≡◌, ◌*◌, true, length, None, option_map, unwrap_or, slice_get};
+ghost use Rattle.std.specs.Prelude.{◌≡◌, ◌*◌, ◌<◌, ◌≤◌, true, length, None, option_map, unwrap_or, slice_get};
 ghost use Rattle.editor_model.specs.Editor.{is_live};
 ghost use Rattle.buffer_table.specs.Kept.{blocks_in, cells_in, editor_of};
 
@@ -50,9 +50,10 @@ impl Model for Editor {
 }
 
 impl Editor {
-    /// How many buffers were made.
+    /// How many buffers were made: at most 256.
     pub fn count(&self) -> u32
-        ensures { result ≡ length self.now.buffers }
+        ensures number { result ≡ length self.now.buffers }
+        ensures few { result ≤ 256 }
     {
         self.buffers.len() as u32
     }
@@ -61,6 +62,8 @@ impl Editor {
     pub fn current(&self) -> u32
         ensures number { result ≡ (editor_of self.now).current }
         ensures live { is_live (editor_of self.now) result ≡ true }
+        ensures made { result < 256 }
+        ensures counted { result < length (editor_of self.now).buffers }
     {
         self.current
     }

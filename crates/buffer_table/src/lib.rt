@@ -9,6 +9,7 @@ mod previews;
 mod properties;
 mod questions;
 mod registers;
+mod room;
 mod table;
 #[cfg(test)]
 mod tests;
@@ -16,3 +17,4 @@ mod whole;
 
 pub use editor::Editor;
 pub use lending::BufferText;
+pub use room::BufferRoom;

@@ -1,18 +1,19 @@
 //! Calls on markers, overlays and kept places.
-ghost use Rattle.std.specs.Prelude.{◌≡◌, ◌↔◌, ℕ, ◌-◌, ◌^◌, ◌<◌, ◌≤◌, true, false, [], ◌∷◌, ◌++◌, length, Some, None, IsNone, IfNone, IfSome, IfOk, OnOk, OnErr, option_map};
+ghost use Rattle.std.specs.Prelude.{◌≡◌, ◌↔◌, ℕ, ◌+◌, ◌-◌, ◌^◌, ◌<◌, ◌≤◌, true, false, [], ◌∷◌, ◌++◌, length, Some, None, IsNone, IfNone, IfSome, IfOk, OnOk, OnErr, option_map};
 ghost use Rattle.text_model.specs.Properties.{put};
 ghost use Rattle.text_model.specs.Marks.{Marker, Overlay};
 ghost use Rattle.editor_model.specs.Editor.{is_live, buffer_at, marker_of, with_marker, set_marker_spot, change_marker, overlay_of, with_overlay, change_overlay};
 ghost use Rattle.ek_types.specs.Property.{prop_of};
 ghost use Rattle.marker_set.specs.Numbered.{nowhere, spot_of};
 ghost use Rattle.overlay_set.specs.Numbered.{span_at, span_of, given_of};
-ghost use Rattle.narrow_region.specs.Kept.{kept_of, buffer_of, last_place};
+ghost use Rattle.narrow_region.specs.Kept.{kept_of, buffer_of, last_place, IsOrdered};
 ghost use Rattle.buffer_table.specs.Kept.{Named, Lives, editor_of};
 ghost use Rattle.buffer_table.specs.Places.{IsPlace, IsKeptPlace, IsKeptIn, with_marks};
 
 use crate::editor::Editor;
 use buffer_core::Marks;
 use ek_types::{Mem, PropVal, Sym};
+use marker_set::Room;
 use narrow_region::Saved;
 
 /// The buffer of a kept place.
@@ -43,6 +44,32 @@ impl Editor {
     {
         let marks = &mut self.marks;
         marks.markers.make()
+    }
+
+    /// Takes all the memory that one marker more needs.
+    pub fn reserve_marker(&self) -> Mem<Room>
+        ensures { IfOk result (λ room. room ≡ length (editor_of self.now).marks.markers + 1) }
+    {
+        self.marks.markers.reserve()
+    }
+
+    /// Makes a marker that points nowhere and doesn't advance, in the room that was reserved for it, and gives its number. It
+    /// takes no memory.
+    pub fn make_marker_reserved(&mut self, room: Room) -> u32
+        requires few { length (editor_of self.old).marks.markers < 2 ^ 32 - 1 }
+        requires fits { length (editor_of self.old).marks.markers < room }
+        ensures number { result ≡ length (editor_of self.old).marks.markers }
+        ensures editor { editor_of self.new ≡ with_marker nowhere (editor_of self.old) }
+    {
+        let marks = &mut self.marks;
+        marks.markers.make_reserved(room)
+    }
+
+    /// How many markers were made.
+    pub fn marker_count(&self) -> u32
+        ensures { result ≡ length (editor_of self.now).marks.markers }
+    {
+        self.marks.markers.count()
     }
 
     /// Where marker `k` points: a live buffer and a place in its text, or nowhere.
@@ -101,6 +128,13 @@ impl Editor {
         marks.overlays.make(id, from, to, front, rear)
     }
 
+    /// How many overlays were made.
+    pub fn overlay_count(&self) -> u32
+        ensures { result ≡ length (editor_of self.now).marks.overlays }
+    {
+        self.marks.overlays.count()
+    }
+
     /// Where overlay `k` stands: a live buffer and two places in its text, or nowhere.
     pub fn span(&self, k: u32) -> Option<(u32, usize, usize)>
         requires { k < length (editor_of self.now).marks.overlays }
@@ -149,7 +183,7 @@ impl Editor {
         marks.overlays.put(k, name, v)
     }
 
-    /// Keeps places. A refusal leaves the editor as it was.
+    /// Keeps places of a live buffer, whose ends stand in order. A refusal leaves the editor as it was.
     pub fn push_saved(&mut self, s: Saved) -> Mem<()>
         requires { IsKeptPlace (editor_of self.old) (kept_of s) }
         ensures ok { OnOk result (editor_of self.new ≡ with_marks (λ m. record m { saved = kept_of s ∷ m.saved }) (editor_of self.old)) }
@@ -160,12 +194,13 @@ impl Editor {
     }
 
     /// Takes away what was kept last, and gives it; `None` where nothing is kept. Its places lie in their text, unless the
-    /// buffer was killed meanwhile.
+    /// buffer was killed meanwhile; its ends stand in order in any case.
     pub fn pop_saved(&mut self) -> Option<Saved>
         ensures none { IsNone result ↔ ((editor_of self.old).marks.saved ≡ []) }
         ensures newest { IfSome result (λ s. editor_of self.old ≡ with_marks (λ m. record m { saved = kept_of s ∷ m.saved }) (editor_of self.new)) }
         ensures unchanged { IfNone result (editor_of self.new ≡ editor_of self.old) }
         ensures place { IfSome result (λ s. IsKeptIn (editor_of self.new) (kept_of s)) }
+        ensures ordered { IfSome result (λ s. IsOrdered (kept_of s)) }
     {
         match self.take_saved() {
             Some(saved) => {
@@ -184,6 +219,7 @@ impl Editor {
         ensures newest { IfSome result (λ s. editor_of self.old ≡ with_marks (λ m. record m { saved = kept_of s ∷ m.saved }) (editor_of self.new)) }
         ensures unchanged { IfNone result (editor_of self.new ≡ editor_of self.old) }
         ensures within { IfSome result (λ s. (n : Named) → Lives self.new.buffers (buffer_of (kept_of s)) n → last_place (kept_of s) ≤ length n.buffer.sets) }
+        ensures ordered { IfSome result (λ s. IsOrdered (kept_of s)) }
     {
         let marks = &mut self.marks;
         marks.saved.pop()

@@ -1,9 +1,10 @@
 //! Buffers that are made, named and found.
-ghost use Rattle.std.specs.Prelude.{◌≡◌, ℕ, ◌<◌, true, length, None, IfOk, OnOk, OnErr, option_map, map, slice_set};
+ghost use Rattle.std.specs.Prelude.{◌≡◌, ℕ, ◌+◌, ◌<◌, true, length, None, IfOk, OnOk, OnErr, option_map, map, slice_set};
 ghost use Rattle.editor_model.specs.Editor.{scratch, live, is_live, find, find_from, with_buffer, renamed};
 ghost use Rattle.buffer_table.specs.Kept.{editor_of, has_name, named_at};
 
 use crate::editor::{Editor, Live};
+use crate::room::{BufferRoom, move_to};
 use buffer_core::{Buffer, same_text};
 use ek_types::{Ch, Chars, Mem};
 use std::alloc::Global;
@@ -63,6 +64,35 @@ impl Editor {
         self.current = id;
     }
 
+    /// Takes all the memory that one buffer more of this name needs.
+    pub fn reserve_buffer(&self, name: Chars) -> Mem<BufferRoom>
+        ensures name { IfOk result (λ room. room.name ≡ name.items) }
+        ensures buffers { IfOk result (λ room. room.buffers ≡ length (editor_of self.now).buffers + 1) }
+    {
+        let buffers = Vec::with_capacity(self.alloc, self.buffers.len() + 1)?;
+        Ok(BufferRoom { name, buffers })
+    }
+
+    /// Makes an empty buffer of a name that no live buffer has, in the room that was reserved for it, and gives its number.
+    /// It takes no memory.
+    pub fn make_reserved(&mut self, room: BufferRoom) -> u32
+        requires few { length (editor_of self.old).buffers < 256 }
+        requires fits { length (editor_of self.old).buffers < room.buffers }
+        requires free { find (editor_of self.old) room.name ≡ None }
+        ensures number { result ≡ length (editor_of self.old).buffers }
+        ensures live { is_live (editor_of self.new) result ≡ true }
+        ensures editor { editor_of self.new ≡ with_buffer room.name (editor_of self.old) }
+        ensures pool { self.new.pool ≡ self.old.pool }
+        ensures others { (id : ℕ) → id < length self.old.buffers → named_at self.new.buffers id ≡ named_at self.old.buffers id }
+    {
+        let BufferRoom { name, buffers } = room;
+        let number = self.buffers.len() as u32;
+        move_to(&mut self.buffers, buffers);
+        let buffer = Buffer::new(self.alloc);
+        self.buffers.push_reserved(Some(Live { name, buffer }));
+        number
+    }
+
     /// Makes an empty buffer of a name that no live buffer has, and gives its number. A refusal leaves the editor as it was.
     pub fn make(&mut self, name: &Chars) -> Mem<u32>
         requires room { length (editor_of self.old).buffers < 256 }
@@ -74,12 +104,8 @@ impl Editor {
         ensures pool { self.new.pool ≡ self.old.pool }
         ensures others { (id : ℕ) → id < length self.old.buffers → named_at self.new.buffers id ≡ named_at self.old.buffers id }
     {
-        let name = name.copy()?;
-        self.buffers.reserve(1)?;
-        let number = self.buffers.len() as u32;
-        let buffer = Buffer::new(self.alloc);
-        self.buffers.push_reserved(Some(Live { name, buffer }));
-        Ok(number)
+        let room = self.reserve_buffer(name.copy()?)?;
+        Ok(self.make_reserved(room))
     }
 
     /// Gives a live buffer a name that no other live buffer has. A refusal leaves the editor as it was.

@@ -1,3 +1,4 @@
 pub mod Numbered
 pub mod Rings
+pub mod Room
 pub mod Slots

@@ -2,8 +2,10 @@
 #![tactic(auto)]
 
 mod markers;
+mod room;
 mod slot;
 #[cfg(test)]
 mod tests;
 
 pub use markers::Markers;
+pub use room::Room;

@@ -1,35 +1,24 @@
 //! All markers of a run, by number.
-ghost use Rattle.std.specs.Prelude.{◌≡◌, ℕ, ◌-◌, ◌%◌, ◌^◌, ◌<◌, ◌≤◌, [], ◌∷◌, ◌++◌, length, map, false, slice_set, All, OnOk, OnErr, IfOk};
+ghost use Rattle.std.specs.Prelude.{◌≡◌, ℕ, ◌+◌, ◌-◌, ◌%◌, ◌^◌, ◌<◌, ◌≤◌, [], ◌∷◌, ◌++◌, length, map, false, slice_set, All, OnOk, OnErr, IfOk};
 ghost use Rattle.text_model.specs.Marks.{move_marker, marker_left, insertion, deletion};
 ghost use Rattle.marker_set.specs.Numbered.{nowhere, marker_at, spot_of, HasRoomFor};
 ghost use Rattle.marker_set.specs.Rings.{number_at};
 ghost use Rattle.marker_set.specs.Slots.{moved_by, CanMoveIn};
 
+use crate::room::{Room, move_to};
 use crate::slot::{Change, Slot};
 use ek_types::Mem;
 use std::alloc::Global;
 use std::marker::Model;
 
 /// How many rings there are. A run makes at most 256 buffers, so that each has a ring of its own there.
-const BUCKETS: usize = 256;
+pub(crate) const BUCKETS: usize = 256;
 
 /// The bucket of a buffer's markers.
 fn bucket_of(buffer: u32) -> usize
     ensures { result ≡ buffer % 256 }
 {
     buffer as usize % BUCKETS
-}
-
-/// The nodes of the buckets, each a ring of its own.
-fn bucket_nodes(alloc: Global) -> Mem<Vec<usize>>
-    ensures length { IfOk result (λ nodes. length nodes.items ≡ 256) }
-    ensures own { IfOk result (λ nodes. (s : ℕ) → s < 256 → number_at nodes.items s ≡ s) }
-{
-    let mut nodes = Vec::new(alloc);
-    for s in 0..BUCKETS {
-        nodes.push(s)?;
-    }
-    Ok(nodes)
 }
 
 /// Markers by number, from 0 in the order in which they were made. Places count from 0.
@@ -93,6 +82,74 @@ impl Markers {
         }
     }
 
+    /// Takes all the memory that one marker more needs.
+    pub fn reserve(&self) -> Mem<Room>
+        ensures { IfOk result (λ room. room ≡ length self.now + 1) }
+    {
+        Room::new(*self.slots.allocator(), self.slots.len() + 1)
+    }
+
+    /// Makes a marker that points nowhere and doesn't advance, in the room that was reserved for it, and gives its number. It
+    /// takes no memory.
+    pub fn make_reserved(&mut self, room: Room) -> u32
+        requires few { length self.old < 2 ^ 32 - 1 }
+        requires fits { length self.old < room }
+        ensures number { result ≡ length self.old }
+        ensures markers { self.new ≡ self.old ++ nowhere ∷ [] }
+    {
+        let number = self.count();
+        if number == 0 {
+            self.make_first_in(room);
+        } else {
+            self.make_next_in(room);
+        }
+        number
+    }
+
+    /// Makes the first marker in room, with the nodes of the buckets that stand there.
+    fn make_first_in(&mut self, room: Room)
+        requires none { self.old ≡ [] }
+        requires fits { 0 < room }
+        ensures { self.new ≡ nowhere ∷ [] }
+    {
+        let Room {
+            mut slots,
+            mut after,
+            mut before,
+            sizes,
+        } = room;
+        slots.push_reserved(Slot::NOWHERE);
+        after.push_reserved(0);
+        before.push_reserved(0);
+        self.slots = slots;
+        self.after = after;
+        self.before = before;
+        self.sizes = sizes;
+    }
+
+    /// Makes one more marker in room, into which all markers are moved.
+    fn make_next_in(&mut self, room: Room)
+        requires some { 0 < length self.old }
+        requires few { length self.old < 2 ^ 32 - 1 }
+        requires fits { length self.old < room }
+        ensures { self.new ≡ self.old ++ nowhere ∷ [] }
+    {
+        let Room {
+            slots,
+            mut after,
+            mut before,
+            sizes: _,
+        } = room;
+        after.clear();
+        before.clear();
+        move_to(&mut self.slots, slots);
+        move_to(&mut self.after, after);
+        move_to(&mut self.before, before);
+        self.slots.push_reserved(Slot::NOWHERE);
+        self.after.push_reserved(0);
+        self.before.push_reserved(0);
+    }
+
     /// Makes the first marker, and the nodes of the buckets with it.
     fn make_first(&mut self) -> Mem<u32>
         requires { self.old ≡ [] }
@@ -100,16 +157,8 @@ impl Markers {
         ensures ok { OnOk result (self.new ≡ nowhere ∷ []) }
         ensures err { OnErr result (self.new ≡ self.old) }
     {
-        let alloc = *self.slots.allocator();
-        let mut after = bucket_nodes(alloc)?;
-        let mut before = bucket_nodes(alloc)?;
-        let sizes = vec![in alloc; 0; BUCKETS]?;
-        after.push(0)?;
-        before.push(0)?;
-        self.slots.push(Slot::NOWHERE)?;
-        self.after = after;
-        self.before = before;
-        self.sizes = sizes;
+        let room = self.reserve()?;
+        self.make_first_in(room);
         Ok(0)
     }
 

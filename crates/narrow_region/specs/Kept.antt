@@ -24,3 +24,10 @@ last_place (marks.Pending buffer from to) = max from to
 -- n characters more keep each place within the range of places
 abbrev pub HasRoomFor : (buffer n : ℕ) → marks.Saved → Type 0
 HasRoomFor buffer n kept = buffer_of kept ≡ buffer → n + last_place kept ≤ 0xffff_ffff_ffff_ffff
+
+-- the ends of a kept portion or of a change stand in order
+abbrev pub IsOrdered : marks.Saved → Type 0
+IsOrdered (marks.Excursion buffer point) = Unit {0}
+IsOrdered (marks.Restriction buffer None) = Unit {0}
+IsOrdered (marks.Restriction buffer (Some ends)) = ends.0 ≤ ends.1
+IsOrdered (marks.Pending buffer from to) = from ≤ to

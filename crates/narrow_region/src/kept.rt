@@ -1,7 +1,7 @@
 //! Kept places: what the blocks of a script and a change under way come back to.
 ghost use Rattle.std.specs.Prelude.{◌≡◌, ◌↔◌, ◌≤◌, List, [], ◌∷◌, map, All, IfOk, OnOk, OnErr, IfSome, IfNone, IsNone};
 ghost use Rattle.text_model.specs.Marks.{move_saved, insertion, deletion};
-ghost use Rattle.narrow_region.specs.Kept.{kept_of, HasRoomFor};
+ghost use Rattle.narrow_region.specs.Kept.{kept_of, HasRoomFor, IsOrdered};
 
 use ek_types::{Mem, place_after_delete, place_after_insert};
 use std::alloc::Global;
@@ -70,21 +70,23 @@ impl Saved {
     }
 }
 
-/// The kept places of a run, seen as a list with the newest first.
+/// The kept places of a run, seen as a list with the newest first. The ends of each stand in order.
 #[derive(Drop)]
 pub struct SavedStack {
     items: Vec<Saved>,
 }
 
 impl Model for SavedStack {
-    ghost use Rattle.std.specs.Prelude.{List, map, reverse};
+    ghost use Rattle.std.specs.Prelude.{List, map, reverse, All};
     ghost use Rattle.text_model.specs.Marks as marks;
 
     ghost Value = { List marks.Saved };
 
-    ghost use Rattle.narrow_region.specs.Kept.{kept_of};
+    ghost use Rattle.narrow_region.specs.Kept.{kept_of, IsOrdered};
 
     ghost view = { λ s. reverse (map kept_of s.items.items) };
+
+    ghost invariant = { λ s. All (λ k. IsOrdered (kept_of k)) s.items.items };
 }
 
 impl SavedStack {
@@ -97,8 +99,9 @@ impl SavedStack {
         }
     }
 
-    /// Keeps `s`. A refusal leaves the stack as it was.
+    /// Keeps `s`, whose ends stand in order. A refusal leaves the stack as it was.
     pub fn push(&mut self, s: Saved) -> Mem<()>
+        requires ordered { IsOrdered (kept_of s) }
         ensures ok { OnOk result (self.new ≡ kept_of s ∷ self.old) }
         ensures err { OnErr result (self.new ≡ self.old) }
     {
@@ -111,6 +114,7 @@ impl SavedStack {
         ensures none { IsNone result ↔ (self.old ≡ []) }
         ensures newest { IfSome result (λ s. self.old ≡ kept_of s ∷ self.new) }
         ensures unchanged { IfNone result (self.new ≡ self.old) }
+        ensures ordered { IfSome result (λ s. IsOrdered (kept_of s)) }
     {
         self.items.pop()
     }

@@ -1,10 +1,12 @@
-use Rattle.std.proofs.Common.{◌≡◌, map, reverse, ap, sym, ◌∙◌, arith}
+use Rattle.std.proofs.Common.{◌≡◌, map, reverse, All, ap, subst, sym, ◌∙◌, arith}
 use Rattle.std.proofs.lemmas.List.{length-map, with_items_is}
 use Rattle.std.specs.Vec.{with_items}
 use Rattle.text_model.specs.Marks.{move_saved, deletion}
 use Rattle.ek_types.proofs.InTurn.{next_moved, moved_at_end, map-reverse}
-use Rattle.narrow_region.specs.Kept.{kept_of}
+use Rattle.narrow_region.specs.Kept.{kept_of, IsOrdered}
+use Rattle.narrow_region.specs.declared.kept.Saved.{Saved}
 use Rattle.narrow_region.specs.declared.kept.Saved.TheVariants.{Excursion}
+use Rattle.narrow_region.proofs.Ordered.{moved_ordered, deletion_ordered}
 use Rattle.narrow_region.proofs.kept.SavedStack.note_delete.Goals as goal
 
 pub loop-item-preserved : goal.loop-item-preserved
@@ -20,3 +22,13 @@ returns c =
     ∙ ap reverse (moved_at_end kept_of move c.loop-item.item-items olds c.loop-item.item-index (omega (arith, length-map c.deref_mut-item-items.result.now kept_of)) c.loop-item.invariant)
     ∙ sym (map-reverse move olds)
     ∙ ap (map move) (ap (λ xs. reverse (map kept_of xs)) c.deref_mut-item-items.ensures.value ∙ c.self.view_is)
+
+pub invariant_of-self : goal.invariant_of-self
+invariant_of-self c =
+    let move = move_saved c.args.buffer (deletion c.args.from c.args.to) in
+    let olds = c.deref_mut-item-items.result.now in
+    let same : (with_items c.self.inside.items c.loop-item.item-items).items ≡ c.loop-item.item-items = with_items_is c.self.inside.items c.loop-item.item-items (omega arith) in
+    let ordered : All (λ (s : Saved). IsOrdered (kept_of s)) olds = subst (All (λ (s : Saved). IsOrdered (kept_of s))) (sym c.deref_mut-item-items.ensures.value) c.self.invariant in
+    moved_ordered move (deletion_ordered c.args.buffer c.args.from c.args.to c.requires) olds (with_items c.self.inside.items c.loop-item.item-items).items
+    (ap (map kept_of) same ∙ moved_at_end kept_of move c.loop-item.item-items (map kept_of olds) c.loop-item.item-index (omega (arith, length-map olds kept_of)) c.loop-item.invariant)
+    ordered

@@ -3,8 +3,10 @@ use Rattle.std.proofs.lemmas.List.{length-map, reverse-reverse, with_items_is}
 use Rattle.std.specs.Vec.{with_items}
 use Rattle.text_model.specs.Marks.{move_saved, insertion}
 use Rattle.ek_types.proofs.InTurn.{next_moved, moved_at_end, next_holds, All-reverse, map-reverse}
-use Rattle.narrow_region.specs.Kept.{kept_of, HasRoomFor}
+use Rattle.narrow_region.specs.Kept.{kept_of, IsOrdered, HasRoomFor}
+use Rattle.narrow_region.specs.declared.kept.Saved.{Saved}
 use Rattle.narrow_region.specs.declared.kept.Saved.TheVariants.{Excursion}
+use Rattle.narrow_region.proofs.Ordered.{moved_ordered, insertion_ordered}
 use Rattle.narrow_region.proofs.kept.SavedStack.note_insert.Goals as goal
 
 pub loop-item-preserved : goal.loop-item-preserved
@@ -28,3 +30,13 @@ after_insert-requires c =
     let all : All P kept = subst (All P) (reverse-reverse kept) (All-reverse P (reverse kept) (subst (All P) (sym c.self.view_is) c.requires)) in
     next_holds P kept_of (move_saved c.args.buffer (insertion c.args.at c.args.n)) c.loop-item.item-items _ c.loop-item.item-index (Excursion 0 0) (omega arith)
     (subst (All P) (ap (λ xs. map kept_of xs) (sym c.deref_mut-item-items.ensures.value)) all) c.loop-item.invariant
+
+pub invariant_of-self : goal.invariant_of-self
+invariant_of-self c =
+    let move = move_saved c.args.buffer (insertion c.args.at c.args.n) in
+    let olds = c.deref_mut-item-items.result.now in
+    let same : (with_items c.self.inside.items c.loop-item.item-items).items ≡ c.loop-item.item-items = with_items_is c.self.inside.items c.loop-item.item-items (omega arith) in
+    let ordered : All (λ (s : Saved). IsOrdered (kept_of s)) olds = subst (All (λ (s : Saved). IsOrdered (kept_of s))) (sym c.deref_mut-item-items.ensures.value) c.self.invariant in
+    moved_ordered move (insertion_ordered c.args.buffer c.args.at c.args.n) olds (with_items c.self.inside.items c.loop-item.item-items).items
+    (ap (map kept_of) same ∙ moved_at_end kept_of move c.loop-item.item-items (map kept_of olds) c.loop-item.item-index (omega (arith, length-map olds kept_of)) c.loop-item.invariant)
+    ordered
