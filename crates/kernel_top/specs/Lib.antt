@@ -1,12 +1,3 @@
-pub mod Answers
-pub mod Calls
-pub mod Ending
-pub mod SoFar
-pub mod Hearing
-pub mod HostCalls
+pub mod Words
+pub mod Reading
 pub mod Outcomes
-pub mod Outside
-pub mod Plain
-pub mod Printed
-pub mod Standing
-pub mod Starting

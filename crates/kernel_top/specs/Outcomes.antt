@@ -1,96 +1,91 @@
 -- What the top call claims, by its status: of the bytes read, of the bytes written, and of the exchanges made.
-use Rattle.std.specs.Prelude.{◌≡◌, ℕ, ◌<◌, ◌≤◌, true, false, not, IsTrue, All, List, [], ◌∷◌, ◌++◌, length, codes, slice_get, ◌⊎◌, Option, Some, None}
-use Rattle.std.specs.Io.KnownBytes.{IsAtEnd}
+use Rattle.std.specs.Prelude.{◌≡◌, ℕ, ◌+◌, ◌<◌, ◌≤◌, ◌⊎◌, List, [], length, Some, Result, Ok, Err}
+use Rattle.std.specs.Io.KnownBytes.{Consumes, Appends}
 use Rattle.editor_model.specs.Values.{Script}
-use Rattle.plain_machine.specs.Exchanges.{Exchange, children_started}
+use Rattle.plain_machine.specs.Exchanges.{Ask, Answer, Exchange}
 use Rattle.plain_machine.specs.State.{Program}
-use Rattle.plain_machine.specs.Items.{Said}
-use Rattle.plain_machine.specs.Symbols.{program_of}
 use Rattle.plain_machine.specs.Grammar.{longest_script, IsScript, IsFaultLine}
-use Rattle.plain_machine.specs.Run.{lines, start}
-use Rattle.plain_machine.specs.WholeRuns.{Ran, BrokenOff}
-use Rattle.machine_laws.specs.Entries.{entered, heard, is_entry, has_entry}
-use Rattle.ek_types.specs.Io.{SinkState}
+use Rattle.ek_types.specs.Io.{SourceState, SinkState, Rose}
 use Rattle.host_link.specs.Hosts.{HostState}
-use Rattle.kernel_top.specs.Outside.{deepest, CameTo}
-use Rattle.kernel_top.specs.Ending.{IsAnsweredKill}
-use Rattle.kernel_top.specs.SoFar.{is_so_far, IsScriptSoFar, IsNoScript}
+use Rattle.kernel_steps.specs.HostCalls.{CallsSince, Tells}
+use Rattle.kernel_steps.specs.Outcomes.{RanScript, StoppedScript}
+use Rattle.kernel_steps.specs.declared.stop.Stop.{Stop}
+use Rattle.kernel_steps.specs.declared.stop.Stop.TheVariants as stop
+use Rattle.kernel_top.specs.Words.{IsRun}
+use Rattle.kernel_top.specs.Reading.{HasEnded}
 use Rattle.kernel_top.specs.declared.status.Status.{Status}
 use Rattle.kernel_top.specs.declared.status.Status.TheVariants as status
-use Rattle.kernel_top.specs.declared.answer.EarlyEnd.{EarlyEnd}
-use Rattle.kernel_top.specs.declared.answer.EarlyEnd.TheVariants as early
 
--- the command line has one word
-abbrev pub IsRun : List (List ℕ) → Type 0
-IsRun words = words ≡ codes "run" ∷ []
+-- the status of a script that was run, by how that ended
+abbrev pub status_of : {T : Type 0} → Result T Stop → Status
+status_of (Ok x) = status.Done
+status_of (Err stop.WriteFault) = status.WriteFault
+status_of (Err stop.NoMemory) = status.NoMemory
 
--- a script's program: so far no natives belong to it
-abbrev pub program_for : Script → Program
-program_for script = program_of script [] (λ native args past. None)
-
--- The filter of each process was entered with just what was read from its child, decoded. Process p is the one whose child
--- was started as number p, counted from 0.
-abbrev pub AreHeard : List Exchange → List Said → Type 0
-AreHeard exchanges said = (p child : ℕ) → slice_get (children_started exchanges) p ≡ Some child → entered p said ≡ heard child exchanges
-
--- each process has at most one sentinel entry, and no filter entry behind it
-abbrev pub SentinelsComeLast : List Said → Type 0
-SentinelsComeLast said =
-    (before after : List Said) (x : Said) (p : ℕ) → said ≡ before ++ x ∷ after → is_entry true p x.event ≡ true → (has_entry true p after ≡ false) × (has_entry false p after ≡ false)
-
--- A run that came to its end. The sink hasn't failed where it had room for what was written.
-pub record RanScript (script : Script) (exchanges : List Exchange) (written : List ℕ) (before now : SinkState) : Type 0 where
-  pub ran : Ran (program_for script) deepest script exchanges written
-  pub entries : AreHeard exchanges ran.said
-  pub sentinels : SentinelsComeLast ran.said
-  pub roomy : length written ≤ before.room → now.faults ≡ before.faults
-
--- A run that was broken off. For want of memory what it wrote is whole lines: with all entries, for it isn't broken off between
--- a read and the entry that this causes. After a failed write it stopped at that line, and nothing was asked behind it but the
--- kills. The sink hasn't failed where it had room for all that was said.
-pub record StoppedScript (early : EarlyEnd) (script : Script) (exchanges : List Exchange) (written : List ℕ) (before now : SinkState) : Type 0 where
-  pub broken : BrokenOff (program_for script) deepest script exchanges written
-  pub answered : All IsAnsweredKill broken.kills
-  pub came : CameTo early (program_for script) (start script) broken.made broken.said broken.last written
-  pub entries : AreHeard broken.made broken.said
-  pub sentinels : SentinelsComeLast broken.said
-  pub roomy : length (lines broken.said) ≤ before.room → now.faults ≡ before.faults
-
--- the bytes are a script, and this is so of it
-abbrev pub OfScript : List ℕ → (Script → Type 0) → Type 0
-OfScript bytes So = (script : Script) × IsScriptSoFar bytes script × So script
-
--- Where the bytes are no script, the line is that of the fault; it is 0 for a script that the kernel can't run so far.
-abbrev pub IsRefusedAt : List ℕ → (line : ℕ) → Type 0
-IsRefusedAt bytes line =
-    (((script : Script) → IsScript bytes script → ⊥) × IsFaultLine bytes line) ⊎
-    ((script : Script) × IsScript bytes script × IsTrue (not (is_so_far script)) × (line ≡ 0))
-
--- what a sink and a host mean
+-- what a source, a sink and a host mean
 pub record Seen : Type 0 where
+  pub source : SourceState
   pub sink : SinkState
   pub host : HostState
 
-abbrev pub seen : SinkState → HostState → Seen
-seen sink host = record { sink = sink; host = host }
+abbrev pub seen : SourceState → SinkState → HostState → Seen
+seen source sink host = record { source = source; sink = sink; host = host }
 
--- `read` are the bytes taken from the source, `ended` that its end was met, and `written` the bytes put in the sink. Where no
--- script was begun, sink and host are now as they were before.
-abbrev pub Outcome : Status → (words : List (List ℕ)) → (read written : List ℕ) → List Exchange → (ended : Type 0) → (before now : Seen) → Type 0
-Outcome status.Done words read written exchanges ended before now =
-    IsRun words × ended × OfScript read (λ script. RanScript script exchanges written before.sink now.sink)
-Outcome status.Usage words read written exchanges ended before now =
+-- nothing was written or asked
+pub record IsQuiet (written : List ℕ) (exchanges : List Exchange) (before now : Seen) : Type 0 where
+  pub nothing : written ≡ []
+  pub alone : exchanges ≡ []
+  pub sink : now.sink ≡ before.sink
+  pub host : now.host ≡ before.host
+
+-- the source has ended, the bytes read are a script, and this is so of it
+abbrev pub OfScript : (read : List ℕ) → (before now : Seen) → (Script → Type 0) → Type 0
+OfScript read before now So = HasEnded before.source.left now.source.left × ((script : Script) × IsScript read script × So script)
+
+-- the bytes read are no script, and this is the line of the fault
+pub record IsNoScript (read : List ℕ) (line : ℕ) : Type 0 where
+  pub none : (script : Script) → IsScript read script → ⊥
+  pub at : IsFaultLine read line
+
+-- `read` are the bytes taken from the source, and `written` those put in the sink. The program is that of a script.
+abbrev pub Outcome : (Script → Program) → Status → (words : List (List ℕ)) → (read written : List ℕ) → List Exchange → (before now : Seen) → Type 0
+Outcome program status.Done words read written exchanges before now =
+    IsRun words × OfScript read before now (λ script. RanScript (program script) script exchanges written before.sink now.sink)
+Outcome program status.Usage words read written exchanges before now =
     (IsRun words → ⊥) × (read ≡ []) × (written ≡ []) × (exchanges ≡ []) × (now ≡ before)
-Outcome (status.Script line) words read written exchanges ended before now =
-    IsRun words × (ended ⊎ (longest_script < length read)) × IsNoScript read × IsRefusedAt read line × (written ≡ []) × (exchanges ≡ []) × (now ≡ before)
-Outcome status.ReadFault words read written exchanges ended before now =
-    IsRun words × (written ≡ []) × (exchanges ≡ []) × (now ≡ before)
-Outcome status.WriteFault words read written exchanges ended before now =
-    IsRun words × ended × OfScript read (λ script. StoppedScript early.WriteFault script exchanges written before.sink now.sink)
-Outcome status.NoMemory words read written exchanges ended before now =
-    IsRun words × (((written ≡ []) × (exchanges ≡ []) × (now ≡ before)) ⊎ (ended × OfScript read (λ script. StoppedScript early.NoMemory script exchanges written before.sink now.sink)))
+Outcome program (status.Script line) words read written exchanges before now =
+    IsRun words × (HasEnded before.source.left now.source.left ⊎ (longest_script < length read)) × IsNoScript read line × IsQuiet written exchanges before now
+Outcome program status.ReadFault words read written exchanges before now =
+    IsRun words × IsQuiet written exchanges before now
+Outcome program status.WriteFault words read written exchanges before now =
+    IsRun words × OfScript read before now (λ script. StoppedScript stop.WriteFault (program script) script exchanges written before.sink now.sink)
+Outcome program status.NoMemory words read written exchanges before now =
+    IsRun words × (IsQuiet written exchanges before now ⊎ OfScript read before now (λ script. StoppedScript stop.NoMemory (program script) script exchanges written before.sink now.sink))
 
--- a source that told what was left has told its end
-abbrev pub HasEnded : (before now : Option (List ℕ)) → Type 0
-HasEnded None now = Unit {0}
-HasEnded (Some left) now = IsAtEnd now
+-- What a call came to. The bytes read and written are those that source and sink tell, where they tell any. The exchanges
+-- are the calls that were made on the host, which tells them where it tells any.
+pub record Came {H : Type 0} (hosted : H → HostState) (made : H → H → Ask → ℕ → Answer → Type 0) (program : Script → Program) (words : List (List ℕ)) (status : Status) (start now : H) (source source' : SourceState) (sink sink' : SinkState) : Type 0 where
+  pub read : List ℕ
+  pub written : List ℕ
+  pub exchanges : List Exchange
+  pub taken : Consumes source.left source'.left read
+  pub few : length read ≤ longest_script + 1
+  pub put : Appends sink.held sink'.held written
+  pub calls : CallsSince hosted made start now exchanges
+  pub told : Tells (hosted start).told (hosted now).told exchanges
+  pub outcome : Outcome program status words read written exchanges (seen source sink (hosted start)) (seen source' sink' (hosted now))
+
+-- What became of bytes that were read, from whatever source that has ended.
+pub record CameOf {H : Type 0} (hosted : H → HostState) (made : H → H → Ask → ℕ → Answer → Type 0) (program : Script → Program) (bytes : List ℕ) (status : Status) (start now : H) (sink sink' : SinkState) : Type 0 where
+  pub written : List ℕ
+  pub exchanges : List Exchange
+  pub put : Appends sink.held sink'.held written
+  pub calls : CallsSince hosted made start now exchanges
+  pub outcome : (words : List (List ℕ)) (source source' : SourceState) → IsRun words → HasEnded source.left source'.left →
+      Outcome program status words bytes written exchanges (seen source sink (hosted start)) (seen source' sink' (hosted now))
+
+-- Where neither source nor sink failed, a script is run to its end, or memory was wanting.
+abbrev pub Completes : Status → (words : List (List ℕ)) → (source source' : SourceState) → (sink sink' : SinkState) → Type 0
+Completes status words source source' sink sink' =
+    (bytes : List ℕ) (script : Script) → IsRun words → source.left ≡ Some bytes → IsScript bytes script →
+    (Rose source.faults source'.faults → ⊥) → (Rose sink.faults sink'.faults → ⊥) → (status ≡ status.Done) ⊎ (status ≡ status.NoMemory)

@@ -1,21 +1,9 @@
-//! The top call: a script is read from a source and run, and its lines are written to a sink.
+//! The top call: from the words of the command line and the bytes of a source to the lines of a run.
 #![tactic(auto)]
 
-mod answer;
-mod apply;
-mod ascii;
-mod core_text;
-mod ending;
-mod forms;
-mod handlers;
-mod hearing;
-mod kernel;
-mod print;
-mod so_far;
-mod starting;
+mod reading;
 mod status;
 mod top;
-mod waiting;
 mod words;
 
 pub use status::Status;
