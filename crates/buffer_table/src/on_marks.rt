@@ -6,7 +6,7 @@ ghost use Rattle.editor_model.specs.Editor.{is_live, buffer_at, marker_of, with_
 ghost use Rattle.ek_types.specs.Property.{prop_of};
 ghost use Rattle.marker_set.specs.Numbered.{nowhere, spot_of};
 ghost use Rattle.overlay_set.specs.Numbered.{span_at, span_of, given_of};
-ghost use Rattle.narrow_region.specs.Kept.{kept_of, buffer_of, last_place, IsOrdered};
+ghost use Rattle.narrow_region.specs.Kept.{head_of, kept_of, buffer_of, last_place, IsOrdered};
 ghost use Rattle.buffer_table.specs.Kept.{Named, Lives, editor_of};
 ghost use Rattle.buffer_table.specs.Places.{IsPlace, IsKeptPlace, IsKeptIn, with_marks};
 
@@ -191,6 +191,13 @@ impl Editor {
     {
         let marks = &mut self.marks;
         marks.saved.push(s)
+    }
+
+    /// What was kept last; `None` where nothing is kept.
+    pub fn last_saved(&self) -> Option<Saved>
+        ensures { option_map kept_of result ≡ head_of (editor_of self.now).marks.saved }
+    {
+        self.marks.saved.last()
     }
 
     /// Takes away what was kept last, and gives it; `None` where nothing is kept. Its places lie in their text, unless the

@@ -42,7 +42,8 @@ impl Editor {
 
     /// Whether a live buffer has the number.
     pub fn is_live(&self, id: u32) -> bool
-        ensures { result ≡ is_live (editor_of self.now) id }
+        ensures live { result ≡ is_live (editor_of self.now) id }
+        ensures made { result ≡ true → id < 256 }
     {
         self.found(id).is_some()
     }

@@ -67,3 +67,8 @@ abbrev pub Commits : Result Committed Failure → (old new : Editor) → answers
 Commits (Ok c) old new call = record { editor = new; committed = committed_of c } ≡ call
 Commits (Err (failure.Refused f)) old new call = record { editor = new; committed = answers.Failed (fault_of f) } ≡ call
 Commits (Err failure.NoMemory) old new call = new ≡ old
+
+-- a commit that was refused
+abbrev pub IsFailed : answers.Committed → Type 0
+IsFailed (answers.Failed f) = Unit {0}
+IsFailed (answers.Done from to old) = ⊥

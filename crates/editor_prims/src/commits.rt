@@ -8,7 +8,7 @@ ghost use Rattle.editor_model.specs.Commits.{commit, changed, mark_to, put_site}
 ghost use Rattle.prop_intervals.specs.Edits.{edit_of};
 ghost use Rattle.buffer_table.specs.Kept.{editor_of};
 ghost use Rattle.buffer_table.specs.Places.{IsPlace};
-ghost use Rattle.editor_prims.specs.Meaning.{Commits, change_of, committed_of};
+ghost use Rattle.editor_prims.specs.Meaning.{Commits, IsFailed, change_of, committed_of};
 
 use crate::change::{Change, Committed, What};
 use crate::failure::Failure;
@@ -244,15 +244,24 @@ fn commit_undo(
     })
 }
 
-/// Makes a change that was prepared, at its ends, and says which these are then. What barred the preparation is tested once
-/// more. A refused change leaves the editor as it was, and so does want of memory; this is answered, too, where the ends
-/// don't lie in the text in their order, where a piece is to stand in the place of a part, or where no group is to be
-/// undone: no call prepares such a change.
+/// Makes a change that was prepared, at its ends, as `commit_at` does.
 pub fn commit(editor: &mut Editor, change: &Change) -> Mem<Committed>
     ensures ok { IfOk result (λ c. record { editor = editor_of editor.new; committed = committed_of c } ≡ commit (editor_of editor.old) (change_of change.now)) }
     ensures err { OnErr result (editor_of editor.new ≡ editor_of editor.old) }
 {
-    let (id, from, to) = (change.buffer, change.from, change.to);
+    commit_at(editor, change, change.from, change.to)
+}
+
+/// Makes a change that was prepared, where its ends are now, and says which these are then. What barred the preparation is
+/// tested once more. A refused change leaves the editor as it was, and so does want of memory; this is answered, too, where
+/// the ends don't lie in the text in their order, where a piece is to stand in the place of a part, or where no group is to
+/// be undone: no call prepares such a change.
+pub fn commit_at(editor: &mut Editor, change: &Change, from: usize, to: usize) -> Mem<Committed>
+    ensures ok { IfOk result (λ c. record { editor = editor_of editor.new; committed = committed_of c } ≡ commit (editor_of editor.old) (record (change_of change.now) { from = from; to = to })) }
+    ensures refused { IfOk result (λ c. IsFailed (committed_of c) → editor_of editor.new ≡ editor_of editor.old) }
+    ensures err { OnErr result (editor_of editor.new ≡ editor_of editor.old) }
+{
+    let id = change.buffer;
     match &change.what {
         What::Put {
             piece,

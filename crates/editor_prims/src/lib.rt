@@ -27,7 +27,7 @@ pub mod undo_records;
 pub mod values;
 
 pub use change::{Change, Committed, Prepared, What};
-pub use commits::commit;
+pub use commits::{commit, commit_at};
 pub use failure::Failure;
-pub use table::{apply, prepare, query};
+pub use table::{apply, arg, nil, prepare, query};
 pub use texts::prepare_output;

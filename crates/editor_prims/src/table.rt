@@ -22,7 +22,7 @@ use ek_call::{Fault, Prim, Reply, Value, Values, argument};
 use ek_types::Mem;
 
 /// An argument by its place, counted from 0; nil where it was left out.
-fn arg<'a>(args: &'a Values, i: usize, nil: &'a Value) -> &'a Value
+pub fn arg<'a>(args: &'a Values, i: usize, nil: &'a Value) -> &'a Value
     requires { view nil.now ≡ Nil }
     ensures { view result.now ≡ arg (map view (items_of args.now)) i }
 {
@@ -33,7 +33,7 @@ fn arg<'a>(args: &'a Values, i: usize, nil: &'a Value) -> &'a Value
 }
 
 /// The value nil.
-fn nil() -> Value
+pub fn nil() -> Value
     ensures { view result ≡ Nil }
 {
     Value::Nil

@@ -10,7 +10,7 @@ ghost use Rattle.kernel_run.specs.Meaning.{state_of};
 
 use crate::kernel::Kernel;
 use buffer_table::Editor;
-use editor_prims::arguments::{MOST_BUFFERS, must_be_fewer};
+use editor_prims::limits::{MOST_BUFFERS, must_be_fewer};
 use ek_call::{Fault, Reply, Value};
 use ek_types::Mem;
 use process_table::{Process, Status};

@@ -12,7 +12,7 @@ ghost use Rattle.kernel_steps.specs.Changes.{begun, behind_commit, done_at, ends
 ghost use Rattle.kernel_run.specs.Meaning.{state_of};
 
 use crate::kernel::Kernel;
-use editor_prims::{Change, Committed, commit_at};
+use editor_prims::{Change, Committed, commit_at, values};
 use ek_call::{Value, Values};
 use ek_types::{ListOf, Mem, NoMemory};
 use narrow_region::Saved;
@@ -69,7 +69,7 @@ pub fn commit(kernel: &mut Kernel, change: &Change) -> Mem<Committed>
 
 /// A place as the position that a hook function gets. One that no value can hold counts as want of memory.
 fn position(place: usize) -> Mem<Value> {
-    editor_prims::arguments::at_place(place)
+    values::at_place(place)
 }
 
 /// The ends of a change, as its hook functions get them.
@@ -89,6 +89,6 @@ pub fn ends_behind(alloc: Global, from: usize, to: usize, old: usize) -> Mem<Val
     let mut args = ListOf::new(alloc);
     args.push(position(from)?)?;
     args.push(position(to)?)?;
-    args.push(editor_prims::arguments::count(old)?)?;
+    args.push(values::count(old)?)?;
     Ok(args)
 }

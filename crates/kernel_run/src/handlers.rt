@@ -99,7 +99,11 @@ fn made<P: Program>(kernel: &Kernel, program: &P) -> Made {
 }
 
 /// A native's call, if a script might make it, with each empty list as nil.
-pub fn allow<P: Program>(kernel: &Kernel, program: &P, asked: &NativeCall) -> Mem<Option<NativeCall>>
+pub fn allow<P: Program>(
+    kernel: &Kernel,
+    program: &P,
+    asked: &NativeCall,
+) -> Mem<Option<NativeCall>>
     ensures { IfOk result (λ call. option_map call_asked call ≡
         may (P.meant program.now) (state_of kernel.now) (call_asked asked.now)) }
 {

@@ -2,7 +2,6 @@
 //! an equation on the machine's state here.
 #![tactic(auto)]
 
-mod arguments;
 mod blocks;
 mod buffers;
 mod changes;

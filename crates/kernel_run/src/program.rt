@@ -17,6 +17,7 @@ use std::alloc::Global;
 const MOST_SYMBOLS: u32 = 1 << 31;
 
 /// The handlers of a script and the natives of a run, with all names.
+#[derive(Drop)]
 pub struct RunProgram<'a, N: Natives> {
     symbols: Symbols,
     handlers: &'a HandlerDefs,

@@ -10,10 +10,11 @@ ghost use Rattle.buffer_table.specs.Kept.{editor_of};
 ghost use Rattle.kernel_steps.specs.Waits.{waiting_of};
 ghost use Rattle.kernel_run.specs.Meaning.{state_of};
 
-use crate::arguments::{arg, nil};
 use crate::kernel::Kernel;
 use buffer_table::Editor;
-use editor_prims::arguments::{find, flag};
+use editor_prims::kinds::flag;
+use editor_prims::objects::find;
+use editor_prims::{arg, nil};
 use ek_call::{Value, Values};
 use ek_types::{Mem, NoMemory};
 use wait_loop::Wait;

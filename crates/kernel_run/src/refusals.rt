@@ -17,7 +17,6 @@ ghost use Rattle.kernel_steps.specs.Outside.{deepest};
 ghost use Rattle.kernel_steps.specs.Waits.{refusal_of};
 ghost use Rattle.kernel_run.specs.Meaning.{state_of};
 
-use crate::arguments::{arg, nil};
 use crate::buffers::{has_running, must_be_replaceable};
 use crate::hearing::is_running;
 use crate::kernel::Kernel;
@@ -25,8 +24,10 @@ use crate::questions::{buffer, process};
 use crate::words::{encoded_length, is_word};
 use buffer_table::Editor;
 use change_hooks::MOST_HOOKS;
-use editor_prims::arguments as tests;
-use editor_prims::arguments::{MOST_BUFFERS, MOST_MARKERS, find, must, must_be_buffer_or_nil, must_be_fewer, must_be_short, name, string, symbol};
+use editor_prims::kinds::{must, must_be_buffer_or_nil, name, string, symbol};
+use editor_prims::limits::{MOST_BUFFERS, MOST_MARKERS, must_be_fewer, must_be_short};
+use editor_prims::objects::{self, find};
+use editor_prims::{arg, nil};
 use ek_call::{Fault, Primitive, Value, Values};
 use kernel_steps::Program;
 
@@ -47,6 +48,7 @@ const NESTING_BOUND: u32 = 16;
 
 /// The symbols of the two lists of hook functions.
 pub const BEFORE_CHANGE_FUNCTIONS: u32 = 4;
+
 pub const AFTER_CHANGE_FUNCTIONS: u32 = 5;
 
 // TESTS
@@ -107,17 +109,14 @@ fn process_there(kernel: &Kernel, v: &Value) -> Result<(), Fault>
     ensures { fault_in result ≡ process_there (state_of kernel.now) (view v.now) }
 {
     match v {
-        Value::Str(name) => must(
-            kernel.processes.named(name).is_some(),
-            Fault::NoSuchProcess,
-        ),
+        Value::Str(name) => must(kernel.processes.named(name).is_some(), Fault::NoSuchProcess),
         _ => Ok(()),
     }
 }
 
 /// A buffer that is given lives.
 fn buffer_there(editor: &Editor, v: &Value) -> Result<(), Fault> {
-    tests::buffer(editor, v)?;
+    objects::buffer(editor, v)?;
     Ok(())
 }
 

@@ -17,11 +17,11 @@ ghost use Rattle.kernel_steps.specs.Processes.{IsSilent, set_by, told_by};
 ghost use Rattle.kernel_steps.specs.Waits.{Passes};
 ghost use Rattle.kernel_run.specs.Meaning.{state_of};
 
-use crate::arguments::{arg, nil};
 use crate::kernel::Kernel;
 use crate::questions::{process, process_buffer};
 use crate::refusals::BEFORE_CHANGE_FUNCTIONS;
-use editor_prims::arguments::{list, plain, truth};
+use editor_prims::values::{list, plain, truth};
+use editor_prims::{arg, nil};
 use ek_call::{Primitive, Value, Values};
 use ek_types::{Copied, ListOf, Mem, Sym, SymList};
 use kernel_steps::Program;

@@ -1,5 +1,5 @@
 //! Starting a process: its memory is taken before its child is asked for.
-ghost use Rattle.std.specs.Prelude.{◌≡◌, ◌≤◌, ◌+◌, ◌<◌, true, map, length, IfOk, OnOk};
+ghost use Rattle.std.specs.Prelude.{◌≡◌, ◌≤◌, ◌+◌, ◌<◌, true, map, length, Some, IfOk, OnOk};
 ghost use Rattle.editor_model.specs.Arguments.{arg};
 ghost use Rattle.editor_model.specs.Values.{StartProcess};
 ghost use Rattle.plain_machine.specs.Refusals.{may_ask, most_sent};
@@ -12,12 +12,13 @@ ghost use Rattle.kernel_steps.specs.Waits.{Passes};
 ghost use Rattle.kernel_run.specs.Meaning.{state_of};
 ghost use Rattle.kernel_run.specs.Starting.{HasPlace, IsPlaceFor};
 
-use crate::arguments::{arg, name_of, nil};
 use crate::kernel::Kernel;
 use crate::place::StartPlace;
 use crate::questions::process_buffer;
 use crate::refusals::is_new_name;
+use crate::words::name_of;
 use buffer_table::BufferRoom;
+use editor_prims::{arg, nil};
 use ek_call::{Value, Values};
 use ek_types::Mem;
 use kernel_steps::Program;
@@ -51,12 +52,13 @@ pub fn note_closed(kernel: &mut Kernel, p: u32)
     kernel.processes.close_input(p);
 }
 
-/// Gives back the room of a start that came to nothing.
-fn drop_place(kernel: &mut Kernel)
-    ensures { state_of kernel.new ≡ state_of kernel.old }
+/// Keeps the room of a start, and gives back that of one that came to nothing.
+fn keep_place(kernel: &mut Kernel, place: StartPlace)
+    ensures place { kernel.new.place ≡ Some place }
+    ensures state { state_of kernel.new ≡ state_of kernel.old }
 {
-    if let Some(place) = mem::replace(&mut kernel.place, None) {
-        place.release();
+    if let Some(before) = mem::replace(&mut kernel.place, Some(place)) {
+        before.release();
     }
 }
 
@@ -92,8 +94,8 @@ pub fn reserve_process<P: Program>(kernel: &mut Kernel, program: &P, args: &Valu
     ensures place { OnOk result (HasPlace kernel.new (map view (items_of args.now))) }
     ensures state { state_of kernel.new ≡ state_of kernel.old }
 {
-    drop_place(kernel);
-    kernel.place = Some(reserve_place(kernel, args)?);
+    let place = reserve_place(kernel, args)?;
+    keep_place(kernel, place);
     Ok(())
 }
 

@@ -1,10 +1,10 @@
 //! The kernel as the steps of a run see it.
 use crate::kernel::Kernel;
 use crate::{
-    blocks, buffers, changes, equal, handlers, hearing, manner, questions, refusals, setting, starting, telling, words,
+    blocks, buffers, changes, equal, handlers, hearing, manner, questions, refusals, setting,
+    starting, telling, words,
 };
-use crate::arguments::{arg, nil};
-use editor_prims::{Change, Committed, Prepared};
+use editor_prims::{Change, Committed, Prepared, arg, nil};
 use ek_call::{Fault, Primitive, Reply, Value, Values};
 use ek_types::{Mem, Sink, SinkFault, Sym, SymList, Symbols};
 use handler_code::NativeCall;

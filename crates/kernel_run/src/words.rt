@@ -1,7 +1,7 @@
 //! Texts as bytes: what is sent to a child, and the words of a command.
 ghost use Rattle.std.specs.Prelude.{◌≡◌, ◌∷◌, [], true, length, map, string_bytes, IfOk};
 ghost use Rattle.std.specs.List.{list_all};
-ghost use Rattle.editor_model.specs.Arguments.{arg};
+ghost use Rattle.editor_model.specs.Arguments.{arg, name_of};
 ghost use Rattle.editor_model.specs.Values.{StartProcess};
 ghost use Rattle.plain_machine.specs.Arguments.{encoded, is_plain, is_word};
 ghost use Rattle.ek_types.specs.Listing.{items_of};
@@ -11,12 +11,22 @@ ghost use Rattle.kernel_steps.specs.Processes.{bytes_of, words_of};
 ghost use Rattle.kernel_steps.specs.Waits.{Passes};
 ghost use Rattle.kernel_run.specs.Meaning.{state_of};
 
-use crate::arguments::{arg, nil};
 use crate::kernel::Kernel;
+use editor_prims::{arg, nil};
 use ek_call::{Value, Values};
-use ek_types::{Ch, Mem, Piece};
+use ek_types::{Ch, Chars, Mem, Piece};
 use kernel_steps::{Command, Program};
 use std::alloc::Global;
+
+/// The characters of a string; none where the value is no string.
+pub fn name_of(alloc: Global, v: &Value) -> Mem<Chars>
+    ensures { IfOk result (λ name. name.items ≡ name_of (view v.now)) }
+{
+    match v {
+        Value::Str(text) => text.text().copy(),
+        _ => Ok(Chars::new(alloc)),
+    }
+}
 
 /// Whether a character can stand in a word of a command: it is neither the character 0 nor a raw byte.
 fn is_plain(c: Ch) -> bool

@@ -1,5 +1,5 @@
 -- The kept places of the program as those of the definitions.
-use Rattle.std.specs.Prelude.{◌≡◌, ℕ, ◌+◌, ◌≤◌, Some, None, max}
+use Rattle.std.specs.Prelude.{◌≡◌, ℕ, ◌+◌, ◌≤◌, Some, None, max, List, [], ◌∷◌, Option}
 use Rattle.text_model.specs.Marks as marks
 use Rattle.narrow_region.specs.declared.kept.Saved.{Saved}
 use Rattle.narrow_region.specs.declared.kept.Saved.TheVariants.{Excursion, Restriction, Change}
@@ -31,3 +31,8 @@ IsOrdered (marks.Excursion buffer point) = Unit {0}
 IsOrdered (marks.Restriction buffer None) = Unit {0}
 IsOrdered (marks.Restriction buffer (Some ends)) = ends.0 ≤ ends.1
 IsOrdered (marks.Pending buffer from to) = from ≤ to
+
+-- what was kept last
+abbrev pub head_of : List marks.Saved → Option marks.Saved
+head_of [] = None
+head_of (kept ∷ rest) = Some kept

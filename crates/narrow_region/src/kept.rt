@@ -1,7 +1,7 @@
 //! Kept places: what the blocks of a script and a change under way come back to.
-ghost use Rattle.std.specs.Prelude.{◌≡◌, ◌↔◌, ◌≤◌, List, [], ◌∷◌, map, All, IfOk, OnOk, OnErr, IfSome, IfNone, IsNone};
+ghost use Rattle.std.specs.Prelude.{◌≡◌, ◌↔◌, ◌≤◌, List, [], ◌∷◌, map, All, IfOk, OnOk, OnErr, IfSome, IfNone, IsNone, option_map};
 ghost use Rattle.text_model.specs.Marks.{move_saved, insertion, deletion};
-ghost use Rattle.narrow_region.specs.Kept.{kept_of, HasRoomFor, IsOrdered};
+ghost use Rattle.narrow_region.specs.Kept.{head_of, kept_of, HasRoomFor, IsOrdered};
 
 use ek_types::{Mem, place_after_delete, place_after_insert};
 use std::alloc::Global;
@@ -107,6 +107,13 @@ impl SavedStack {
     {
         self.items.push(s)?;
         Ok(())
+    }
+
+    /// What was kept last; `None` where nothing is kept.
+    pub fn last(&self) -> Option<Saved>
+        ensures { option_map kept_of result ≡ head_of self.now }
+    {
+        self.items.last().copied()
     }
 
     /// Takes away what was kept last, and gives it; `None` where nothing is kept.
