@@ -3,15 +3,15 @@
 
 mod children;
 mod failure;
+mod natives;
 mod standard;
 
 use children::RealHost;
 use failure::{Failure, result_of};
-use handler_box::{Boxed, DropFilter, Handler, InsertFilter, NoteSentinel};
 use host_link::Recorder;
 use kernel_top::run;
+use natives::shipped;
 use standard::{ReaderSource, WriterSink};
-use std::alloc::{AllocError, Global};
 use std::env;
 use std::io::{self, LineWriter};
 use std::process::ExitCode;
@@ -24,15 +24,6 @@ fn words(rt: &HostRuntime) -> Result<Vec<String>, Failure> {
     args.skip(1)
         .collect(rt.alloc())
         .map_err(|_| Failure::Memory)
-}
-
-/// The handlers that the program brings along.
-fn shipped(alloc: Global) -> Result<Boxed, AllocError> {
-    let mut list: Vec<Box<dyn Handler>> = Vec::with_capacity(alloc, 3)?;
-    list.push(Box::new(alloc, InsertFilter)?)?;
-    list.push(Box::new(alloc, DropFilter)?)?;
-    list.push(Box::new(alloc, NoteSentinel)?)?;
-    Ok(Boxed::new(list))
 }
 
 fn work(rt: &HostRuntime) -> Result<(), Failure> {
