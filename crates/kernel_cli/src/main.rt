@@ -3,14 +3,13 @@
 
 mod children;
 mod failure;
-mod natives;
+mod shipped;
 mod standard;
 
 use children::RealHost;
 use failure::{Failure, result_of};
 use host_link::Recorder;
-use kernel_top::run;
-use natives::shipped;
+use shipped::run_shipped;
 use standard::{ReaderSource, WriterSink};
 use std::env;
 use std::io::{self, LineWriter};
@@ -31,16 +30,15 @@ fn work(rt: &HostRuntime) -> Result<(), Failure> {
     let mut source = ReaderSource::new(rt.reader());
     let lines = LineWriter::new(rt.alloc(), io::writer(rt)).map_err(|_| Failure::Memory)?;
     let mut sink = WriterSink::new(lines);
-    let natives = shipped(rt.alloc()).map_err(|_| Failure::Memory)?;
     let mut host = Recorder::new(rt.alloc(), RealHost::new(rt.alloc(), rt));
-    let status = run(
+    let status = run_shipped(
         rt.alloc(),
         words.as_slice(),
         &mut source,
         &mut sink,
         &mut host,
-        &natives,
-    );
+    )
+    .map_err(|_| Failure::Memory)?;
     drop(host);
     let finished = sink.finish();
     result_of(status)?;

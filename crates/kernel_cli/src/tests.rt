@@ -20,15 +20,7 @@ fn written_over<H: Host>(
     let bytes = script.as_bytes().to_vec(alloc)?;
     let mut source = MemorySource::new(bytes, 1000, Vec::new(alloc));
     let mut sink = MemorySink::new(alloc, 4_000_000, 1000, Vec::new(alloc))?;
-    let natives = shipped(alloc)?;
-    let status = run(
-        alloc,
-        words.as_slice(),
-        &mut source,
-        &mut sink,
-        host,
-        &natives,
-    );
+    let status = run_shipped(alloc, words.as_slice(), &mut source, &mut sink, host)?;
     Ok((status, sink.bytes().to_vec(alloc)?))
 }
 
