@@ -3,15 +3,14 @@
 
 mod children;
 mod failure;
+mod shipped;
 mod standard;
 
 use children::RealHost;
 use failure::{Failure, result_of};
-use handler_box::{Boxed, DropFilter, Handler, InsertFilter, NoteSentinel};
 use host_link::Recorder;
-use kernel_top::run;
+use shipped::run_shipped;
 use standard::{ReaderSource, WriterSink};
-use std::alloc::{AllocError, Global};
 use std::env;
 use std::io::{self, LineWriter};
 use std::process::ExitCode;
@@ -26,30 +25,20 @@ fn words(rt: &HostRuntime) -> Result<Vec<String>, Failure> {
         .map_err(|_| Failure::Memory)
 }
 
-/// The handlers that the program brings along.
-fn shipped(alloc: Global) -> Result<Boxed, AllocError> {
-    let mut list: Vec<Box<dyn Handler>> = Vec::with_capacity(alloc, 3)?;
-    list.push(Box::new(alloc, InsertFilter)?)?;
-    list.push(Box::new(alloc, DropFilter)?)?;
-    list.push(Box::new(alloc, NoteSentinel)?)?;
-    Ok(Boxed::new(list))
-}
-
 fn work(rt: &HostRuntime) -> Result<(), Failure> {
     let words = words(rt)?;
     let mut source = ReaderSource::new(rt.reader());
     let lines = LineWriter::new(rt.alloc(), io::writer(rt)).map_err(|_| Failure::Memory)?;
     let mut sink = WriterSink::new(lines);
-    let natives = shipped(rt.alloc()).map_err(|_| Failure::Memory)?;
     let mut host = Recorder::new(rt.alloc(), RealHost::new(rt.alloc(), rt));
-    let status = run(
+    let status = run_shipped(
         rt.alloc(),
         words.as_slice(),
         &mut source,
         &mut sink,
         &mut host,
-        &natives,
-    );
+    )
+    .map_err(|_| Failure::Memory)?;
     drop(host);
     let finished = sink.finish();
     result_of(status)?;

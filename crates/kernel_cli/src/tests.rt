@@ -1,19 +1,83 @@
+ghost use Rattle.std.specs.Prelude.{◌^◌, ◌≤◌, length};
+
 use super::*;
-use ek_types::{MemorySink, MemorySource};
+use ek_types::{ListOf, MemorySink, MemorySource};
+use host_link::{Answer, Host, MemoryHost, Play};
 use kernel_top::Status;
+use std::alloc::Global;
 use std::test::Fail;
 
-/// What a run with real children writes.
-fn written(rt: &HostRuntime, script: &str) -> Result<(Status, Vec<u8>), Fail> {
-    let alloc = rt.alloc();
+/// What a run with the shipped handlers writes, over a host that has started no child.
+fn written_over<H: Host>(
+    alloc: Global,
+    script: &str,
+    host: &mut H,
+) -> Result<(Status, Vec<u8>), Fail>
+    requires { length (H.state host.old).kills ≤ 2 ^ 31 }
+{
     let mut words = Vec::new(alloc);
     words.push(String::from_str(alloc, "run")?)?;
     let bytes = script.as_bytes().to_vec(alloc)?;
     let mut source = MemorySource::new(bytes, 1000, Vec::new(alloc));
     let mut sink = MemorySink::new(alloc, 4_000_000, 1000, Vec::new(alloc))?;
-    let mut host = RealHost::new(alloc, rt);
-    let status = run(alloc, words.as_slice(), &mut source, &mut sink, &mut host);
+    let status = run_shipped(alloc, words.as_slice(), &mut source, &mut sink, host)?;
     Ok((status, sink.bytes().to_vec(alloc)?))
+}
+
+/// What a run with real children writes.
+fn written(rt: &HostRuntime, script: &str) -> Result<(Status, Vec<u8>), Fail> {
+    let mut host = RealHost::new(rt.alloc(), rt);
+    written_over(rt.alloc(), script, &mut host)
+}
+
+/// One child that gives these bytes, and then none yet.
+fn one_child(alloc: Global, bytes: &[u8]) -> Result<MemoryHost, Fail> {
+    let mut heard = ListOf::new(alloc);
+    for byte in bytes {
+        heard.push(*byte)?;
+    }
+    let mut reads = ListOf::new(alloc);
+    reads.push(Answer::Bytes(heard))?;
+    let ends = ListOf::new(alloc);
+    let mut plays = Vec::new(alloc);
+    plays.push(Play { reads, ends })?;
+    Ok(MemoryHost::new(plays, Vec::new(alloc)))
+}
+
+#[test]
+fn the_shipped_filter_inserts_by_calls(rt: HostRuntime) -> Result<(), Fail> {
+    let script = r#"(setq p (start-process "c" "out" "cat"))
+(set-process-filter p 'insert-filter)(accept-process-output p)"#;
+    let mut host = one_child(rt.alloc(), b"hi")?;
+    let (status, bytes) = written_over(rt.alloc(), script, &mut host)?;
+    assert_eq!(rt; status, Status::Done);
+    assert_eq!(rt;
+        bytes.as_slice(),
+        br#"= #<process c>
+= insert-filter
+> filter insert-filter #<process c> "hi"
+  = #<buffer out>
+  = #<buffer out>
+  = 1
+  = #<marker at 1 in out>
+  = 1
+  = #<marker at 1 in out>
+  = nil
+  = 3
+  = #<marker at 3 in out>
+< insert-filter
+= t
+kill #<process c>
+buffer *scratch* point 1 min 1 max 1 modified nil current
+text ""
+buffer out point 3 min 1 max 3 modified t
+text "hi"
+marker 0 #<marker at 3 in out>
+process 0 #<process c> run 0
+"#
+            .as_slice()
+    );
+    Ok(())
 }
 
 #[test]

@@ -1,0 +1,48 @@
+use Rattle.std.proofs.Common.{refl, ap, sym, ◌∙◌, [], inl, inr, Err}
+use Rattle.std.proofs.KnownBytes.{Appends-nil}
+use Rattle.ek_call.specs.Meaning.{script_of}
+use Rattle.kernel_run.specs.Whole.{program_with}
+use Rattle.kernel_top.specs.Outcomes.{seen}
+use Rattle.kernel_top.proofs.Outcomes.{came, is_write_fault, is_no_read_fault}
+use Rattle.kernel_top.proofs.top.run_bytes.Goals as goal
+
+pub returns-in-Err-Line-clause-outcome : goal.returns-in-Err-Line-clause-outcome
+returns-in-Err-Line-clause-outcome g c =
+    let none = c.in-Err-Line.ensures.none c.in-Err-Line.line (ap Err c.in-Err-Line.field-0-is) in
+    let at = c.in-Err-Line.ensures.line c.in-Err-Line.line (ap Err c.in-Err-Line.field-0-is) in
+    record {
+      written = [];
+      exchanges = [];
+      put = Appends-nil _;
+      calls = refl;
+      outcome = λ words source source' run ended. rw c.in-Err-Line.line-is (run, inl ended, record { none = none; at = at }, record { nothing = refl; alone = refl; sink = refl; host = refl });
+    }
+
+pub returns-in-Err-NoMemory-clause-outcome : goal.returns-in-Err-NoMemory-clause-outcome
+returns-in-Err-NoMemory-clause-outcome g c = record {
+  written = [];
+  exchanges = [];
+  put = Appends-nil _;
+  calls = refl;
+  outcome = λ words source source' run ended. (run, inl (record { nothing = refl; alone = refl; sink = refl; host = refl }));
+}
+
+pub returns-clause-outcome : goal.returns-clause-outcome
+returns-clause-outcome g c =
+    let (written, exchanges, put, calls, so) = c.run_script-ended.ensures.outcome in
+    rw c.status_of.ensures (record {
+      written = written;
+      exchanges = exchanges;
+      put = put;
+      calls = calls;
+      outcome = λ words source source' run ended.
+          came (λ script. program_with g.N.Natives.names g.N.Natives.does script c.args.natives.now) (script_of c.in-Ok.script) c.run_script-ended.result words c.args.bytes.now written exchanges
+              (seen source (g.K.Sink.state c.args.sink.now) (g.H.Host.state c.args.host.now)) (seen source' (g.K.Sink.state c.run_script-ended.new.sink) (g.H.Host.state c.run_script-ended.new.host)) run ended c.in-Ok.ensures.script so;
+    })
+
+pub returns-clause-no_read : goal.returns-clause-no_read
+returns-clause-no_read g c = λ e. is_no_read_fault c.run_script-ended.result (sym c.status_of.ensures ∙ e)
+
+pub returns-clause-write_fault : goal.returns-clause-write_fault
+returns-clause-write_fault g c =
+    record { later = c.run_script-ended.ensures.cause.later; rose = λ e. c.run_script-ended.ensures.cause.rose (is_write_fault c.run_script-ended.result (sym c.status_of.ensures ∙ e)) }

@@ -1,0 +1,210 @@
+//! A run over a source, a sink and a host in memory.
+
+use super::shown::shown;
+use crate::{Status, run};
+use ek_types::{ListOf, MemorySink, MemorySource};
+use handler_code::NoNatives;
+use host_link::{Answer, Answers, Ended, Host, MemoryHost, Play};
+use std::alloc::Global;
+use std::process::Abort;
+use std::test::Fail;
+
+/// The most bytes of a call, and the call that fails.
+#[derive(Clone, Copy)]
+pub struct Calls {
+    pub piece: usize,
+    pub fails: Option<u32>,
+}
+
+/// How source and sink are called, the bytes that the sink holds, and the calls of the host that fail.
+#[derive(Clone, Copy)]
+pub struct Setting {
+    pub from: Calls,
+    pub to: Calls,
+    pub room: usize,
+    pub host_fails: Option<u32>,
+}
+
+const WHOLE: Calls = Calls {
+    piece: 1000,
+    fails: None,
+};
+
+/// None fails.
+pub const PLAIN: Setting = Setting {
+    from: WHOLE,
+    to: WHOLE,
+    room: 100_000,
+    host_fails: None,
+};
+
+/// A child: what its reads give, where no bytes say that there are none yet, and how it has ended, asked again and again.
+/// Past the last answer its output has ended, and so has the child, with code 0.
+#[derive(Clone, Copy)]
+pub struct Child {
+    pub reads: &'static [&'static [u8]],
+    pub ends: &'static [Ended],
+}
+
+/// What a run came to: its status, what was written, and a line for each exchange.
+#[derive(Drop)]
+pub struct Ran {
+    pub status: Status,
+    pub written: Vec<u8>,
+    pub exchanges: Vec<u8>,
+}
+
+/// A run that is done: what it shows, its script, its children, its lines and its exchanges.
+pub struct Row {
+    pub shows: &'static str,
+    pub script: &'static str,
+    pub children: &'static [Child],
+    pub lines: &'static str,
+    pub exchanges: &'static [u8],
+}
+
+fn failing(alloc: Global, call: Option<u32>) -> Result<Vec<u32>, Fail> {
+    let mut fails = Vec::new(alloc);
+    if let Some(call) = call {
+        fails.push(call)?;
+    }
+    Ok(fails)
+}
+
+fn given(alloc: Global, words: &[&str]) -> Result<Vec<String>, Fail> {
+    let mut given = Vec::new(alloc);
+    for word in words {
+        given.push(String::from_str(alloc, word)?)?;
+    }
+    Ok(given)
+}
+
+fn answer(alloc: Global, heard: &[u8]) -> Result<Answer, Fail> {
+    let mut bytes = ListOf::new(alloc);
+    for byte in heard {
+        bytes.push(*byte)?;
+    }
+    Ok(Answer::Bytes(bytes))
+}
+
+fn end_answer(ended: Ended) -> Answer {
+    match ended {
+        Ended::Code(code) => Answer::Code(code),
+        Ended::Signal => Answer::Signal,
+        Ended::Running => Answer::Running,
+        Ended::Failed => Answer::Failed,
+    }
+}
+
+/// The play of a child.
+pub fn play(alloc: Global, reads: &[&[u8]], ends: &[Ended]) -> Result<Play, Fail> {
+    let mut heard: Answers = ListOf::new(alloc);
+    for read in reads {
+        heard.push(answer(alloc, read)?)?;
+    }
+    let mut ended: Answers = ListOf::new(alloc);
+    for end in ends {
+        ended.push(end_answer(*end))?;
+    }
+    Ok(Play {
+        reads: heard,
+        ends: ended,
+    })
+}
+
+/// The plays of some children.
+pub fn plays(alloc: Global, children: &[Child]) -> Result<Vec<Play>, Fail> {
+    let mut plays = Vec::new(alloc);
+    for child in children {
+        plays.push(play(alloc, child.reads, child.ends)?)?;
+    }
+    Ok(plays)
+}
+
+/// The play of one child that gives these bytes.
+pub fn one_child(alloc: Global, reads: &[&[u8]]) -> Result<Vec<Play>, Fail> {
+    let mut plays = Vec::new(alloc);
+    plays.push(play(alloc, reads, &[])?)?;
+    Ok(plays)
+}
+
+/// Runs a script by these words of the command line.
+pub fn run_words(
+    alloc: Global,
+    words: &[&str],
+    script: &str,
+    plays: Vec<Play>,
+    setting: Setting,
+) -> Result<Ran, Fail> {
+    let Setting {
+        from,
+        to,
+        room,
+        host_fails,
+    } = setting;
+    let words = given(alloc, words)?;
+    let bytes = script.as_bytes().to_vec(alloc)?;
+    let mut source = MemorySource::new(bytes, from.piece.max(1), failing(alloc, from.fails)?);
+    let mut sink = MemorySink::new(alloc, room, to.piece.max(1), failing(alloc, to.fails)?)?;
+    let mut host = MemoryHost::new(plays, failing(alloc, host_fails)?);
+    let status = run(
+        alloc,
+        words.as_slice(),
+        &mut source,
+        &mut sink,
+        &mut host,
+        &NoNatives,
+    );
+    let Some(exchanges) = host.told() else {
+        return Err(Fail::from("the host tells nothing"));
+    };
+    Ok(Ran {
+        status,
+        written: sink.bytes().to_vec(alloc)?,
+        exchanges: shown(alloc, exchanges)?,
+    })
+}
+
+/// Runs a script.
+pub fn run_script(
+    alloc: Global,
+    script: &str,
+    plays: Vec<Play>,
+    setting: Setting,
+) -> Result<Ran, Fail> {
+    run_words(alloc, &["run"], script, plays, setting)
+}
+
+/// Compares the run of a script with its lines and its exchanges.
+pub fn check_run(
+    rt: &impl Abort,
+    alloc: Global,
+    shows: &str,
+    script: &str,
+    plays: Vec<Play>,
+    lines: &str,
+    exchanges: &[u8],
+) -> Result<(), Fail> {
+    let ran = run_script(alloc, script, plays, PLAIN)?;
+    assert_eq!(rt; ran.status, Status::Done, "{shows}");
+    let written = String::from_utf8_lossy(alloc, ran.written.as_slice())?;
+    assert_eq!(rt; written.as_str(), lines, "{shows}");
+    assert_eq!(rt; ran.exchanges.as_slice(), exchanges, "{shows}");
+    Ok(())
+}
+
+/// Compares each run with its row.
+pub fn check_rows(rt: &impl Abort, alloc: Global, rows: &[Row]) -> Result<(), Fail> {
+    for row in rows {
+        check_run(
+            rt,
+            alloc,
+            row.shows,
+            row.script,
+            plays(alloc, row.children)?,
+            row.lines,
+            row.exchanges,
+        )?;
+    }
+    Ok(())
+}
