@@ -1,11 +1,11 @@
 //! What is fixed for a run.
-ghost use Rattle.std.specs.Prelude.{◌≡◌, ◌<◌, ◌^◌, ◌||◌, ℕ, List, map, length, is_some, IfOk, IfSome, Option};
+ghost use Rattle.std.specs.Prelude.{◌≡◌, ◌≤◌, map, length, option_map, unwrap_or, IfOk};
+ghost use Rattle.text_model.specs.Names.{number_from};
 ghost use Rattle.plain_machine.specs.Arguments.{handler_def, native_from};
 ghost use Rattle.plain_machine.specs.Symbols.{with_names};
 ghost use Rattle.ek_types.specs.Listing.{items_of};
 ghost use Rattle.ek_types.specs.Property.{number_of};
 ghost use Rattle.ek_call.specs.Meaning.{handler_of, script_of};
-ghost use Rattle.kernel_run.specs.Whole.{meant_of, program_with};
 
 use ek_call::{Forms, HandlerDef, HandlerDefs, Replies, Script, Values};
 use ek_types::{ListOf, Mem, NoMemory, Sym, SymList, Symbols};
@@ -23,7 +23,8 @@ pub struct RunProgram<'a, N: Natives> {
     handlers: &'a HandlerDefs,
     natives: &'a N,
     /// The symbols of the natives, in their order.
-    names: SymList,
+    numbers: SymList,
+    ghost few: { length (items_of numbers) ≤ 65536 },
 }
 
 /// The symbols of a script, and behind them the names of the natives.
@@ -41,32 +42,40 @@ fn symbols_with<N: Natives>(script: &Script, natives: &N) -> Mem<Symbols>
 }
 
 /// The symbols of the natives.
-fn names_in<N: Natives>(alloc: Global, symbols: &Symbols, natives: &N) -> Mem<SymList> {
-    let mut names = ListOf::new(alloc);
+fn numbers_in<N: Natives>(alloc: Global, symbols: &Symbols, natives: &N) -> Mem<SymList>
+    ensures { IfOk result (λ numbers. map number_of (items_of numbers) ≡
+        map (λ name. unwrap_or (number_from 0 symbols.now name) 0) (N.names natives.now)) }
+{
+    let mut numbers = ListOf::new(alloc);
     for i in 0..natives.count() {
-        names.push(symbols.find(natives.name(i)).unwrap_or(Sym(0)))?;
+        numbers.push(symbols.find(natives.name(i)).unwrap_or(Sym(0)))?;
     }
-    Ok(names)
+    Ok(numbers)
 }
 
 impl<'a, N: Natives> RunProgram<'a, N> {
+    ghost use Rattle.kernel_run.specs.Whole.{meant_of, program_with};
+
     /// The program that a script makes with some natives. 2^31 names of a script or more count as want of memory.
     pub fn new(alloc: Global, script: &'a Script, natives: &'a N) -> Mem<RunProgram<'a, N>>
         ensures { IfOk result (λ p. meant_of N.does p ≡
             program_with N.names N.does (script_of script.now) natives.now) }
     {
         let symbols = symbols_with(script, natives)?;
-        let names = names_in(alloc, &symbols, natives)?;
+        let numbers = numbers_in(alloc, &symbols, natives)?;
         Ok(RunProgram {
             symbols,
             handlers: &script.handlers,
             natives,
-            names,
+            numbers,
         })
     }
 
     /// The script's handler of a name.
-    fn handler(&self, name: Sym) -> Option<&HandlerDef> {
+    fn handler(&self, name: Sym) -> Option<&HandlerDef>
+        ensures { option_map (λ d. handler_of d.now) result ≡
+            handler_def (map handler_of (items_of self.now.handlers.now)) name.0 }
+    {
         for i in 0..self.handlers.len() {
             let handler = self.handlers.at(i);
             if handler.name.0 == name.0 {
@@ -77,9 +86,11 @@ impl<'a, N: Natives> RunProgram<'a, N> {
     }
 
     /// The least number of a native of a name.
-    fn native_of(&self, name: Sym) -> Option<u32> {
-        for i in 0..self.names.len() {
-            if self.names.at(i).0 == name.0 {
+    fn native_of(&self, name: Sym) -> Option<u32>
+        ensures { result ≡ native_from 0 (map number_of (items_of self.now.numbers)) name.0 }
+    {
+        for i in 0..self.numbers.len() {
+            if self.numbers.at(i).0 == name.0 {
                 return Some(i as u32);
             }
         }
@@ -88,6 +99,8 @@ impl<'a, N: Natives> RunProgram<'a, N> {
 }
 
 impl<N: Natives> Program for RunProgram<'_, N> {
+    ghost use Rattle.kernel_run.specs.Whole.{meant_of};
+
     ghost meant = { meant_of N.does };
 
     fn symbols(&self) -> &Symbols {

@@ -1,0 +1,4 @@
+pub mod HookCalls
+pub mod ProcessCalls
+pub mod Starts
+pub mod RunNames
