@@ -2,3 +2,5 @@ pub mod HookCalls
 pub mod ProcessCalls
 pub mod Starts
 pub mod RunNames
+pub mod Equality
+pub mod Coding
