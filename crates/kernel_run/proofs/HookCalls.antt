@@ -1,5 +1,5 @@
 -- The calls on hooks, on the hooks of a kernel.
-use Rattle.std.proofs.Common.{◌≡◌, ℕ, ◌<◌, ◌≤◌, Bool, true, false, List, ◌∷◌, length, refl, sym, ap, ◌∙◌}
+use Rattle.std.proofs.Common.{◌≡◌, ℕ, ◌<◌, ◌≤◌, Bool, true, false, List, ◌∷◌, length, map, refl, sym, ap, ◌∙◌}
 use Rattle.std.specs.Prelude.{◌==◌, not, filter, if◌then◌else◌, nat_le}
 use Rattle.std.proofs.lemmas.Bool.{le-leb}
 use Rattle.editor_model.specs.Values.{Value, Sym}
@@ -7,6 +7,10 @@ use Rattle.editor_model.specs.Arguments.{symbol_of}
 use Rattle.plain_machine.specs.State.{State, HookLists, hooks_of, with_hooks}
 use Rattle.plain_machine.specs.Hooks.{before_change_functions, most_hooks, hook_list, with_hook_list, set_hook_list, hook_here, hook_added, hook_removed}
 use Rattle.change_hooks.specs.Hooked.{Hooked, hook, hooks_in, state_with, with_list}
+use Rattle.ek_types.specs.Property.{number_of}
+use Rattle.ek_types.specs.declared.symbol.Sym as symbol
+use Rattle.change_hooks.proofs.Names.{any_mapped}
+use Rattle.std.specs.List.{list_any}
 use Rattle.kernel_run.specs.Setting.{added}
 
 -- any symbol but that of the functions before a change counts as that of those behind it
@@ -54,4 +58,14 @@ pub fits_there : (fits : Bool) (xs ys : List ℕ) → fits ≡ nat_le (length xs
 fits_there fits xs ys e same few = e ∙ ap (λ l. nat_le (length l) most_hooks) same ∙ le-leb (length ys) most_hooks few
 
 pub chosen : (fits : Bool) (x y z : Hooked) → fits ≡ true → x ≡ (if fits then y else z) → x ≡ y
-chosen fits x y z yes is = is ∙ ap (λ (b : Bool). let h : Hooked = if b then y else z in h) yes
+chosen fits x y z so is = is ∙ ap (λ (b : Bool). let h : Hooked = if b then y else z in h) so
+
+-- NAMES
+abbrev choose : (there : Bool) (name : ℕ) (names : List ℕ) → List ℕ
+choose there name names = if there then names else name ∷ names
+
+pub added_there : (there : Bool) (name : ℕ) (syms : List symbol.Sym) → there ≡ list_any (λ n. n.0 == name) syms → there ≡ true → map number_of syms ≡ added name (map number_of syms)
+added_there there name syms is yes = sym (ap (λ b. choose b name (map number_of syms)) (any_mapped number_of (λ n. n == name) syms ∙ sym is ∙ yes))
+
+pub added_new : (there : Bool) (name : ℕ) (syms : List symbol.Sym) → there ≡ list_any (λ n. n.0 == name) syms → there ≡ false → name ∷ map number_of syms ≡ added name (map number_of syms)
+added_new there name syms is no = sym (ap (λ b. choose b name (map number_of syms)) (any_mapped number_of (λ n. n == name) syms ∙ sym is ∙ no))

@@ -4,7 +4,7 @@ use Rattle.std.specs.Prelude.{Option, Some, None, slice_get, slice_set, filter}
 use Rattle.std.specs.List.{enumerate_from}
 use Rattle.std.proofs.lemmas.Option.{slice_get_past}
 use Rattle.text_model.proofs.Lists.{drop_at}
-use Rattle.editor_model.specs.Values.{Value, TheProcess, Prim}
+use Rattle.editor_model.specs.Values.{Value, Nil, TheProcess, Prim}
 use Rattle.plain_machine.specs.State.{State, Process, process, change_process}
 use Rattle.plain_machine.specs.Calls.{told_of, told_of_one}
 use Rattle.process_table.specs.Table.{changed}
@@ -26,7 +26,7 @@ none_changed s p f past = ap (change_in s p f) (sym (slice_get_past s.processes 
 pub told_there : (prim : Prim) (s : State) (p : ℕ) (x : Process) → process s p ≡ Some x → told_of prim x ≡ told_of_one prim (process s p)
 told_there prim s p x there = ap (told_of_one prim) (sym there)
 
-pub told_past : (prim : Prim) (s : State) (p : ℕ) → length s.processes ≤ p → Value.Nil ≡ told_of_one prim (process s p)
+pub told_past : (prim : Prim) (s : State) (p : ℕ) → length s.processes ≤ p → Nil ≡ told_of_one prim (process s p)
 told_past prim s p past = ap (told_of_one prim) (sym (slice_get_past s.processes p past))
 
 -- THE LIST OF PROCESSES, one after the other

@@ -1,6 +1,6 @@
 -- A process that is started.
-use Rattle.std.proofs.Common.{◌≡◌, ℕ, zero, suc, ◌+◌, ◌<◌, ◌≤◌, Bool, true, false, List, [], ◌∷◌, ◌++◌, length, map, drop, refl, sym, ap, subst, ◌∙◌, arith, length-append}
-use Rattle.std.specs.Prelude.{◌==◌, not, nat_lt, Option, Some, None, IfSome, is_some, slice_get, slice_set, unwrap_or}
+use Rattle.std.proofs.Common.{◌≡◌, ℕ, zero, suc, ◌+◌, ◌<◌, ◌≤◌, Bool, true, false, List, [], ◌∷◌, ◌++◌, length, map, drop, refl, sym, ap, subst, ◌∙◌, arith, length-append, zero-add}
+use Rattle.std.specs.Prelude.{◌==◌, not, nat_lt, if◌then◌else◌, Option, Some, None, IfSome, is_some, slice_get, slice_set, unwrap_or}
 use Rattle.std.proofs.lemmas.Bool.{ltb-true}
 use Rattle.text_model.specs.Marks.{Marks, Marker, Spot}
 use Rattle.marker_set.specs.Numbered.{nowhere}
@@ -27,13 +27,13 @@ where_so true t h e = h
 where_so false t h e = cc
 
 module _ (program : Program) (s : State) (args : List Value) (passes : Passes program s StartProcess args) where
-  abbrev new : Bool
-  new = is_new_name s.editor (arg args 1)
+  abbrev is_new : Bool
+  is_new = is_new_name s.editor (arg args 1)
 
   abbrev last_tests : List Test
   last_tests =
-      must_live_or_be_named s.editor (arg args 1) ∷ must_be_short (arg args 0) ∷ only_where new (must_be_short (arg args 1)) ∷
-      must_be_fewer most_processes (length s.processes) ∷ must_be_fewer most_markers (length s.editor.marks.markers) ∷ only_where new (must_be_fewer most_buffers (length s.editor.buffers)) ∷ must_ask s ∷ []
+      must_live_or_be_named s.editor (arg args 1) ∷ must_be_short (arg args 0) ∷ only_where is_new (must_be_short (arg args 1)) ∷
+      must_be_fewer most_processes (length s.processes) ∷ must_be_fewer most_markers (length s.editor.marks.markers) ∷ only_where is_new (must_be_fewer most_buffers (length s.editor.buffers)) ∷ must_ask s ∷ []
 
   typed : (refuse WrongType (is_process_buffer (arg args 1)) ≡ None) × (first_fault (must_be_name (arg args 2) ∷ must_be_word (arg args 2) ∷ map must_be_word (drop 3 args) ++ last_tests) ≡ None)
   typed = no_fault _ _ (no_fault (must_be_name (arg args 0)) _ passes).1
@@ -41,16 +41,16 @@ module _ (program : Program) (s : State) (args : List Value) (passes : Passes pr
   starts_last : first_fault last_tests ≡ None
   starts_last = append_passes (map must_be_word (drop 3 args)) last_tests (no_fault (must_be_word (arg args 2)) _ (no_fault (must_be_name (arg args 2)) _ typed.1).1).1
 
-  behind_live : first_fault (must_be_short (arg args 0) ∷ only_where new (must_be_short (arg args 1)) ∷ must_be_fewer most_processes (length s.processes) ∷ must_be_fewer most_markers (length s.editor.marks.markers) ∷ only_where new (must_be_fewer most_buffers (length s.editor.buffers)) ∷ must_ask s ∷ []) ≡ None
+  behind_live : first_fault (must_be_short (arg args 0) ∷ only_where is_new (must_be_short (arg args 1)) ∷ must_be_fewer most_processes (length s.processes) ∷ must_be_fewer most_markers (length s.editor.marks.markers) ∷ only_where is_new (must_be_fewer most_buffers (length s.editor.buffers)) ∷ must_ask s ∷ []) ≡ None
   behind_live = (no_fault (must_live_or_be_named s.editor (arg args 1)) _ starts_last).1
 
-  places : first_fault (must_be_fewer most_processes (length s.processes) ∷ must_be_fewer most_markers (length s.editor.marks.markers) ∷ only_where new (must_be_fewer most_buffers (length s.editor.buffers)) ∷ must_ask s ∷ []) ≡ None
-  places = (no_fault (only_where new (must_be_short (arg args 1))) _ (no_fault (must_be_short (arg args 0)) _ behind_live).1).1
+  places : first_fault (must_be_fewer most_processes (length s.processes) ∷ must_be_fewer most_markers (length s.editor.marks.markers) ∷ only_where is_new (must_be_fewer most_buffers (length s.editor.buffers)) ∷ must_ask s ∷ []) ≡ None
+  places = (no_fault (only_where is_new (must_be_short (arg args 1))) _ (no_fault (must_be_short (arg args 0)) _ behind_live).1).1
 
-  after_processes : first_fault (must_be_fewer most_markers (length s.editor.marks.markers) ∷ only_where new (must_be_fewer most_buffers (length s.editor.buffers)) ∷ must_ask s ∷ []) ≡ None
+  after_processes : first_fault (must_be_fewer most_markers (length s.editor.marks.markers) ∷ only_where is_new (must_be_fewer most_buffers (length s.editor.buffers)) ∷ must_ask s ∷ []) ≡ None
   after_processes = (no_fault (must_be_fewer most_processes (length s.processes)) _ places).1
 
-  after_markers : first_fault (only_where new (must_be_fewer most_buffers (length s.editor.buffers)) ∷ must_ask s ∷ []) ≡ None
+  after_markers : first_fault (only_where is_new (must_be_fewer most_buffers (length s.editor.buffers)) ∷ must_ask s ∷ []) ≡ None
   after_markers = (no_fault (must_be_fewer most_markers (length s.editor.marks.markers)) _ after_processes).1
 
   few_of : (made most : ℕ) → must_be_fewer most made ≡ None → made < most
@@ -60,9 +60,9 @@ module _ (program : Program) (s : State) (args : List Value) (passes : Passes pr
   may_start = record {
     processes = few_of (length s.processes) most_processes (no_fault (must_be_fewer most_processes (length s.processes)) _ places).0;
     markers = few_of (length s.editor.marks.markers) most_markers (no_fault (must_be_fewer most_markers (length s.editor.marks.markers)) _ after_processes).0;
-    asked = ltb-true s.asked most_exchanges (refuse_ok ExchangesSpent (may_ask s) (no_fault (must_ask s) [] (no_fault (only_where new (must_be_fewer most_buffers (length s.editor.buffers))) _ after_markers).1).0);
+    asked = ltb-true s.asked most_exchanges (refuse_ok ExchangesSpent (may_ask s) (no_fault (must_ask s) [] (no_fault (only_where is_new (must_be_fewer most_buffers (length s.editor.buffers))) _ after_markers).1).0);
     buffer = record {
-      few = λ h. few_of (length s.editor.buffers) most_buffers (where_so new (must_be_fewer most_buffers (length s.editor.buffers)) (no_fault (only_where new (must_be_fewer most_buffers (length s.editor.buffers))) _ after_markers).0 h);
+      few = λ h. few_of (length s.editor.buffers) most_buffers (where_so is_new (must_be_fewer most_buffers (length s.editor.buffers)) (no_fault (only_where is_new (must_be_fewer most_buffers (length s.editor.buffers))) _ after_markers).0 h);
       live = (no_fault (must_live_or_be_named s.editor (arg args 1)) _ starts_last).0;
       kind = refuse_ok WrongType (is_process_buffer (arg args 1)) typed.0
     }
@@ -103,45 +103,54 @@ pub no_room_old : (e : Editor) (b : Value) (buffer : Option Room) → buffer ≡
 no_room_old e b buffer is h = none_is_old (is_new_name e b) e (name_of b) (subst (λ (o : Option Room). HasBuffer (is_new_name e b) o e (name_of b)) is h)
 
 room_of : (new : Bool) (buffer : Option Room) (room : Room) (e : Editor) (name : Name) → new ≡ true → buffer ≡ Some room → HasBuffer new buffer e name → (room.name ≡ name) × (length e.buffers < room.buffers)
-room_of new buffer room e name yes is h = subst (λ (n : Bool). HasBuffer n (Some room) e name) yes (subst (λ (o : Option Room). HasBuffer new o e name) is h)
+room_of new buffer room e name so is h = subst (λ (n : Bool). HasBuffer n (Some room) e name) so (subst (λ (o : Option Room). HasBuffer new o e name) is h)
 
 pub room_fits : (e : Editor) (b : Value) (buffer : Option Room) (room : Room) → buffer ≡ Some room → HasBuffer (is_new_name e b) buffer e (name_of b) → (room.name ≡ name_of b) × (length e.buffers < room.buffers)
 room_fits e b buffer room is h = room_of (is_new_name e b) buffer room e (name_of b) (room_new e b buffer room is h) is h
 
-pub made_buffer : (e new : Editor) (b : Value) (name : Name) → is_new_name e b ≡ true → name ≡ name_of b → new ≡ with_buffer name e → new ≡ with_process_buffer b e
-made_buffer e new b name yes named is = is ∙ ap (λ n. with_buffer n e) named ∙ sym (ap (λ (x : Bool). let k : Editor = elim x [ true ↦ with_buffer (name_of b) e | false ↦ e ] in k) yes)
+abbrev either_editor : Bool → Value → Editor → Editor
+either_editor new b e = if new then with_buffer (name_of b) e else e
+
+pub made_buffer : (e made : Editor) (b : Value) (name : Name) → is_new_name e b ≡ true → name ≡ name_of b → made ≡ with_buffer name e → made ≡ with_process_buffer b e
+made_buffer e made b name so named is = is ∙ ap (λ n. with_buffer n e) named ∙ sym (ap (λ x. either_editor x b e) so)
 
 pub kept_buffer : (e : Editor) (b : Value) → is_new_name e b ≡ false → e ≡ with_process_buffer b e
-kept_buffer e b no = sym (ap (λ (x : Bool). let k : Editor = elim x [ true ↦ with_buffer (name_of b) e | false ↦ e ] in k) no)
+kept_buffer e b so = sym (ap (λ x. either_editor x b e) so)
 
 -- THE BUFFER THAT IS GIVEN LIVES
 -- a buffer that was found lives
-found_lives : (k : ℕ) (bs : List (Option Live)) (name : Name) (id : ℕ) → find_from k bs name ≡ Some id → (j : ℕ) × (id ≡ k + j) × (is_some (unwrap_or (slice_get bs j) None) ≡ true)
+abbrev LivesBehind : ℕ → List (Option Live) → ℕ → Type 0
+LivesBehind k bs id = (j : ℕ) × (id ≡ k + j) × (is_some (unwrap_or (slice_get bs j) None) ≡ true)
+
+one_behind : (k : ℕ) (o : Option Live) (bs : List (Option Live)) (id : ℕ) → LivesBehind (k + 1) bs id → LivesBehind k (o ∷ bs) id
+one_behind k o bs id deep = (suc deep.0, omega (arith, deep.1), deep.2)
+
+found_lives : (k : ℕ) (bs : List (Option Live)) (name : Name) (id : ℕ) → find_from k bs name ≡ Some id → LivesBehind k bs id
 found_lives k [] name id h = absurd (let x : None ≡ Some id = h in cc)
-found_lives k (None ∷ bs) name id h = let deep = found_lives (k + 1) bs name id h in (suc deep.0, omega (arith, deep.1.0), deep.1.1)
-found_lives k (Some l ∷ bs) name id h = go (same_name l.name name) h
+found_lives k (None ∷ bs) name id h = one_behind k None bs id (found_lives (k + 1) bs name id h)
+found_lives k (Some l ∷ bs) name id h = go (same_name l.name name) h (λ e. found_lives (k + 1) bs name id e)
   where
-    go : (b : Bool) → (let o : Option ℕ = elim b [ true ↦ Some k | false ↦ find_from (k + 1) bs name ] in o) ≡ Some id → (j : ℕ) × (id ≡ k + j) × (is_some (unwrap_or (slice_get (Some l ∷ bs) j) None) ≡ true)
-    go true e = let same : k ≡ id = (let x : Some k ≡ Some id = e in cc) in (zero, omega (arith, same), refl)
-    go false e = let deep = found_lives (k + 1) bs name id e in (suc deep.0, omega (arith, deep.1.0), deep.1.1)
+    go : (b : Bool) → (let o : Option ℕ = elim b [ true ↦ Some k | false ↦ find_from (k + 1) bs name ] in o) ≡ Some id → (find_from (k + 1) bs name ≡ Some id → LivesBehind (k + 1) bs id) → LivesBehind k (Some l ∷ bs) id
+    go true e deep = let same : k ≡ id = (let x : Some k ≡ Some id = e in cc) in (zero, omega (arith, same), refl)
+    go false e deep = one_behind k (Some l) bs id (deep e)
 
 pub find_lives : (e : Editor) (name : Name) (id : ℕ) → find e name ≡ Some id → is_live e id ≡ true
 find_lives e name id h =
     let found = found_lives 0 e.buffers name id h in
-    let same : id ≡ found.0 = omega (arith, found.1.0) in
-    ap (λ j. is_some (unwrap_or (slice_get e.buffers j) None)) same ∙ found.1.1
+    let same : id ≡ found.0 = omega (arith, found.1) in
+    ap (λ j. is_some (unwrap_or (slice_get e.buffers j) None)) same ∙ found.2
 
 found_last : (k : ℕ) (bs : List (Option Live)) (l : Live) (name : Name) → find_from k bs name ≡ None → same_name l.name name ≡ true → find_from k (bs ++ Some l ∷ []) name ≡ Some (k + length bs)
 found_last k [] l name h same = ap (λ (b : Bool). let o : Option ℕ = elim b [ true ↦ Some k | false ↦ None ] in o) same ∙ ap Some (grind arith)
 found_last k (None ∷ bs) l name h same = found_last (k + 1) bs l name h same ∙ ap Some (grind arith)
-found_last k (Some m ∷ bs) l name h same = go (same_name m.name name) refl h
+found_last k (Some m ∷ bs) l name h same = go (same_name m.name name) refl h (λ e. found_last (k + 1) bs l name e same)
   where
     either : Bool → Option ℕ → Option ℕ
     either b o = elim b [ true ↦ Some k | false ↦ o ]
 
-    go : (b : Bool) → same_name m.name name ≡ b → either b (find_from (k + 1) bs name) ≡ None → either (same_name m.name name) (find_from (k + 1) (bs ++ Some l ∷ []) name) ≡ Some (k + length (Some m ∷ bs))
-    go true here e = absurd (let x : Some k ≡ None = e in cc)
-    go false here e = ap (λ b. either b (find_from (k + 1) (bs ++ Some l ∷ []) name)) here ∙ found_last (k + 1) bs l name e same ∙ ap Some (grind arith)
+    go : (b : Bool) → same_name m.name name ≡ b → either b (find_from (k + 1) bs name) ≡ None → (find_from (k + 1) bs name ≡ None → find_from (k + 1) (bs ++ Some l ∷ []) name ≡ Some (k + 1 + length bs)) → either (same_name m.name name) (find_from (k + 1) (bs ++ Some l ∷ []) name) ≡ Some (k + length (Some m ∷ bs))
+    go true here e deep = absurd (let x : Some k ≡ None = e in cc)
+    go false here e deep = ap (λ b. either b (find_from (k + 1) (bs ++ Some l ∷ []) name)) here ∙ deep e ∙ ap Some (grind arith)
 
 get_last : {A : Type 0} (xs : List A) (x : A) → slice_get (xs ++ x ∷ []) (length xs) ≡ Some x
 get_last [] x = refl
@@ -153,13 +162,13 @@ set_last (z ∷ xs) x y = ap (λ ys. z ∷ ys) (set_last xs x y)
 
 -- the editor with a buffer of a name, made where it isn't found
 abbrev after : Editor → Name → Option ℕ → Editor
-after e name o = elim (not (is_some o)) [ true ↦ with_buffer name e | false ↦ e ]
+after e name o = if not (is_some o) then with_buffer name e else e
 
 named_lives : (e : Editor) (name : Name) (o : Option ℕ) → find e name ≡ o → is_live (after e name o) (unwrap_or (find (after e name o) name) 0) ≡ true
 named_lives e name (Some id) h = ap (λ o. is_live e (unwrap_or o 0)) h ∙ find_lives e name id h
 named_lives e name None h =
     let new : Live = record { name = name; buffer = empty_buffer } in
-    ap (λ o. is_live (with_buffer name e) (unwrap_or o 0)) (found_last 0 e.buffers new name h (same_name-refl name))
+    ap (λ o. is_live (with_buffer name e) (unwrap_or o 0)) (found_last 0 e.buffers new name h (same_name-refl name) ∙ ap Some (zero-add (length e.buffers)))
     ∙ ap (λ o. is_some (unwrap_or o None)) (get_last e.buffers (Some new))
 
 pub given_lives : (e : Editor) (b : Value) → MayMake e b → IfSome (process_buffer (with_process_buffer b e) b) (λ id. is_live (with_process_buffer b e) id ≡ true)
@@ -196,24 +205,17 @@ pub still_live : (e between : Editor) (buffer : Option ℕ) → between ≡ with
 still_live e between buffer is h = subst (λ (x : Editor). IfSome buffer (λ id. is_live x id ≡ true)) (sym is) h
 
 -- ALL OF IT
-same_marks : (new : Bool) (name : Name) (e : Editor) → (let x : Editor = elim new [ true ↦ with_buffer name e | false ↦ e ] in x).marks ≡ e.marks
-same_marks true name e = refl
-same_marks false name e = refl
-
-pub marks_kept : (e now : Editor) (b : Value) → now ≡ with_process_buffer b e → length now.marks.markers ≡ length e.marks.markers
-marks_kept e now b is = ap (λ (x : Editor). length x.marks.markers) is ∙ ap (λ (m : Marks). length m.markers) (same_marks (is_new_name e b) (name_of b) e)
-
 abbrev pub with_start : State → Editor → List Process → State
 with_start s e table = record s { editor = e; processes = table; asked = s.asked + 1 }
 
-pub all_started : (s : State) (name b : Value) (child : ℕ) (now new : Editor) (id : Option ℕ) (mark : ℕ) (named : Name) (table : List Process)
-    → now ≡ with_process_buffer b s.editor → id ≡ process_buffer now b → new ≡ with_end id now → mark ≡ length now.marks.markers → named ≡ process_name s.processes (name_of name)
-    → table ≡ s.processes ++ new_process named child id mark ∷ [] → with_start s new table ≡ started s name b child
-all_started s name b child now new id mark named table is_now is_id is_new is_mark is_named is_table =
+pub all_started : (s : State) (name b : Value) (child : ℕ) (now last : Editor) (id : Option ℕ) (mark : ℕ) (named : Name) (table : List Process)
+    → now ≡ with_process_buffer b s.editor → id ≡ process_buffer now b → last ≡ with_end id now → mark ≡ length now.marks.markers → named ≡ process_name s.processes (name_of name)
+    → table ≡ s.processes ++ new_process named child id mark ∷ [] → with_start s last table ≡ started s name b child
+all_started s name b child now last id mark named table is_now is_id is_last is_mark is_named is_table =
     let more : Name → Option ℕ → ℕ → List Process = λ n i m. s.processes ++ new_process n child i m ∷ [] in
-    ap (λ (e : Editor). with_start s e table) is_new
+    ap (λ (e : Editor). with_start s e table) is_last
     ∙ ap (λ (t : List Process). with_start s (with_end id now) t) is_table
     ∙ ap (λ (i : Option ℕ). with_start s (with_end i now) (more named i mark)) is_id
-    ∙ ap (λ (m : ℕ). with_start s (with_end (process_buffer now b) now) (more named (process_buffer now b) m)) (is_mark ∙ marks_kept s.editor now b is_now)
-    ∙ ap (λ (n : Name). with_start s (with_end (process_buffer now b) now) (more n (process_buffer now b) (length s.editor.marks.markers))) is_named
-    ∙ ap (λ (x : Editor). with_start s (with_end (process_buffer x b) x) (more (process_name s.processes (name_of name)) (process_buffer x b) (length s.editor.marks.markers))) is_now
+    ∙ ap (λ (m : ℕ). with_start s (with_end (process_buffer now b) now) (more named (process_buffer now b) m)) is_mark
+    ∙ ap (λ (n : Name). with_start s (with_end (process_buffer now b) now) (more n (process_buffer now b) (length now.marks.markers))) is_named
+    ∙ ap (λ (x : Editor). with_start s (with_end (process_buffer x b) x) (more (process_name s.processes (name_of name)) (process_buffer x b) (length x.marks.markers))) is_now

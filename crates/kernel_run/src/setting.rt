@@ -1,7 +1,7 @@
 //! Calls on hooks and processes that ask the host nothing and enter nothing.
 ghost use Rattle.std.specs.Prelude.{◌≡◌, [], ◌∷◌, ◌++◌, ◌≤◌, ◌==◌, true, false, not, map, filter, length, if◌then◌else◌, IfOk, OnOk, OnErr, option_map, slice_get, Some};
 ghost use Rattle.std.specs.List.{list_any};
-ghost use Rattle.editor_model.specs.Values.{Sym as symbol, AddHook, RemoveHook, SetProcessFilter, SetProcessSentinel, SetProcessBuffer, list};
+ghost use Rattle.editor_model.specs.Values.{Sym as symbol, AddHook, RemoveHook, SetProcessFilter, SetProcessSentinel, SetProcessBuffer, TheProcess, list};
 ghost use Rattle.editor_model.specs.Arguments.{arg, symbol_of};
 ghost use Rattle.plain_machine.specs.State.{change_process, process};
 ghost use Rattle.plain_machine.specs.Arguments.{filter_of, sentinel_of};
@@ -50,7 +50,7 @@ pub fn is_before(hook: &Value) -> bool
 
 /// Whether a name stands among others.
 fn holds(names: &[Sym], name: Sym) -> bool
-    ensures { result ≡ list_any (λ n. n == name.0) (map number_of names.now) }
+    ensures { result ≡ list_any (λ n. n.0 == name.0) names.now }
 {
     names.iter().any(|n| n.0 == name.0)
 }
@@ -142,6 +142,12 @@ fn remove_hook(kernel: &mut Kernel, hook: &Value, function: &Value) -> Mem<Value
 
 // QUESTIONS
 
+fn process_value(p: u32) -> Value
+    ensures { view result ≡ TheProcess p }
+{
+    Value::Process(p)
+}
+
 /// The listed processes.
 fn process_list(kernel: &Kernel) -> Mem<Value>
     ensures { IfOk result (λ v. view v ≡ list (listed (state_of kernel.now))) }
@@ -149,7 +155,7 @@ fn process_list(kernel: &Kernel) -> Mem<Value>
     let mut values = ListOf::new(kernel.alloc);
     for p in 0..kernel.processes.count() {
         if kernel.processes.get(p).listed() {
-            values.push(Value::Process(p))?;
+            values.push(process_value(p))?;
         }
     }
     Ok(list(values))
@@ -241,7 +247,7 @@ fn told_of_one(kernel: &Kernel, prim: Primitive, p: u32) -> Mem<Value>
     ensures { IfOk result (λ v. view v ≡ told_of_one (prim_of prim) (process (state_of kernel.now) p)) }
 {
     if p >= kernel.processes.count() {
-        return Ok(Value::Nil);
+        return Ok(nil());
     }
     told(kernel.alloc, prim, kernel.processes.get(p))
 }
