@@ -65,7 +65,7 @@ abbrev choose : (there : Bool) (name : ℕ) (names : List ℕ) → List ℕ
 choose there name names = if there then names else name ∷ names
 
 pub added_there : (there : Bool) (name : ℕ) (syms : List symbol.Sym) → there ≡ list_any (λ n. n.0 == name) syms → there ≡ true → map number_of syms ≡ added name (map number_of syms)
-added_there there name syms is yes = sym (ap (λ b. choose b name (map number_of syms)) (any_mapped number_of (λ n. n == name) syms ∙ sym is ∙ yes))
+added_there there name syms is so = sym (ap (λ b. choose b name (map number_of syms)) (any_mapped number_of (λ n. n == name) syms ∙ sym is ∙ so))
 
 pub added_new : (there : Bool) (name : ℕ) (syms : List symbol.Sym) → there ≡ list_any (λ n. n.0 == name) syms → there ≡ false → name ∷ map number_of syms ≡ added name (map number_of syms)
-added_new there name syms is no = sym (ap (λ b. choose b name (map number_of syms)) (any_mapped number_of (λ n. n == name) syms ∙ sym is ∙ no))
+added_new there name syms is so = sym (ap (λ b. choose b name (map number_of syms)) (any_mapped number_of (λ n. n == name) syms ∙ sym is ∙ so))

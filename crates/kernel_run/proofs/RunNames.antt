@@ -32,10 +32,10 @@ put_longer symbols name = one_longer (list_any (λ s. same_word s name) symbols)
 
 -- HANDLERS
 def_one : (d : HandlerDef) (ds : List HandlerDef) (name : ℕ) → (d.name == name) ≡ true → handler_def (d ∷ ds) name ≡ Some d
-def_one d ds name h = rw h refl
+def_one d ds name h = ap (λ (b : Bool). let o : Option HandlerDef = elim b [ true ↦ Some d | false ↦ handler_def ds name ] in o) h
 
 def_other : (d : HandlerDef) (ds : List HandlerDef) (name : ℕ) → (d.name == name) ≡ false → handler_def (d ∷ ds) name ≡ handler_def ds name
-def_other d ds name h = rw h refl
+def_other d ds name h = ap (λ (b : Bool). let o : Option HandlerDef = elim b [ true ↦ Some d | false ↦ handler_def ds name ] in o) h
 
 pub def_met : (defs : List HandlerDef) (i : ℕ) (d : HandlerDef) (name : ℕ) (whole : Option HandlerDef) → slice_get defs i ≡ Some d → (d.name == name) ≡ true → handler_def (drop i defs) name ≡ whole → Some d ≡ whole
 def_met defs i d name whole at h e = sym (def_one d (drop (i + 1) defs) name h) ∙ ap (λ rest. handler_def rest name) (sym (drop_at defs i d at)) ∙ e
@@ -48,10 +48,10 @@ no_def defs i name whole l e = ap (λ rest. handler_def rest name) (sym (nothing
 
 -- NATIVES
 native_one : (i n : ℕ) (ns : List ℕ) (name : ℕ) → (n == name) ≡ true → native_from i (n ∷ ns) name ≡ Some i
-native_one i n ns name h = rw h refl
+native_one i n ns name h = ap (λ (b : Bool). let o : Option ℕ = elim b [ true ↦ Some i | false ↦ native_from (i + 1) ns name ] in o) h
 
 native_other : (i n : ℕ) (ns : List ℕ) (name : ℕ) → (n == name) ≡ false → native_from i (n ∷ ns) name ≡ native_from (i + 1) ns name
-native_other i n ns name h = rw h refl
+native_other i n ns name h = ap (λ (b : Bool). let o : Option ℕ = elim b [ true ↦ Some i | false ↦ native_from (i + 1) ns name ] in o) h
 
 pub native_met : (ns : List ℕ) (i n name : ℕ) (whole : Option ℕ) → slice_get ns i ≡ Some n → (n == name) ≡ true → native_from i (drop i ns) name ≡ whole → Some i ≡ whole
 native_met ns i n name whole at h e = sym (native_one i n (drop (i + 1) ns) name h) ∙ ap (λ rest. native_from i rest name) (sym (drop_at ns i n at)) ∙ e
@@ -61,3 +61,8 @@ native_passed ns i n name whole at h e = sym (native_other i n (drop (i + 1) ns)
 
 pub no_native : (ns : List ℕ) (i name : ℕ) (whole : Option ℕ) → length ns ≤ i → native_from i (drop i ns) name ≡ whole → None ≡ whole
 no_native ns i name whole l e = ap (λ rest. native_from i rest name) (sym (nothing_behind ns i l)) ∙ e
+
+pub name_there : (names : List (List ℕ)) (i : ℕ) → i < length names → slice_get names i ≡ Some (unwrap_or (slice_get names i) [])
+name_there [] i l = absurd (omega arith)
+name_there (n ∷ names) zero l = refl
+name_there (n ∷ names) (suc i) l = name_there names i (omega arith)

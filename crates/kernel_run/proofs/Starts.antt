@@ -64,8 +64,8 @@ module _ (program : Program) (s : State) (args : List Value) (passes : Passes pr
     buffer = record {
       few = λ h. few_of (length s.editor.buffers) most_buffers (where_so is_new (must_be_fewer most_buffers (length s.editor.buffers)) (no_fault (only_where is_new (must_be_fewer most_buffers (length s.editor.buffers))) _ after_markers).0 h);
       live = (no_fault (must_live_or_be_named s.editor (arg args 1)) _ starts_last).0;
-      kind = refuse_ok WrongType (is_process_buffer (arg args 1)) typed.0
-    }
+      kind = refuse_ok WrongType (is_process_buffer (arg args 1)) typed.0;
+    };
   }
 
 -- THE NAME

@@ -1,14 +1,14 @@
 //! What is fixed for a run.
-ghost use Rattle.std.specs.Prelude.{◌≡◌, ◌≤◌, map, length, option_map, unwrap_or, IfOk};
-ghost use Rattle.text_model.specs.Names.{number_from};
-ghost use Rattle.plain_machine.specs.Arguments.{handler_def, native_from};
+ghost use Rattle.std.specs.Prelude.{◌≡◌, map, option_map, IfOk};
+ghost use Rattle.plain_machine.specs.Arguments.{handler_def};
 ghost use Rattle.plain_machine.specs.Symbols.{with_names};
 ghost use Rattle.ek_types.specs.Listing.{items_of};
-ghost use Rattle.ek_types.specs.Property.{number_of};
 ghost use Rattle.ek_call.specs.Meaning.{handler_of, script_of};
+ghost use Rattle.kernel_run.specs.Whole.{meant_of, program_with};
 
+use crate::native_names::NativeNames;
 use ek_call::{Forms, HandlerDef, HandlerDefs, Replies, Script, Values};
-use ek_types::{ListOf, Mem, NoMemory, Sym, SymList, Symbols};
+use ek_types::{Mem, NoMemory, Sym, Symbols};
 use handler_code::{Natives, Next};
 use kernel_steps::Program;
 use std::alloc::Global;
@@ -22,9 +22,7 @@ pub struct RunProgram<'a, N: Natives> {
     symbols: Symbols,
     handlers: &'a HandlerDefs,
     natives: &'a N,
-    /// The symbols of the natives, in their order.
-    numbers: SymList,
-    ghost few: { length (items_of numbers) ≤ 65536 },
+    names: NativeNames,
 }
 
 /// The symbols of a script, and behind them the names of the natives.
@@ -41,33 +39,19 @@ fn symbols_with<N: Natives>(script: &Script, natives: &N) -> Mem<Symbols>
     Ok(symbols)
 }
 
-/// The symbols of the natives.
-fn numbers_in<N: Natives>(alloc: Global, symbols: &Symbols, natives: &N) -> Mem<SymList>
-    ensures { IfOk result (λ numbers. map number_of (items_of numbers) ≡
-        map (λ name. unwrap_or (number_from 0 symbols.now name) 0) (N.names natives.now)) }
-{
-    let mut numbers = ListOf::new(alloc);
-    for i in 0..natives.count() {
-        numbers.push(symbols.find(natives.name(i)).unwrap_or(Sym(0)))?;
-    }
-    Ok(numbers)
-}
-
 impl<'a, N: Natives> RunProgram<'a, N> {
-    ghost use Rattle.kernel_run.specs.Whole.{meant_of, program_with};
-
     /// The program that a script makes with some natives. 2^31 names of a script or more count as want of memory.
     pub fn new(alloc: Global, script: &'a Script, natives: &'a N) -> Mem<RunProgram<'a, N>>
         ensures { IfOk result (λ p. meant_of N.does p ≡
             program_with N.names N.does (script_of script.now) natives.now) }
     {
         let symbols = symbols_with(script, natives)?;
-        let numbers = numbers_in(alloc, &symbols, natives)?;
+        let names = NativeNames::new(alloc, &symbols, natives)?;
         Ok(RunProgram {
             symbols,
             handlers: &script.handlers,
             natives,
-            numbers,
+            names,
         })
     }
 
@@ -84,23 +68,9 @@ impl<'a, N: Natives> RunProgram<'a, N> {
         }
         None
     }
-
-    /// The least number of a native of a name.
-    fn native_of(&self, name: Sym) -> Option<u32>
-        ensures { result ≡ native_from 0 (map number_of (items_of self.now.numbers)) name.0 }
-    {
-        for i in 0..self.numbers.len() {
-            if self.numbers.at(i).0 == name.0 {
-                return Some(i as u32);
-            }
-        }
-        None
-    }
 }
 
 impl<N: Natives> Program for RunProgram<'_, N> {
-    ghost use Rattle.kernel_run.specs.Whole.{meant_of};
-
     ghost meant = { meant_of N.does };
 
     fn symbols(&self) -> &Symbols {
@@ -125,11 +95,11 @@ impl<N: Natives> Program for RunProgram<'_, N> {
     }
 
     fn is_handler(&self, name: Sym) -> bool {
-        self.handler(name).is_some() || self.native_of(name).is_some()
+        self.handler(name).is_some() || self.names.find(name).is_some()
     }
 
     fn native(&self, name: Sym) -> u32 {
-        self.native_of(name).unwrap_or(0)
+        self.names.find(name).unwrap_or(0)
     }
 
     fn next(&self, native: u32, args: &Values, past: &Replies) -> Mem<Next> {

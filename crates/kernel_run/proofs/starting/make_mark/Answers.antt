@@ -13,4 +13,4 @@ returns-clause-state c =
     let between = editor_of made.new.self in
     c.put_mark.ensures
     ∙ ap (λ (e : Editor). with_editor e (state_of c.args.kernel.now))
-      (mark_put (editor_of c.args.kernel.now.editor) between (put_end made.result c.args.buffer between) made.result c.args.buffer made.ensures.number made.ensures.editor refl)
+    (mark_put (editor_of c.args.kernel.now.editor) between (put_end made.result c.args.buffer between) made.result c.args.buffer made.ensures.number made.ensures.editor refl)

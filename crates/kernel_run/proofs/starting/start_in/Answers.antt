@@ -42,9 +42,9 @@ returns-clause-state c =
     let whole : after ≡ with_editor (with_end id now) s = c.make_mark-mark.ensures.state ∙ ap (with_editor (with_end id now)) c.make_buffer.ensures in
     ap (λ (x : State). let y : State = record x { processes = table; asked = x.asked + 1 } in y) whole
     ∙ all_started s name b c.args.child now (with_end id now) id c.make_mark-mark.result c.args.place.process.name table
-      (ap (λ (x : State). x.editor) c.make_buffer.ensures ∙ ap (λ v. with_process_buffer v s.editor) c.arg-b.ensures)
-      (c.process_buffer-id.ensures ∙ ap (process_buffer now) c.arg-b.ensures)
-      refl
-      c.make_mark-mark.ensures.number
-      c.requires.place.name
-      (c.add_reserved.ensures.table ∙ ap (λ (ps : List Process). ps ++ new_process c.args.place.process.name c.args.child id c.make_mark-mark.result ∷ []) (ap (λ (x : State). x.processes) whole))
+    (ap (λ (x : State). x.editor) c.make_buffer.ensures ∙ ap (λ v. with_process_buffer v s.editor) c.arg-b.ensures)
+    (c.process_buffer-id.ensures ∙ ap (process_buffer now) c.arg-b.ensures)
+    refl
+    c.make_mark-mark.ensures.number
+    c.requires.place.name
+    (c.add_reserved.ensures.table ∙ ap (λ (ps : List Process). ps ++ new_process c.args.place.process.name c.args.child id c.make_mark-mark.result ∷ []) (ap (λ (x : State). x.processes) whole))
