@@ -1,1 +1,4 @@
+pub mod Equality
+pub mod Coding
+pub mod Refusing
 pub mod Exchanges
