@@ -4,3 +4,5 @@ pub mod Starts
 pub mod RunNames
 pub mod Equality
 pub mod Coding
+pub mod Refusing
+pub mod Exchanges
