@@ -1,3 +1,8 @@
+pub mod Parameters
+pub mod HookCalls
+pub mod ProcessCalls
+pub mod Starts
+pub mod RunNames
 pub mod Equality
 pub mod Coding
 pub mod Refusing
