@@ -1,3 +1,4 @@
+pub mod Parameters
 pub mod HookCalls
 pub mod ProcessCalls
 pub mod Starts

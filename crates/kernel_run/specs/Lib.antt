@@ -1,3 +1,4 @@
+pub mod Defaults
 pub mod Meaning
 pub mod Setting
 pub mod Starting

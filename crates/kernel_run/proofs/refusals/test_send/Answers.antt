@@ -1,15 +1,13 @@
-use Rattle.std.proofs.Common.{◌≡◌, [], ◌∷◌, ◌+◌, ◌&&◌, Bool, true, false, not, List, length, drop, sym, ap, ◌∙◌, rules}
-use Rattle.std.specs.Prelude.{ℕ, Some, ◌==◌, nat_le}
+use Rattle.std.proofs.Common.{◌≡◌, ◌∷◌, true, false, List, length, ap, ◌∙◌, rules}
+use Rattle.std.specs.Prelude.{ℕ, Some, ◌==◌}
 use Rattle.text_model.specs.Properties.{Cell}
-use Rattle.editor_model.specs.Values.{ProcessEnded, TooMany, ProcessSendString}
-use Rattle.editor_model.specs.Answers.{Test, refuse, first_fault}
+use Rattle.editor_model.specs.Answers.{first_fault}
 use Rattle.editor_model.specs.Arguments.{must_be_string, string_of}
-use Rattle.plain_machine.specs.Arguments.{process_of, is_running, is_closed, is_empty, encoded}
-use Rattle.plain_machine.specs.Refusals.{process_tests, only_where, must_ask, must_be_process, process_there, most_sent}
+use Rattle.plain_machine.specs.Arguments.{process_of, is_empty}
+use Rattle.plain_machine.specs.Refusals.{must_be_process, process_there}
 use Rattle.ek_call.specs.Meaning.{view}
 use Rattle.ek_call.specs.Faults.{fault_of}
 use Rattle.editor_prims.specs.Meaning.{fault_in}
-use Rattle.kernel_steps.specs.Outside.{deepest}
 use Rattle.kernel_run.specs.Meaning.{state_of}
 use Rattle.kernel_run.proofs.Refusing.{stops, goes, send_tests, sent_tests}
 use Rattle.kernel_run.proofs.refusals.test_send.Goals as goal

@@ -6,7 +6,7 @@ use Rattle.kernel_run.specs.Meaning.{state_of}
 use Rattle.kernel_run.proofs.Refusing.{program_passes, words_pass_all}
 use Rattle.kernel_run.proofs.words.command.Goals as goal
 
-pub all_words-requires : goal.all_words-words-requires
+pub all_words-requires : goal.all_words-requires
 all_words-requires g c = words_pass_all (g.P.Program.meant c.args.program.now) (state_of c.args.kernel.now) (map view (items_of c.args.args.now)) c.requires
 
 pub word_of-requires : goal.word_of-requires
