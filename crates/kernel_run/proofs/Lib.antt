@@ -9,3 +9,4 @@ pub mod Equality
 pub mod Coding
 pub mod Refusing
 pub mod Exchanges
+pub mod Unbegun

@@ -1,0 +1,12 @@
+use Rattle.std.proofs.Common.{[], refl}
+use Rattle.std.proofs.KnownBytes.{Appends-nil}
+use Rattle.ek_call.specs.Meaning.{script_of}
+use Rattle.kernel_run.specs.Whole.{program_with}
+use Rattle.kernel_run.proofs.Unbegun.{unbegun}
+use Rattle.kernel_run.proofs.kernel.Kernel.run_script.Goals as goal
+
+pub returns-in-Err-clause-outcome : goal.returns-in-Err-clause-outcome
+returns-in-Err-clause-outcome g c =
+    let sink = g.K.Sink.state c.args.sink.now in
+    let script = script_of c.args.script.now in
+    ([], [], Appends-nil sink.held, refl, unbegun (program_with g.N.Natives.names g.N.Natives.does script c.args.natives.now) script sink)
