@@ -1,18 +1,13 @@
 -- Whether one buffer alone lives, and which processes run in a buffer.
-use Rattle.std.proofs.Common.{◌≡◌, ℕ, zero, suc, ◌+◌, ◌<◌, Bool, true, false, ◌∙◌, List, [], ◌∷◌, map, length, drop, refl, ap, sym, arith}
-use Rattle.std.specs.Prelude.{◌==◌, ◌&&◌, filter, nat_lt, slice_get, slice_set, Option, Some, None, unwrap_or, is_some}
+use Rattle.std.proofs.Common.{◌≡◌, ℕ, zero, suc, ◌+◌, ◌<◌, ◌≤◌, Bool, true, false, ◌∙◌, List, [], ◌∷◌, map, length, drop, refl, ap, sym, subst, arith}
+use Rattle.std.specs.Prelude.{◌==◌, ◌&&◌, filter, nat_lt, slice_get, Option, Some, None, unwrap_or, is_some}
 use Rattle.std.specs.List.{enumerate_from}
-use Rattle.std.proofs.lemmas.Bool.{eq-eqb, ne_eqb, lt-ltb, ltb-true}
-use Rattle.text_model.proofs.Lists.{drop_at, set_other}
-use Rattle.text_model.specs.PropertyQuestions.{first}
+use Rattle.std.proofs.lemmas.Bool.{eq-eqb, ne_eqb, lt-ltb}
+use Rattle.text_model.proofs.Lists.{drop_at}
 use Rattle.editor_model.specs.Editor.{Editor, Live, live_from, is_live}
-use Rattle.editor_model.specs.Values.{Fault, TooMany}
-use Rattle.editor_model.specs.Answers.{refuse}
-use Rattle.editor_model.specs.Arguments.{must_be_fewer}
-use Rattle.editor_model.specs.Limits.{most_buffers}
-use Rattle.plain_machine.specs.State.{Process}
-use Rattle.plain_machine.specs.Arguments.{runs, stands_in}
-use Rattle.plain_machine.specs.Refusals.{is_last, must_be_replaceable, only_where}
+use Rattle.plain_machine.specs.State.{State, Process}
+use Rattle.plain_machine.specs.Arguments.{runs, stands_in, running_in}
+use Rattle.plain_machine.specs.Refusals.{is_last}
 
 -- BUFFERS
 abbrev lives : List (Option Live) → ℕ → Bool
@@ -83,25 +78,3 @@ step_passed p b x ps at here = ap (λ l. running_from p b l) (drop_at ps p x at)
 
 pub some_there : (l : List ℕ) (p : ℕ) (rest : List ℕ) → l ≡ p ∷ rest → true ≡ nat_lt 0 (length l)
 some_there l p rest e = sym (ap (λ x. nat_lt 0 (length x)) e ∙ lt-ltb 0 (length (p ∷ rest)) (omega arith))
-
--- KILLING
-nothing_first : (ids : List ℕ) → None ≡ first ids → ids ≡ []
-nothing_first [] h = refl
-nothing_first (i ∷ ids) h = cc
-
-pub alone_is_last : (e : Editor) (b : ℕ) → is_live e b ≡ true → None ≡ first (live_from 0 (slice_set e.buffers b None)) → is_last e b ≡ true
-alone_is_last e b here none = sym (last_if_live e b (λ j within differs. dead j differs (is_live e j) refl)) ∙ here
-  where
-    dead : (j : ℕ) → (j ≡ b → ⊥) → (t : Bool) → is_live e j ≡ t → is_live e j ≡ false
-    dead j differs false h = h
-    dead j differs true h = absurd (some_left 0 (slice_set e.buffers b None) j (ap (λ o. is_some (unwrap_or o None)) (set_other e.buffers b j None differs) ∙ h) (nothing_first (live_from 0 (slice_set e.buffers b None)) none))
-
-passed : (t : Bool) (f : Fault) → None ≡ refuse f t → t ≡ true
-passed true f h = refl
-passed false f h = cc
-
--- where the only live buffer may be killed, one more can be made
-pub room_for_one : (e : Editor) (b : ℕ) → is_live e b ≡ true → None ≡ must_be_replaceable e b → None ≡ first (live_from 0 (slice_set e.buffers b None)) → length e.buffers < 256
-room_for_one e b here may none =
-    let test : None ≡ must_be_fewer most_buffers (length e.buffers) = may ∙ ap (λ t. only_where t (must_be_fewer most_buffers (length e.buffers))) (alone_is_last e b here none) in
-    ltb-true (length e.buffers) 256 (passed (nat_lt (length e.buffers) 256) TooMany test)
