@@ -1,5 +1,5 @@
 //! Buffers that are killed, with their processes.
-ghost use Rattle.std.specs.Prelude.{◌≡◌, IfOk, OnOk, OnErr};
+ghost use Rattle.std.specs.Prelude.{◌≡◌, length, nat_lt, IfOk, OnOk, OnErr};
 ghost use Rattle.plain_machine.specs.Arguments.{running_in};
 ghost use Rattle.plain_machine.specs.Refusals.{must_be_replaceable};
 ghost use Rattle.ek_call.specs.Meaning.{reply_of};
@@ -55,7 +55,9 @@ pub fn running_in(kernel: &Kernel, buffer: u32) -> Mem<Vec<u32>>
 }
 
 /// Whether a buffer has a running process.
-pub fn has_running(kernel: &Kernel, buffer: u32) -> bool {
+pub fn has_running(kernel: &Kernel, buffer: u32) -> bool
+    ensures { result ≡ nat_lt 0 (length (running_in (state_of kernel.now) buffer)) }
+{
     for p in 0..kernel.processes.count() {
         if runs_in(kernel.processes.get(p), buffer) {
             return true;

@@ -1,9 +1,10 @@
 //! What the arguments of a call on processes give.
 ghost use Rattle.std.specs.Prelude.{◌≡◌, map, IfOk};
+ghost use Rattle.editor_model.specs.Values.{Nil};
 ghost use Rattle.editor_model.specs.Arguments.{arg, buffer_of};
 ghost use Rattle.plain_machine.specs.Arguments.{process_of};
 ghost use Rattle.plain_machine.specs.Refusals.{rounds_of};
-ghost use Rattle.plain_machine.specs.Calls.{process_buffer};
+ghost use Rattle.plain_machine.specs.Calls.{process_buffer, waiting};
 ghost use Rattle.ek_types.specs.Listing.{items_of};
 ghost use Rattle.ek_call.specs.Meaning.{view};
 ghost use Rattle.buffer_table.specs.Kept.{editor_of};
@@ -70,7 +71,9 @@ fn rounds(v: &Value) -> Mem<u32>
 }
 
 /// The process that a wait is for.
-fn target(kernel: &Kernel, v: &Value) -> Option<u32> {
+fn target(kernel: &Kernel, v: &Value) -> Option<u32>
+    ensures { result ≡ (waiting (state_of kernel.now) (view v.now) Nil Nil).target }
+{
     match v {
         Value::Nil => None,
         _ => Some(process(kernel, v)),

@@ -1,10 +1,12 @@
 //! What the calls on hooks and processes refuse, and in which order: void names, types, what is absent or dead, ranges,
 //! states, limits, depth, exchanges.
-ghost use Rattle.std.specs.Prelude.{◌≡◌, List, map, drop, not, option_map};
-ghost use Rattle.editor_model.specs.Values.{Value as Meant, Prim, AddHook, RemoveHook, KillBuffer, StartProcess, GetProcess, SetProcessFilter, SetProcessSentinel, SetProcessBuffer, ProcessSendString, ProcessSendEof, DeleteProcess, AcceptProcessOutput};
-ghost use Rattle.editor_model.specs.Answers.{Test, first_fault, refuse};
-ghost use Rattle.plain_machine.specs.Refusals.{is_rounds, may_ask, must_ask, must_be_handler, must_be_process, must_be_process_or_nil, must_be_word, must_live_or_be_named, must_nest, only_where, process_there, rounds_of};
-ghost use Rattle.plain_machine.specs.Arguments.{encoded, is_empty, is_filter_place, is_handler_place, is_new_name, is_process_buffer, is_word};
+ghost use Rattle.std.specs.Prelude.{◌≡◌, ◌+◌, ◌&&◌, ◌∷◌, [], map, drop, length, nat_le, option_map};
+ghost use Rattle.editor_model.specs.Values.{Prim, WrongType, ArgsOutOfRange, AddHook, RemoveHook, KillBuffer, StartProcess, SetProcessFilter, SetProcessSentinel, SetProcessBuffer, ProcessSendString, ProcessSendEof, DeleteProcess, AcceptProcessOutput};
+ghost use Rattle.editor_model.specs.Answers.{first_fault, refuse};
+ghost use Rattle.editor_model.specs.Limits.{most_buffers, most_markers};
+ghost use Rattle.editor_model.specs.Arguments.{buffer_there, must_be_fewer, must_be_name, must_be_short};
+ghost use Rattle.plain_machine.specs.Refusals.{is_rounds, may_ask, most_processes, most_rounds, most_sent, must_ask, must_be_handler, must_be_process, must_be_process_or_nil, must_be_word, must_live_or_be_named, must_nest, only_where, process_there, rounds_of};
+ghost use Rattle.plain_machine.specs.Arguments.{is_closed, is_filter_place, is_handler_place, is_new_name, is_process_buffer};
 ghost use Rattle.plain_machine.specs.Hooks.{hook_added, is_hook};
 ghost use Rattle.plain_machine.specs.State.{State, Program as Plain};
 ghost use Rattle.ek_types.specs.Listing.{items_of};
@@ -35,7 +37,7 @@ use kernel_steps::Program;
 const MOST_EXCHANGES: u32 = 65_536;
 
 /// The most bytes that are sent in a run.
-const MOST_SENT: usize = 16_777_216;
+const MOST_SENT: u128 = 16_777_216;
 
 /// The most processes that are ever made.
 const MOST_PROCESSES: u32 = 256;
@@ -64,7 +66,7 @@ fn must_be_handler<P: Program>(program: &P, v: &Value) -> Result<(), Fault>
 }
 
 fn must_be_hook(v: &Value) -> Result<(), Fault>
-    ensures { fault_in result ≡ refuse Fault.WrongType (is_hook (view v.now)) }
+    ensures { fault_in result ≡ refuse WrongType (is_hook (view v.now)) }
 {
     let is_hook = match v {
         Value::Sym(name) => name.0 == BEFORE_CHANGE_FUNCTIONS || name.0 == AFTER_CHANGE_FUNCTIONS,
@@ -74,12 +76,16 @@ fn must_be_hook(v: &Value) -> Result<(), Fault>
 }
 
 /// Nil or a symbol.
-fn must_be_handler_place(v: &Value) -> Result<(), Fault> {
+fn must_be_handler_place(v: &Value) -> Result<(), Fault>
+    ensures { fault_in result ≡ refuse WrongType (is_handler_place (view v.now)) }
+{
     must(matches!(v, Value::Nil | Value::Sym(_)), Fault::WrongType)
 }
 
 /// Nil, `t` or a symbol.
-fn must_be_filter_place(v: &Value) -> Result<(), Fault> {
+fn must_be_filter_place(v: &Value) -> Result<(), Fault>
+    ensures { fault_in result ≡ refuse WrongType (is_filter_place (view v.now)) }
+{
     must(
         matches!(v, Value::Nil | Value::T | Value::Sym(_)),
         Fault::WrongType,
@@ -115,7 +121,9 @@ fn process_there(kernel: &Kernel, v: &Value) -> Result<(), Fault>
 }
 
 /// A buffer that is given lives.
-fn buffer_there(editor: &Editor, v: &Value) -> Result<(), Fault> {
+fn buffer_there(editor: &Editor, v: &Value) -> Result<(), Fault>
+    ensures { fault_in result ≡ buffer_there (editor_of editor.now) (view v.now) }
+{
     objects::buffer(editor, v)?;
     Ok(())
 }
@@ -131,7 +139,9 @@ fn must_live_or_be_named(editor: &Editor, v: &Value) -> Result<(), Fault>
 }
 
 /// Nil, a buffer, or a name that isn't empty.
-fn must_be_process_buffer(v: &Value) -> Result<(), Fault> {
+fn must_be_process_buffer(v: &Value) -> Result<(), Fault>
+    ensures { fault_in result ≡ refuse WrongType (is_process_buffer (view v.now)) }
+{
     let fits = match v {
         Value::Nil | Value::Buffer(_) => true,
         Value::Str(name) => !name.is_empty(),
@@ -158,12 +168,17 @@ pub fn is_new_name(editor: &Editor, v: &Value) -> bool
 }
 
 /// Nil or an integer.
-fn must_be_rounds(v: &Value) -> Result<(), Fault> {
+fn must_be_rounds(v: &Value) -> Result<(), Fault>
+    ensures { fault_in result ≡ refuse WrongType (is_rounds (view v.now)) }
+{
     must(matches!(v, Value::Nil | Value::Int(_)), Fault::WrongType)
 }
 
 /// Nil, or 1 to 1,000.
-fn must_be_in_range(v: &Value) -> Result<(), Fault> {
+fn must_be_in_range(v: &Value) -> Result<(), Fault>
+    ensures { fault_in result ≡ refuse ArgsOutOfRange
+        (nat_le 1 (rounds_of (view v.now)) && nat_le (rounds_of (view v.now)) most_rounds) }
+{
     let fits = match v {
         Value::Nil => true,
         Value::Int(n) => 1 <= *n && *n <= MOST_ROUNDS,
@@ -202,7 +217,9 @@ fn only_where(here: bool, test: Result<(), Fault>) -> Result<(), Fault>
 // HOOKS
 
 /// How many hook functions a list would have with one more.
-fn hooks_with(kernel: &Kernel, hook: &Value, function: &Value) -> u32 {
+fn hooks_with(kernel: &Kernel, hook: &Value, function: &Value) -> u32
+    ensures { result ≡ length (hook_added (state_of kernel.now) (view hook.now) (view function.now)) }
+{
     let before = crate::setting::is_before(hook);
     let names = kernel.hooks.list(kernel.editor.current(), before);
     let number = crate::setting::symbol_of(function);
@@ -221,14 +238,20 @@ fn test_add_hook<P: Program>(
     program: &P,
     hook: &Value,
     function: &Value,
-) -> Result<(), Fault> {
+) -> Result<(), Fault>
+    ensures { fault_in result ≡ refusal_of (P.meant program.now) (state_of kernel.now) AddHook
+        (view hook.now ∷ view function.now ∷ []) }
+{
     must_be_handler(program, function)?;
     must_be_hook(hook)?;
     symbol(function)?;
     must_be_fewer(MOST_HOOKS as u32 + 1, hooks_with(kernel, hook, function))
 }
 
-fn test_remove_hook<P: Program>(program: &P, hook: &Value, function: &Value) -> Result<(), Fault> {
+fn test_remove_hook<P: Program>(program: &P, hook: &Value, function: &Value) -> Result<(), Fault>
+    ensures { (s : State) → fault_in result ≡ refusal_of (P.meant program.now) s RemoveHook
+        (view hook.now ∷ view function.now ∷ []) }
+{
     must_be_handler(program, function)?;
     must_be_hook(hook)?;
     symbol(function)?;
@@ -237,7 +260,9 @@ fn test_remove_hook<P: Program>(program: &P, hook: &Value, function: &Value) -> 
 
 // BUFFERS
 
-fn test_kill_buffer(kernel: &Kernel, b: &Value) -> Result<(), Fault> {
+fn test_kill_buffer(kernel: &Kernel, b: &Value) -> Result<(), Fault>
+    ensures { (machine : Plain) → fault_in result ≡ refusal_of machine (state_of kernel.now) KillBuffer (view b.now ∷ []) }
+{
     must_be_buffer_or_nil(b)?;
     buffer_there(&kernel.editor, b)?;
     let id = buffer(&kernel.editor, b);
@@ -248,7 +273,9 @@ fn test_kill_buffer(kernel: &Kernel, b: &Value) -> Result<(), Fault> {
 // PROCESSES
 
 /// The words of a command behind its program.
-fn must_be_words(args: &[Value]) -> Result<(), Fault> {
+fn must_be_words(args: &[Value]) -> Result<(), Fault>
+    ensures { fault_in result ≡ first_fault (map must_be_word (map view args.now)) }
+{
     for word in args {
         must_be_word(word)?;
     }
@@ -256,7 +283,12 @@ fn must_be_words(args: &[Value]) -> Result<(), Fault> {
 }
 
 /// The kinds of the arguments of a start.
-fn test_command(args: &Values, process: &Value, b: &Value, program: &Value) -> Result<(), Fault> {
+fn test_command(args: &Values, process: &Value, b: &Value, program: &Value) -> Result<(), Fault>
+    ensures { fault_in result ≡ first_fault
+        (must_be_name (view process.now) ∷ refuse WrongType (is_process_buffer (view b.now)) ∷
+        must_be_name (view program.now) ∷ must_be_word (view program.now) ∷
+        map must_be_word (drop 3 (map view (items_of args.now)))) }
+{
     name(process)?;
     must_be_process_buffer(b)?;
     name(program)?;
@@ -267,27 +299,42 @@ fn test_command(args: &Values, process: &Value, b: &Value, program: &Value) -> R
     Ok(())
 }
 
-/// The limits of a start.
-fn test_place(kernel: &Kernel, process: &Value, b: &Value) -> Result<(), Fault> {
+/// What is absent in a start, its limits, and its exchange.
+fn test_place(kernel: &Kernel, process: &Value, b: &Value) -> Result<(), Fault>
+    ensures { fault_in result ≡ first_fault
+        (must_live_or_be_named (editor_of kernel.now.editor) (view b.now) ∷ must_be_short (view process.now) ∷
+        only_where (is_new_name (editor_of kernel.now.editor) (view b.now)) (must_be_short (view b.now)) ∷
+        must_be_fewer most_processes (length (state_of kernel.now).processes) ∷
+        must_be_fewer most_markers (length (editor_of kernel.now.editor).marks.markers) ∷
+        only_where (is_new_name (editor_of kernel.now.editor) (view b.now))
+        (must_be_fewer most_buffers (length (editor_of kernel.now.editor).buffers)) ∷
+        must_ask (state_of kernel.now) ∷ []) }
+{
+    must_live_or_be_named(&kernel.editor, b)?;
     let new = is_new_name(&kernel.editor, b);
     must_be_short(process)?;
     only_where(new, must_be_short(b))?;
     must_be_fewer(MOST_PROCESSES, kernel.processes.count())?;
     must_be_fewer(MOST_MARKERS, kernel.editor.marker_count())?;
-    only_where(new, must_be_fewer(MOST_BUFFERS, kernel.editor.count()))
+    only_where(new, must_be_fewer(MOST_BUFFERS, kernel.editor.count()))?;
+    must_ask(kernel)
 }
 
-fn test_start(kernel: &Kernel, args: &Values) -> Result<(), Fault> {
+fn test_start(kernel: &Kernel, args: &Values) -> Result<(), Fault>
+    ensures { (machine : Plain) → fault_in result ≡ refusal_of machine (state_of kernel.now) StartProcess
+        (map view (items_of args.now)) }
+{
     let nil = nil();
     let process = arg(args, 0, &nil);
     let b = arg(args, 1, &nil);
     test_command(args, process, b, arg(args, 2, &nil))?;
-    must_live_or_be_named(&kernel.editor, b)?;
-    test_place(kernel, process, b)?;
-    must_ask(kernel)
+    test_place(kernel, process, b)
 }
 
-fn test_one(kernel: &Kernel, p: &Value) -> Result<(), Fault> {
+fn test_one(kernel: &Kernel, p: &Value) -> Result<(), Fault>
+    ensures { fault_in result ≡ first_fault (must_be_process (view p.now) ∷
+        process_there (state_of kernel.now) (view p.now) ∷ []) }
+{
     must_be_process(p)?;
     process_there(kernel, p)
 }
@@ -297,7 +344,10 @@ fn test_set_filter<P: Program>(
     program: &P,
     p: &Value,
     filter: &Value,
-) -> Result<(), Fault> {
+) -> Result<(), Fault>
+    ensures { fault_in result ≡ refusal_of (P.meant program.now) (state_of kernel.now) SetProcessFilter
+        (view p.now ∷ view filter.now ∷ []) }
+{
     must_be_handler(program, filter)?;
     must_be_process(p)?;
     must_be_filter_place(filter)?;
@@ -309,14 +359,20 @@ fn test_set_sentinel<P: Program>(
     program: &P,
     p: &Value,
     sentinel: &Value,
-) -> Result<(), Fault> {
+) -> Result<(), Fault>
+    ensures { fault_in result ≡ refusal_of (P.meant program.now) (state_of kernel.now) SetProcessSentinel
+        (view p.now ∷ view sentinel.now ∷ []) }
+{
     must_be_handler(program, sentinel)?;
     must_be_process(p)?;
     must_be_handler_place(sentinel)?;
     process_there(kernel, p)
 }
 
-fn test_set_buffer(kernel: &Kernel, p: &Value, b: &Value) -> Result<(), Fault> {
+fn test_set_buffer(kernel: &Kernel, p: &Value, b: &Value) -> Result<(), Fault>
+    ensures { (machine : Plain) → fault_in result ≡ refusal_of machine (state_of kernel.now) SetProcessBuffer
+        (view p.now ∷ view b.now ∷ []) }
+{
     must_be_process(p)?;
     must_be_buffer_or_nil(b)?;
     process_there(kernel, p)?;
@@ -324,16 +380,23 @@ fn test_set_buffer(kernel: &Kernel, p: &Value, b: &Value) -> Result<(), Fault> {
 }
 
 /// Whether the input of a process was closed. Where there is none it counts as closed.
-pub fn is_closed(kernel: &Kernel, p: u32) -> bool {
+pub fn is_closed(kernel: &Kernel, p: u32) -> bool
+    ensures { result ≡ is_closed (state_of kernel.now) p }
+{
     p >= kernel.processes.count() || kernel.processes.get(p).closed()
 }
 
 /// Whether so many bytes more may be sent.
-fn may_send(kernel: &Kernel, bytes: usize) -> bool {
-    bytes <= MOST_SENT && kernel.sent as usize <= MOST_SENT - bytes
+fn may_send(kernel: &Kernel, bytes: u128) -> bool
+    ensures { result ≡ nat_le ((state_of kernel.now).sent + bytes) most_sent }
+{
+    bytes <= MOST_SENT && u128::from(kernel.sent) <= MOST_SENT - bytes
 }
 
-fn test_send(kernel: &Kernel, p: &Value, text: &Value) -> Result<(), Fault> {
+fn test_send(kernel: &Kernel, p: &Value, text: &Value) -> Result<(), Fault>
+    ensures { (machine : Plain) → fault_in result ≡ refusal_of machine (state_of kernel.now) ProcessSendString
+        (view p.now ∷ view text.now ∷ []) }
+{
     must_be_process(p)?;
     let content = string(text)?;
     process_there(kernel, p)?;
@@ -349,19 +412,28 @@ fn test_send(kernel: &Kernel, p: &Value, text: &Value) -> Result<(), Fault> {
     must_ask(kernel)
 }
 
-fn test_send_eof(kernel: &Kernel, p: &Value) -> Result<(), Fault> {
+fn test_send_eof(kernel: &Kernel, p: &Value) -> Result<(), Fault>
+    ensures { (machine : Plain) → fault_in result ≡ refusal_of machine (state_of kernel.now) ProcessSendEof
+        (view p.now ∷ []) }
+{
     test_one(kernel, p)?;
     let number = process(kernel, p);
     must(is_running(kernel, number), Fault::ProcessEnded)?;
     only_where(!is_closed(kernel, number), must_ask(kernel))
 }
 
-fn test_delete(kernel: &Kernel, p: &Value) -> Result<(), Fault> {
+fn test_delete(kernel: &Kernel, p: &Value) -> Result<(), Fault>
+    ensures { (machine : Plain) → fault_in result ≡ refusal_of machine (state_of kernel.now) DeleteProcess
+        (view p.now ∷ []) }
+{
     test_one(kernel, p)?;
     only_where(is_running(kernel, process(kernel, p)), must_nest(kernel))
 }
 
-fn test_wait(kernel: &Kernel, p: &Value, rounds: &Value) -> Result<(), Fault> {
+fn test_wait(kernel: &Kernel, p: &Value, rounds: &Value) -> Result<(), Fault>
+    ensures { (machine : Plain) → fault_in result ≡ refusal_of machine (state_of kernel.now) AcceptProcessOutput
+        (view p.now ∷ view rounds.now ∷ []) }
+{
     must_be_process_or_nil(p)?;
     must_be_rounds(rounds)?;
     process_there(kernel, p)?;

@@ -61,13 +61,13 @@ pub fn is_word(v: &Value) -> bool
 }
 
 /// How many bytes a text is, coded in UTF-8 with raw bytes as they are.
-pub fn encoded_length(text: &Piece) -> usize
+pub fn encoded_length(text: &Piece) -> u128
     ensures { result ≡ length (encoded text.now) }
 {
     let mut length = 0;
     for i in 0..text.len() {
         let mut room = [0u8; 4];
-        length += text.ch(i).encode(&mut room);
+        length += text.ch(i).encode(&mut room) as u128;
     }
     length
 }
