@@ -1,10 +1,12 @@
 //! The lines of a run, as its state has the names.
-ghost use Rattle.std.specs.Prelude.{◌≡◌, ◌-◌, map, option_map};
+ghost use Rattle.std.specs.Prelude.{◌≡◌, ◌-◌, ℕ, map, option_map};
 ghost use Rattle.plain_machine.specs.Lines.{Replied, Entered, Left, KilledLast, Dumped, line};
 ghost use Rattle.ek_types.specs.Io.{Writes};
 ghost use Rattle.ek_types.specs.Listing.{items_of};
 ghost use Rattle.ek_types.specs.Property.{number_of};
 ghost use Rattle.ek_call.specs.Meaning.{view, reply_of};
+ghost use Rattle.trace_print.specs.Kinds.{kind_of as word_of};
+ghost use Rattle.trace_print.specs.Standing.{AreNamesIn};
 ghost use Rattle.kernel_steps.specs.Handlers.{kind_of};
 ghost use Rattle.kernel_run.specs.Meaning.{state_of};
 
@@ -15,7 +17,10 @@ use kernel_steps::Kind;
 use trace_print::{Kind as Word, Names};
 
 /// What stands behind the objects and symbols of values.
-fn names<'a>(kernel: &'a Kernel, symbols: &'a Symbols) -> Names<'a> {
+fn names<'a>(kernel: &'a Kernel, symbols: &'a Symbols) -> Names<'a>
+    ensures known { AreNamesIn (state_of kernel.now) result }
+    ensures symbols { result.symbols.now ≡ symbols.now }
+{
     Names {
         editor: &kernel.editor,
         processes: &kernel.processes,
@@ -24,7 +29,9 @@ fn names<'a>(kernel: &'a Kernel, symbols: &'a Symbols) -> Names<'a> {
 }
 
 /// The word of what is entered.
-fn word(kind: Kind) -> Word {
+fn word(kind: Kind) -> Word
+    ensures { (number : ℕ) × (word_of result number ≡ kind_of kind) }
+{
     match kind {
         Kind::Filter(_) => Word::Filter,
         Kind::Sentinel(_) => Word::Sentinel,
