@@ -1,3 +1,10 @@
+pub mod Parameters
+pub mod HookCalls
+pub mod ProcessCalls
+pub mod Starts
+pub mod RunNames
 pub mod Equality
 pub mod Coding
 pub mod Spoken
+pub mod Refusing
+pub mod Exchanges

@@ -1,8 +1,7 @@
 //! Blocks that save and restore (GNU Emacs Lisp Reference Manual, Excursions and Narrowing).
-ghost use Rattle.std.specs.Prelude.{◌≡◌, IfOk, OnOk, OnErr, IfSome};
+ghost use Rattle.std.specs.Prelude.{◌≡◌, ◌==◌, ◌&&◌, ◌≤◌, IfOk, OnOk, OnErr, None, Some, if◌then◌else◌};
 ghost use Rattle.text_model.specs.Marks as marks;
-ghost use Rattle.plain_machine.specs.Forms.{current, if_live, kept_of, opened, pop, put_back, restored, with_saved, saved_of, bounds_kept};
-ghost use Rattle.editor_model.specs.Editor.{here};
+ghost use Rattle.plain_machine.specs.Forms.{current, if_live, kept_of, opened, pop, put_back, restored};
 ghost use Rattle.buffer_table.specs.Kept.{editor_of};
 ghost use Rattle.buffer_table.specs.Places.{IsKeptIn};
 ghost use Rattle.narrow_region.specs.Kept.{IsOrdered, kept_of as saved_as};
@@ -15,7 +14,10 @@ use kernel_steps::{Block, Kept};
 use narrow_region::{Bounds, Saved};
 
 /// The ends of an accessible portion, or none where the whole text is accessible.
-fn ends(bounds: Bounds, size: usize) -> Option<(usize, usize)> {
+fn ends(bounds: Bounds, size: usize) -> Option<(usize, usize)>
+    ensures { result ≡
+        (if (bounds.start == 0) && (bounds.end == size) then None else Some (bounds.start, bounds.end)) }
+{
     if bounds.start == 0 && bounds.end == size {
         return None;
     }
@@ -71,30 +73,47 @@ pub fn make_current(kernel: &mut Kernel, buffer: u32)
     }
 }
 
+/// Puts point back in a buffer that lives, and makes it current.
+fn put_point(kernel: &mut Kernel, buffer: u32, point: usize)
+    ensures { state_of kernel.new ≡ put_back (marks.Excursion buffer point) (state_of kernel.old) }
+{
+    if kernel.editor.is_live(buffer) {
+        kernel.editor.set_current(buffer);
+        kernel.editor.goto_place(buffer, point);
+    }
+}
+
+/// Makes the whole text of a buffer accessible that lives.
+fn put_whole(kernel: &mut Kernel, buffer: u32)
+    ensures { state_of kernel.new ≡ put_back (marks.Restriction buffer None) (state_of kernel.old) }
+{
+    if kernel.editor.is_live(buffer) {
+        kernel.editor.widen(buffer);
+    }
+}
+
+/// Makes a part of the text of a buffer accessible that lives.
+fn put_portion(kernel: &mut Kernel, buffer: u32, start: usize, end: usize)
+    requires place { IsKeptIn (editor_of kernel.old.editor) (marks.Restriction buffer (Some (start, end))) }
+    requires ordered { start ≤ end }
+    ensures { state_of kernel.new ≡
+        put_back (marks.Restriction buffer (Some (start, end))) (state_of kernel.old) }
+{
+    if kernel.editor.is_live(buffer) {
+        kernel.editor.narrow(buffer, start, end);
+    }
+}
+
 /// Puts back what was kept, where its buffer lives.
 fn put_back(kernel: &mut Kernel, saved: Saved)
     requires place { IsKeptIn (editor_of kernel.old.editor) (saved_as saved) }
     requires ordered { IsOrdered (saved_as saved) }
     ensures { state_of kernel.new ≡ put_back (saved_as saved) (state_of kernel.old) }
 {
-    let editor = &mut kernel.editor;
     match saved {
-        Saved::Excursion(buffer, point) => {
-            if editor.is_live(buffer) {
-                editor.set_current(buffer);
-                editor.goto_place(buffer, point);
-            }
-        }
-        Saved::Restriction(buffer, None) => {
-            if editor.is_live(buffer) {
-                editor.widen(buffer);
-            }
-        }
-        Saved::Restriction(buffer, Some((start, end))) => {
-            if editor.is_live(buffer) {
-                editor.narrow(buffer, start, end);
-            }
-        }
+        Saved::Excursion(buffer, point) => put_point(kernel, buffer, point),
+        Saved::Restriction(buffer, None) => put_whole(kernel, buffer),
+        Saved::Restriction(buffer, Some((start, end))) => put_portion(kernel, buffer, start, end),
         Saved::Change(_, _, _) => {}
     }
 }

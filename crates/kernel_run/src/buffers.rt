@@ -1,7 +1,7 @@
 //! Buffers that are killed, with their processes.
-ghost use Rattle.std.specs.Prelude.{◌≡◌, length, nat_lt, IfOk, OnOk, OnErr};
-ghost use Rattle.plain_machine.specs.Arguments.{running_in};
-ghost use Rattle.plain_machine.specs.Refusals.{must_be_replaceable};
+ghost use Rattle.std.specs.Prelude.{◌≡◌, ◌&&◌, length, nat_lt, IfOk, OnOk, OnErr};
+ghost use Rattle.plain_machine.specs.Arguments.{running_in, runs, stands_in};
+ghost use Rattle.plain_machine.specs.Refusals.{is_last, must_be_replaceable};
 ghost use Rattle.ek_call.specs.Meaning.{reply_of};
 ghost use Rattle.buffer_table.specs.Kept.{editor_of};
 ghost use Rattle.editor_prims.specs.Meaning.{fault_in};
@@ -16,7 +16,9 @@ use ek_types::Mem;
 use process_table::{Process, Status};
 
 /// Whether a buffer is the only one that lives.
-fn is_last(editor: &Editor, buffer: u32) -> bool {
+fn is_last(editor: &Editor, buffer: u32) -> bool
+    ensures { result ≡ is_last (editor_of editor.now) buffer }
+{
     for other in 0..editor.count() {
         if other != buffer && editor.is_live(other) {
             return false;
@@ -37,7 +39,9 @@ pub fn must_be_replaceable(editor: &Editor, buffer: u32) -> Result<(), Fault>
 }
 
 /// Whether a process runs and has this buffer.
-fn runs_in(process: &Process, buffer: u32) -> bool {
+fn runs_in(process: &Process, buffer: u32) -> bool
+    ensures { result ≡ (runs process.now.status && stands_in buffer process.now) }
+{
     matches!(process.status(), Status::Run) && process.buffer() == Some(buffer)
 }
 

@@ -1,13 +1,13 @@
 //! Changes of texts: their ends are kept while hook functions run, and they are made there.
-ghost use Rattle.std.specs.Prelude.{◌≡◌, map, IfOk, OnOk, OnErr};
-ghost use Rattle.text_model.specs.Properties.{Cell};
-ghost use Rattle.editor_model.specs.Editor.{Editor as Meant};
-ghost use Rattle.editor_model.specs.Commits.{commit};
-ghost use Rattle.plain_machine.specs.Forms.{at_kept, saved_of};
-ghost use Rattle.plain_machine.specs.Handling.{mark_of_process, process_buffer_of};
+ghost use Rattle.std.specs.Prelude.{◌≡◌, ◌↔◌, map, IfOk, OnOk, OnErr, IsTrue};
+ghost use Rattle.text_model.specs.Marks.{Pending};
+ghost use Rattle.editor_model.specs.Values.{at_place};
+ghost use Rattle.plain_machine.specs.Forms.{at_kept, popped, saved_of};
 ghost use Rattle.ek_types.specs.Listing.{items_of};
 ghost use Rattle.ek_call.specs.Meaning.{view};
-ghost use Rattle.editor_prims.specs.Meaning.{change_of, committed_of, prepared_of};
+ghost use Rattle.buffer_table.specs.Kept.{editor_of};
+ghost use Rattle.buffer_table.specs.Places.{IsKeptPlace};
+ghost use Rattle.editor_prims.specs.Meaning.{IsFailed, change_of, committed_of};
 ghost use Rattle.kernel_steps.specs.Changes.{begun, behind_commit, done_at, ends_behind, ends_of};
 ghost use Rattle.kernel_run.specs.Meaning.{state_of};
 
@@ -19,7 +19,10 @@ use narrow_region::Saved;
 use std::alloc::Global;
 
 /// Whether the ends of a change lie in the text of a live buffer, in their order.
-fn fits(kernel: &Kernel, change: &Change) -> bool {
+fn fits(kernel: &Kernel, change: &Change) -> bool
+    ensures { IsTrue result ↔ IsKeptPlace (editor_of kernel.now.editor)
+        (Pending change.now.buffer change.now.from change.now.to) }
+{
     kernel.editor.is_live(change.buffer)
         && change.from <= change.to
         && change.to <= kernel.editor.size(change.buffer)
@@ -39,19 +42,36 @@ pub fn keep_ends(kernel: &mut Kernel, change: &Change) -> Mem<()>
         .push_saved(Saved::Change(change.buffer, change.from, change.to))
 }
 
+/// The ends of a change as they were kept, or its own where none are.
+fn kept_ends(kernel: &Kernel, change: &Change) -> (usize, usize)
+    ensures { record (change_of change.now) { from = result.0; to = result.1 } ≡
+        at_kept (change_of change.now) (saved_of (state_of kernel.now)) }
+{
+    match kernel.editor.last_saved() {
+        Some(Saved::Change(_, from, to)) => (from, to),
+        _ => (change.from, change.to),
+    }
+}
+
 /// Makes a change where its ends were kept, and leaves them kept. A refusal leaves all as it was.
 fn commit_there(kernel: &mut Kernel, change: &Change) -> Mem<Committed>
     ensures ok { IfOk result (λ d. record { editor = (state_of kernel.new).editor; committed = committed_of d } ≡
         done_at (change_of change.now) (state_of kernel.old)) }
-    ensures rest { IfOk result (λ d. state_of kernel.new ≡
+    ensures rest { OnOk result (state_of kernel.new ≡
         record (state_of kernel.old) { editor = (state_of kernel.new).editor }) }
+    ensures refused { IfOk result (λ d. IsFailed (committed_of d) →
+        state_of kernel.new ≡ state_of kernel.old) }
     ensures err { OnErr result (state_of kernel.new ≡ state_of kernel.old) }
 {
-    let (from, to) = match kernel.editor.last_saved() {
-        Some(Saved::Change(_, from, to)) => (from, to),
-        _ => (change.from, change.to),
-    };
+    let (from, to) = kept_ends(kernel, change);
     commit_at(&mut kernel.editor, change, from, to)
+}
+
+/// Keeps the last kept place no longer.
+fn drop_kept(kernel: &mut Kernel)
+    ensures { state_of kernel.new ≡ popped (state_of kernel.old) }
+{
+    let _kept = kernel.editor.pop_saved();
 }
 
 /// Makes a change at its kept ends, which are kept no longer. A refusal leaves all as it was.
@@ -63,12 +83,14 @@ pub fn commit(kernel: &mut Kernel, change: &Change) -> Mem<Committed>
     ensures err { OnErr result (state_of kernel.new ≡ state_of kernel.old) }
 {
     let committed = commit_there(kernel, change)?;
-    let _kept = kernel.editor.pop_saved();
+    drop_kept(kernel);
     Ok(committed)
 }
 
 /// A place as the position that a hook function gets. One that no value can hold counts as want of memory.
-fn position(place: usize) -> Mem<Value> {
+fn position(place: usize) -> Mem<Value>
+    ensures { IfOk result (λ v. view v ≡ at_place place) }
+{
     values::at_place(place)
 }
 

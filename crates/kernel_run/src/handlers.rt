@@ -1,14 +1,20 @@
 //! Handlers: what entering and leaving them does, and what the default ones put in.
-ghost use Rattle.std.specs.Prelude.{◌≡◌, ◌∷◌, ◌+◌, map, IfOk, OnOk, OnErr, IfSome, IfNone, None, Some, option_map};
-ghost use Rattle.text_model.specs.Properties.{Cell};
-ghost use Rattle.plain_machine.specs.State.{Program as Plain};
-ghost use Rattle.plain_machine.specs.Handling.{bound_params, in_scope, left_state, mark_of_process, plain_text, process_buffer_of, second};
+ghost use Rattle.std.specs.Prelude.{◌≡◌, [], ◌++◌, ◌+◌, map, IfOk, OnOk, OnErr, option_map};
+ghost use Rattle.text_model.specs.Characters.{Scalar};
+ghost use Rattle.plain_machine.specs.State.{change_process};
+ghost use Rattle.plain_machine.specs.Lines.{OfFilter};
+ghost use Rattle.plain_machine.specs.Forms.{if_live};
+ghost use Rattle.plain_machine.specs.Hooks.{set_hook_list};
+ghost use Rattle.plain_machine.specs.Handling.{bound_params, in_scope, left_state, plain_text, process_buffer_of, second, sentinel_words, unlisted};
+ghost use Rattle.change_hooks.specs.Hooked.{hook};
 ghost use Rattle.ek_types.specs.Listing.{items_of};
 ghost use Rattle.ek_types.specs.Property.{number_of};
 ghost use Rattle.ek_call.specs.Meaning.{view};
 ghost use Rattle.editor_prims.specs.Meaning.{prepared_of};
 ghost use Rattle.handler_code.specs.Calls.{allowed as may, call_asked};
-ghost use Rattle.kernel_steps.specs.Handlers.{default_prepared, default_state, default_text, ended_state, hook_names, kind_of};
+ghost use Rattle.handler_code.specs.Counts.{AreMade};
+ghost use Rattle.kernel_steps.specs.Handlers.{default_prepared, default_state, ended_state, hook_names, kind_of};
+ghost use Rattle.kernel_run.specs.Defaults.{name_at, text_prepared};
 ghost use Rattle.kernel_run.specs.Meaning.{state_of};
 
 use crate::blocks::make_current;
@@ -44,8 +50,20 @@ pub fn leave(kernel: &mut Kernel, current: u32)
     make_current(kernel, current);
 }
 
+/// Takes a process from the list.
+fn unlist(kernel: &mut Kernel, p: u32)
+    ensures { state_of kernel.new ≡ change_process p unlisted (state_of kernel.old) }
+{
+    if p < kernel.processes.count() {
+        kernel.processes.unlist(p);
+    }
+}
+
 /// Empties a list of hook functions, if its buffer lives.
-fn clear_hooks(kernel: &mut Kernel, buffer: u32, before: bool) {
+fn clear_hooks(kernel: &mut Kernel, buffer: u32, before: bool)
+    ensures { state_of kernel.new ≡
+        if_live (state_of kernel.old) buffer (set_hook_list buffer (hook before) [] (state_of kernel.old)) }
+{
     if kernel.editor.is_live(buffer) {
         kernel.hooks.clear(buffer, before);
     }
@@ -57,22 +75,10 @@ pub fn end_handler(kernel: &mut Kernel, kind: Kind, faulted: bool)
     ensures { state_of kernel.new ≡ ended_state (kind_of kind) faulted (state_of kernel.old) }
 {
     match kind {
-        Kind::Sentinel(p) => {
-            if p < kernel.processes.count() {
-                kernel.processes.unlist(p);
-            }
-        }
-        Kind::Before(buffer) => {
-            if faulted {
-                clear_hooks(kernel, buffer, true);
-            }
-        }
-        Kind::After(buffer) => {
-            if faulted {
-                clear_hooks(kernel, buffer, false);
-            }
-        }
-        Kind::Filter(_) => {}
+        Kind::Sentinel(p) => unlist(kernel, p),
+        Kind::Before(buffer) if faulted => clear_hooks(kernel, buffer, true),
+        Kind::After(buffer) if faulted => clear_hooks(kernel, buffer, false),
+        Kind::Filter(_) | Kind::Before(_) | Kind::After(_) => {}
     }
 }
 
@@ -88,7 +94,9 @@ pub fn hooks(kernel: &Kernel, kind: Kind) -> Mem<SymList>
 }
 
 /// What was made so far.
-fn made<P: Program>(kernel: &Kernel, program: &P) -> Made {
+fn made<P: Program>(kernel: &Kernel, program: &P) -> Made
+    ensures { AreMade result (P.meant program.now) (state_of kernel.now) }
+{
     Made {
         symbols: program.symbols().count(),
         buffers: kernel.editor.count(),
@@ -117,7 +125,9 @@ fn live_buffer(kernel: &Kernel, p: u32) -> Option<u32>
     if p >= kernel.processes.count() {
         return None;
     }
-    let buffer = kernel.processes.get(p).buffer()?;
+    let Some(buffer) = kernel.processes.get(p).buffer() else {
+        return None;
+    };
     if kernel.editor.is_live(buffer) {
         Some(buffer)
     } else {
@@ -126,7 +136,9 @@ fn live_buffer(kernel: &Kernel, p: u32) -> Option<u32>
 }
 
 /// Puts characters behind others. A refusal leaves a part of them there.
-fn append(text: &mut Chars, more: &Chars) -> Mem<()> {
+fn append(text: &mut Chars, more: &Chars) -> Mem<()>
+    ensures { OnOk result (text.new.items ≡ text.old.items ++ more.now.items) }
+{
     for i in 0..more.len() {
         text.push(more.at(i))?;
     }
@@ -134,7 +146,9 @@ fn append(text: &mut Chars, more: &Chars) -> Mem<()> {
 }
 
 /// Puts characters of one byte each behind others. A refusal leaves a part of them there.
-fn append_ascii(text: &mut Chars, words: &[u8]) -> Mem<()> {
+fn append_ascii(text: &mut Chars, words: &[u8]) -> Mem<()>
+    ensures { OnOk result (text.new.items ≡ text.old.items ++ map Scalar words.now) }
+{
     for byte in words {
         text.push(Ch::Scalar(char::from(*byte)))?;
     }
@@ -142,7 +156,10 @@ fn append_ascii(text: &mut Chars, words: &[u8]) -> Mem<()> {
 }
 
 /// Puts what a handler was told behind other characters: the second of its arguments.
-fn append_told(text: &mut Chars, args: &Values) -> Mem<()> {
+fn append_told(text: &mut Chars, args: &Values) -> Mem<()>
+    ensures { OnOk result (text.new.items ≡
+        text.old.items ++ map (λ c. c.0) (second (map view (items_of args.now)))) }
+{
     match argument(args, 1) {
         Some(Value::Str(told)) => append(text, told.text()),
         _ => Ok(()),
@@ -158,20 +175,35 @@ fn filter_text(alloc: Global, args: &Values) -> Mem<Piece>
     Ok(Piece::plain(alloc, text))
 }
 
+/// Puts the name of a process behind other characters, if it was made. A refusal leaves a part of it there.
+fn append_name(text: &mut Chars, kernel: &Kernel, p: u32) -> Mem<()>
+    ensures { OnOk result (text.new.items ≡ text.old.items ++ name_at (state_of kernel.now) p) }
+{
+    if p < kernel.processes.count() {
+        append(text, kernel.processes.get(p).name())
+    } else {
+        Ok(())
+    }
+}
+
 /// What the default sentinel puts in: a line with the name of the process and what it was told.
-fn sentinel_text(kernel: &Kernel, p: u32, args: &Values) -> Mem<Piece> {
+fn sentinel_text(kernel: &Kernel, p: u32, args: &Values) -> Mem<Piece>
+    ensures { IfOk result (λ text. text ≡ sentinel_words (state_of kernel.now) p
+        (plain_text (second (map view (items_of args.now))))) }
+{
     let mut text = Chars::new(kernel.alloc);
     append_ascii(&mut text, b"\nProcess ")?;
-    if p < kernel.processes.count() {
-        append(&mut text, kernel.processes.get(p).name())?;
-    }
+    append_name(&mut text, kernel, p)?;
     append_ascii(&mut text, b" ")?;
     append_told(&mut text, args)?;
     Ok(Piece::plain(kernel.alloc, text))
 }
 
 /// Prepares the insertion of a text at the mark of a process, whose buffer becomes current; nothing without a live buffer.
-fn prepare_text(kernel: &mut Kernel, p: u32, text: Piece) -> Prepared {
+fn prepare_text(kernel: &mut Kernel, p: u32, text: Piece) -> Prepared
+    ensures prepared { prepared_of result ≡ text_prepared (state_of kernel.old) p text }
+    ensures state { state_of kernel.new ≡ default_state (OfFilter p) (state_of kernel.old) }
+{
     let Some(buffer) = live_buffer(kernel, p) else {
         return Prepared::Nothing(Value::Nil);
     };

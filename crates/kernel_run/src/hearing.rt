@@ -1,6 +1,6 @@
 //! Asking the children of processes, and killing them.
-ghost use Rattle.std.specs.Prelude.{◌≡◌, ◌<◌, true, length, map, IsSome, IfOk, OnOk, option_map};
-ghost use Rattle.plain_machine.specs.Items.{Waiting};
+ghost use Rattle.std.specs.Prelude.{◌≡◌, ◌<◌, true, List, IsSome, IfOk, OnOk};
+ghost use Rattle.plain_machine.specs.Items.{Item, Waiting};
 ghost use Rattle.plain_machine.specs.Arguments.{is_running};
 ghost use Rattle.ek_types.specs.Io.{SinkState};
 ghost use Rattle.handler_run.specs.Entries.{entering as entering_one};
@@ -10,14 +10,15 @@ ghost use Rattle.kernel_steps.specs.Waits.{Hears, IsAsked, IsHeardIf, Kills, ent
 ghost use Rattle.kernel_run.specs.Meaning.{state_of};
 
 use crate::kernel::Kernel;
-use handler_run::Entry as Entered;
-use host_link::Host;
+use handler_run::{Entry as Entered, ended, ready};
+use host_link::{Ended, Host};
 use kernel_steps::{Entry, Heard, Kind, Program, Stop};
 use process_table::Status;
 
 /// What is entered at process `p`.
 fn entry_of(p: u32, entered: Entered) -> Option<Entry>
     ensures heard { IsHeardIf result }
+    ensures entering { (rest : List Item) → entering result rest ≡ entering_one p entered rest }
 {
     match entered {
         Entered::Filter(handler, args) => Some(Entry {
@@ -83,6 +84,9 @@ pub fn kill<P: Program, H: Host>(
     if !is_running(kernel, p) {
         return Ok(None);
     }
-    let entered = handler_run::kill(kernel.alloc, &mut kernel.processes, host, p)?;
+    let process = kernel.processes.get(p);
+    let slot = ready(kernel.alloc, process)?;
+    host.kill(process.child());
+    let entered = ended(&mut kernel.processes, p, slot, &Ended::Signal);
     Ok(entry_of(p, entered))
 }

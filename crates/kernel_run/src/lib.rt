@@ -10,6 +10,7 @@ mod handlers;
 mod hearing;
 mod kernel;
 mod manner;
+mod native_names;
 mod place;
 mod program;
 mod questions;

@@ -1,14 +1,14 @@
 //! What is fixed for a run.
-ghost use Rattle.std.specs.Prelude.{◌≡◌, ◌<◌, ◌^◌, ◌||◌, ℕ, List, map, length, is_some, IfOk, IfSome, Option};
-ghost use Rattle.plain_machine.specs.Arguments.{handler_def, native_from};
+ghost use Rattle.std.specs.Prelude.{◌≡◌, map, option_map, IfOk};
+ghost use Rattle.plain_machine.specs.Arguments.{handler_def};
 ghost use Rattle.plain_machine.specs.Symbols.{with_names};
 ghost use Rattle.ek_types.specs.Listing.{items_of};
-ghost use Rattle.ek_types.specs.Property.{number_of};
 ghost use Rattle.ek_call.specs.Meaning.{handler_of, script_of};
 ghost use Rattle.kernel_run.specs.Whole.{meant_of, program_with};
 
+use crate::native_names::NativeNames;
 use ek_call::{Forms, HandlerDef, HandlerDefs, Replies, Script, Values};
-use ek_types::{ListOf, Mem, NoMemory, Sym, SymList, Symbols};
+use ek_types::{Mem, NoMemory, Sym, Symbols};
 use handler_code::{Natives, Next};
 use kernel_steps::Program;
 use std::alloc::Global;
@@ -22,8 +22,7 @@ pub struct RunProgram<'a, N: Natives> {
     symbols: Symbols,
     handlers: &'a HandlerDefs,
     natives: &'a N,
-    /// The symbols of the natives, in their order.
-    names: SymList,
+    names: NativeNames,
 }
 
 /// The symbols of a script, and behind them the names of the natives.
@@ -40,15 +39,6 @@ fn symbols_with<N: Natives>(script: &Script, natives: &N) -> Mem<Symbols>
     Ok(symbols)
 }
 
-/// The symbols of the natives.
-fn names_in<N: Natives>(alloc: Global, symbols: &Symbols, natives: &N) -> Mem<SymList> {
-    let mut names = ListOf::new(alloc);
-    for i in 0..natives.count() {
-        names.push(symbols.find(natives.name(i)).unwrap_or(Sym(0)))?;
-    }
-    Ok(names)
-}
-
 impl<'a, N: Natives> RunProgram<'a, N> {
     /// The program that a script makes with some natives. 2^31 names of a script or more count as want of memory.
     pub fn new(alloc: Global, script: &'a Script, natives: &'a N) -> Mem<RunProgram<'a, N>>
@@ -56,7 +46,7 @@ impl<'a, N: Natives> RunProgram<'a, N> {
             program_with N.names N.does (script_of script.now) natives.now) }
     {
         let symbols = symbols_with(script, natives)?;
-        let names = names_in(alloc, &symbols, natives)?;
+        let names = NativeNames::new(alloc, &symbols, natives)?;
         Ok(RunProgram {
             symbols,
             handlers: &script.handlers,
@@ -66,21 +56,14 @@ impl<'a, N: Natives> RunProgram<'a, N> {
     }
 
     /// The script's handler of a name.
-    fn handler(&self, name: Sym) -> Option<&HandlerDef> {
+    fn handler(&self, name: Sym) -> Option<&HandlerDef>
+        ensures { option_map (λ d. handler_of d.now) result ≡
+            handler_def (map handler_of (items_of self.now.handlers.now)) name.0 }
+    {
         for i in 0..self.handlers.len() {
             let handler = self.handlers.at(i);
             if handler.name.0 == name.0 {
                 return Some(handler);
-            }
-        }
-        None
-    }
-
-    /// The least number of a native of a name.
-    fn native_of(&self, name: Sym) -> Option<u32> {
-        for i in 0..self.names.len() {
-            if self.names.at(i).0 == name.0 {
-                return Some(i as u32);
             }
         }
         None
@@ -112,11 +95,11 @@ impl<N: Natives> Program for RunProgram<'_, N> {
     }
 
     fn is_handler(&self, name: Sym) -> bool {
-        self.handler(name).is_some() || self.native_of(name).is_some()
+        self.handler(name).is_some() || self.names.find(name).is_some()
     }
 
     fn native(&self, name: Sym) -> u32 {
-        self.native_of(name).unwrap_or(0)
+        self.names.find(name).unwrap_or(0)
     }
 
     fn next(&self, native: u32, args: &Values, past: &Replies) -> Mem<Next> {

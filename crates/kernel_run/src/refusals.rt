@@ -1,12 +1,12 @@
 //! What the calls on hooks and processes refuse, and in which order: void names, types, what is absent or dead, ranges,
 //! states, limits, depth, exchanges.
-ghost use Rattle.std.specs.Prelude.{◌≡◌, ◌+◌, ◌&&◌, ◌∷◌, [], map, drop, length, nat_le, option_map};
-ghost use Rattle.editor_model.specs.Values.{Prim, WrongType, ArgsOutOfRange, AddHook, RemoveHook, KillBuffer, StartProcess, SetProcessFilter, SetProcessSentinel, SetProcessBuffer, ProcessSendString, ProcessSendEof, DeleteProcess, AcceptProcessOutput};
+ghost use Rattle.std.specs.Prelude.{◌≡◌, ◌+◌, ◌&&◌, ◌∷◌, [], not, map, drop, length, nat_le, option_map};
+ghost use Rattle.editor_model.specs.Values.{Prim, WrongType, ArgsOutOfRange, ProcessEnded, TooMany, AddHook, RemoveHook, KillBuffer, StartProcess, SetProcessFilter, SetProcessSentinel, SetProcessBuffer, ProcessSendString, ProcessSendEof, DeleteProcess, AcceptProcessOutput};
 ghost use Rattle.editor_model.specs.Answers.{first_fault, refuse};
 ghost use Rattle.editor_model.specs.Limits.{most_buffers, most_markers};
 ghost use Rattle.editor_model.specs.Arguments.{buffer_there, must_be_fewer, must_be_name, must_be_short};
 ghost use Rattle.plain_machine.specs.Refusals.{is_rounds, may_ask, most_processes, most_rounds, most_sent, must_ask, must_be_handler, must_be_process, must_be_process_or_nil, must_be_word, must_live_or_be_named, must_nest, only_where, process_there, rounds_of};
-ghost use Rattle.plain_machine.specs.Arguments.{is_closed, is_filter_place, is_handler_place, is_new_name, is_process_buffer};
+ghost use Rattle.plain_machine.specs.Arguments.{encoded, is_closed, is_filter_place, is_handler_place, is_new_name, is_process_buffer, is_running};
 ghost use Rattle.plain_machine.specs.Hooks.{hook_added, is_hook};
 ghost use Rattle.plain_machine.specs.State.{State, Program as Plain};
 ghost use Rattle.ek_types.specs.Listing.{items_of};
@@ -31,6 +31,7 @@ use editor_prims::limits::{MOST_BUFFERS, MOST_MARKERS, must_be_fewer, must_be_sh
 use editor_prims::objects::{self, find};
 use editor_prims::{arg, nil};
 use ek_call::{Fault, Primitive, Value, Values};
+use ek_types::Piece;
 use kernel_steps::Program;
 
 /// The most exchanges of a run but for kills.
@@ -393,6 +394,25 @@ fn may_send(kernel: &Kernel, bytes: u128) -> bool
     bytes <= MOST_SENT && u128::from(kernel.sent) <= MOST_SENT - bytes
 }
 
+/// Whether a process runs and its input wasn't closed.
+fn is_open(kernel: &Kernel, p: u32) -> bool
+    ensures { result ≡ (is_running (state_of kernel.now) p && not (is_closed (state_of kernel.now) p)) }
+{
+    is_running(kernel, p) && !is_closed(kernel, p)
+}
+
+/// The tests of a text that isn't empty.
+fn must_send(kernel: &Kernel, p: u32, text: &Piece) -> Result<(), Fault>
+    ensures { fault_in result ≡ first_fault
+        (refuse ProcessEnded (is_running (state_of kernel.now) p && not (is_closed (state_of kernel.now) p)) ∷
+        refuse TooMany (nat_le ((state_of kernel.now).sent + length (encoded text.now)) most_sent) ∷
+        must_ask (state_of kernel.now) ∷ []) }
+{
+    must(is_open(kernel, p), Fault::ProcessEnded)?;
+    must(may_send(kernel, encoded_length(text)), Fault::TooMany)?;
+    must_ask(kernel)
+}
+
 fn test_send(kernel: &Kernel, p: &Value, text: &Value) -> Result<(), Fault>
     ensures { (machine : Plain) → fault_in result ≡ refusal_of machine (state_of kernel.now) ProcessSendString
         (view p.now ∷ view text.now ∷ []) }
@@ -403,13 +423,7 @@ fn test_send(kernel: &Kernel, p: &Value, text: &Value) -> Result<(), Fault>
     if content.is_empty() {
         return Ok(());
     }
-    let number = process(kernel, p);
-    must(
-        is_running(kernel, number) && !is_closed(kernel, number),
-        Fault::ProcessEnded,
-    )?;
-    must(may_send(kernel, encoded_length(content)), Fault::TooMany)?;
-    must_ask(kernel)
+    must_send(kernel, process(kernel, p), content)
 }
 
 fn test_send_eof(kernel: &Kernel, p: &Value) -> Result<(), Fault>

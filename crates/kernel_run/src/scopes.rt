@@ -1,6 +1,7 @@
 //! The parameters of the handlers that are running.
-ghost use Rattle.std.specs.Prelude.{◌≡◌, ℕ, [], ◌∷◌, true, map, drop, is_some, option_map, IfOk, OnOk, OnErr};
-ghost use Rattle.editor_model.specs.Values.{Value as Meant};
+ghost use Rattle.std.specs.Prelude.{◌≡◌, ◌==◌, ℕ, [], ◌∷◌, true, map, drop, is_some, option_map, IfOk, OnOk, OnErr};
+ghost use Rattle.std.specs.List.{position};
+ghost use Rattle.editor_model.specs.Arguments.{arg};
 ghost use Rattle.editor_model.specs.Editor.{register, with_register};
 ghost use Rattle.plain_machine.specs.Handling.{bound_params};
 ghost use Rattle.ek_types.specs.Listing.{items_of};
@@ -9,7 +10,8 @@ ghost use Rattle.ek_call.specs.Meaning.{view};
 ghost use Rattle.buffer_table.specs.Kept.{registers_of};
 ghost use Rattle.kernel_run.specs.Meaning.{innermost, scopes_of};
 
-use ek_call::{Value, Values, argument};
+use editor_prims::{arg, nil};
+use ek_call::{Value, Values};
 use ek_types::{Copied, Mem, Sym};
 use std::alloc::Global;
 use std::mem;
@@ -23,14 +25,46 @@ pub struct Scopes {
     list: Vec<Scope>,
 }
 
-/// Where a parameter stands in a scope.
-fn place_of(scope: &[(Sym, Value)], name: Sym) -> Option<usize> {
+/// The value of a parameter of a scope, if it has one of this name.
+fn value_in(scope: &[(Sym, Value)], name: Sym) -> Option<&Value>
+    ensures { option_map (λ v. view v.now) result ≡ register (registers_of scope.now) name.0 }
+{
     for i in 0..scope.len() {
-        if scope[i].0.0 == name.0 {
-            return Some(i);
+        let entry = &scope[i];
+        if entry.0.0 == name.0 {
+            return Some(&entry.1);
         }
     }
     None
+}
+
+/// Where a parameter stands in a scope.
+fn place_of(scope: &[(Sym, Value)], name: Sym) -> Option<usize>
+    ensures { result ≡ position (λ entry. number_of entry.0 == name.0) scope.now }
+{
+    scope.iter().position(|entry| entry.0.0 == name.0)
+}
+
+/// Gives a parameter of a scope a value. It has one of this name.
+fn set_in(scope: &mut Scope, name: Sym, value: Value)
+    requires { is_some (register (registers_of scope.old.items) name.0) ≡ true }
+    ensures { registers_of scope.new.items ≡
+        with_register name.0 (view value) (registers_of scope.old.items) }
+{
+    match place_of(scope.as_slice(), name) {
+        Some(i) => {
+            let _before = mem::replace(&mut scope[i], (name, value));
+        }
+        None => unreachable!(),
+    }
+}
+
+/// An argument, by its place; a missing one is nil.
+fn given(args: &Values, i: usize) -> Mem<Value>
+    ensures { IfOk result (λ v. view v ≡ arg (map view (items_of args.now)) i) }
+{
+    let nil = nil();
+    arg(args, i, &nil).copy()
 }
 
 /// The parameters with their values: a missing argument is nil, and further ones are dropped.
@@ -40,11 +74,7 @@ fn bound(alloc: Global, params: &[Sym], args: &Values) -> Mem<Scope>
 {
     let mut scope = Vec::new(alloc);
     for i in 0..params.len() {
-        let value = match argument(args, i) {
-            Some(value) => value.copy()?,
-            None => Value::Nil,
-        };
-        scope.push((params[i], value))?;
+        scope.push((params[i], given(args, i)?))?;
     }
     Ok(scope)
 }
@@ -63,9 +93,8 @@ impl Scopes {
     pub fn value(&self, name: Sym) -> Option<&Value>
         ensures { option_map (λ v. view v.now) result ≡ register (innermost (scopes_of self.now)) name.0 }
     {
-        let scope = self.list.last()?;
-        match place_of(scope.as_slice(), name) {
-            Some(i) => Some(&scope[i].1),
+        match self.list.last() {
+            Some(scope) => value_in(scope.as_slice(), name),
             None => None,
         }
     }
@@ -77,12 +106,7 @@ impl Scopes {
             with_register name.0 (view value) (innermost (scopes_of self.old)) ∷ drop 1 (scopes_of self.old) }
     {
         match self.list.last_mut() {
-            Some(scope) => match place_of(scope.as_slice(), name) {
-                Some(i) => {
-                    let _before = mem::replace(&mut scope[i], (name, value));
-                }
-                None => unreachable!(),
-            },
+            Some(scope) => set_in(scope, name, value),
             None => unreachable!(),
         }
     }

@@ -1,13 +1,13 @@
 //! Calls on hooks and processes that ask the host nothing and enter nothing.
-ghost use Rattle.std.specs.Prelude.{◌≡◌, ◌∷◌, ◌<◌, ◌==◌, true, false, not, map, filter, length, if◌then◌else◌, IfOk, OnOk, OnErr, option_map, slice_get, Some};
+ghost use Rattle.std.specs.Prelude.{◌≡◌, [], ◌∷◌, ◌++◌, ◌≤◌, ◌==◌, true, false, not, map, filter, length, if◌then◌else◌, IfOk, OnOk, OnErr, option_map, slice_get, Some};
 ghost use Rattle.std.specs.List.{list_any};
-ghost use Rattle.editor_model.specs.Values.{Sym as symbol, AddHook, RemoveHook, SetProcessFilter, SetProcessSentinel, SetProcessBuffer, list};
+ghost use Rattle.editor_model.specs.Values.{Sym as symbol, AddHook, RemoveHook, SetProcessFilter, SetProcessSentinel, SetProcessBuffer, TheProcess, list};
 ghost use Rattle.editor_model.specs.Arguments.{arg, symbol_of};
-ghost use Rattle.plain_machine.specs.State.{Process as Meant};
+ghost use Rattle.plain_machine.specs.State.{change_process, process};
 ghost use Rattle.plain_machine.specs.Arguments.{filter_of, sentinel_of};
-ghost use Rattle.plain_machine.specs.Calls.{buffer_value, exit_value, get_process, listed, status_symbol, told_of, told_of_one};
+ghost use Rattle.plain_machine.specs.Calls.{buffer_value, exit_value, get_process, listed, of_buffer, status_symbol, told_of, told_of_one, with_filter, with_sentinel};
 ghost use Rattle.plain_machine.specs.Arguments.{filter_value, sentinel_value};
-ghost use Rattle.plain_machine.specs.Hooks.{before_change_functions, hook_added, hook_here, hook_removed};
+ghost use Rattle.plain_machine.specs.Hooks.{before_change_functions, hook_added, hook_removed, most_hooks};
 ghost use Rattle.process_table.specs.Meaning.{filter_of as filter_meant, status_of};
 ghost use Rattle.ek_types.specs.Listing.{items_of};
 ghost use Rattle.ek_types.specs.Property.{number_of};
@@ -16,6 +16,7 @@ ghost use Rattle.ek_call.specs.Primitives.{prim_of};
 ghost use Rattle.kernel_steps.specs.Processes.{IsSilent, set_by, told_by};
 ghost use Rattle.kernel_steps.specs.Waits.{Passes};
 ghost use Rattle.kernel_run.specs.Meaning.{state_of};
+ghost use Rattle.kernel_run.specs.Setting.{added};
 
 use crate::kernel::Kernel;
 use crate::questions::{process, process_buffer};
@@ -47,32 +48,74 @@ pub fn is_before(hook: &Value) -> bool
     symbol_of(hook).0 == BEFORE_CHANGE_FUNCTIONS
 }
 
-/// The hook functions of the current buffer with one in front, unless it stands there, as values.
-fn with_hook(names: &SymList, name: Sym) -> Mem<Values> {
-    let mut values = ListOf::new(names.allocator());
-    if !names.as_slice().iter().any(|n| n.0 == name.0) {
-        values.push(Value::Sym(name))?;
-    }
-    for i in 0..names.len() {
-        values.push(Value::Sym(*names.at(i)))?;
-    }
-    Ok(values)
+/// Whether a name stands among others.
+fn holds(names: &[Sym], name: Sym) -> bool
+    ensures { result ≡ list_any (λ n. n.0 == name.0) names.now }
+{
+    names.iter().any(|n| n.0 == name.0)
 }
 
-/// The hook functions of the current buffer without one, as values.
-fn without_hook(names: &SymList, name: Sym) -> Mem<Values> {
-    let mut values = ListOf::new(names.allocator());
-    for i in 0..names.len() {
-        let other = *names.at(i);
-        if other.0 != name.0 {
-            values.push(Value::Sym(other))?;
-        }
+/// Values with symbols behind them.
+fn with_symbols(values: Values, names: &[Sym]) -> Mem<Values>
+    ensures { IfOk result (λ all. map view (items_of all) ≡
+        map view (items_of values) ++ map symbol (map number_of names.now)) }
+{
+    let mut all = values;
+    for name in names {
+        all.push(Value::Sym(*name))?;
     }
-    Ok(values)
+    Ok(all)
 }
 
-/// Puts a function in front of a list of the current buffer. A refusal leaves all as it was.
-fn add_hook(kernel: &mut Kernel, hook: &Value, function: &Value) -> Mem<Value> {
+/// A symbol in front of others, as values.
+fn with_first(alloc: Global, name: Sym, names: &[Sym]) -> Mem<Values>
+    ensures { IfOk result (λ values. map view (items_of values) ≡
+        map symbol (name.0 ∷ map number_of names.now)) }
+{
+    let mut values = ListOf::new(alloc);
+    values.push(Value::Sym(name))?;
+    with_symbols(values, names)
+}
+
+/// Hook functions with one in front, unless it stands there, as values.
+fn with_hook(names: &SymList, name: Sym) -> Mem<Values>
+    ensures { IfOk result (λ values. map view (items_of values) ≡
+        map symbol (added name.0 (map number_of (items_of names.now)))) }
+{
+    if holds(names.as_slice(), name) {
+        with_symbols(ListOf::new(names.allocator()), names.as_slice())
+    } else {
+        with_first(names.allocator(), name, names.as_slice())
+    }
+}
+
+/// Takes a name out of a list.
+fn remove_from(names: &mut SymList, name: Sym)
+    ensures { map number_of (items_of names.new) ≡
+        filter (λ n. not (n == name.0)) (map number_of (items_of names.old)) }
+{
+    names.retain(|n| n.0 != name.0);
+}
+
+/// Hook functions without one, as values.
+fn without_hook(names: SymList, name: Sym) -> Mem<Values>
+    ensures { IfOk result (λ values. map view (items_of values) ≡
+        map symbol (filter (λ n. not (n == name.0)) (map number_of (items_of names)))) }
+{
+    let mut others = names;
+    remove_from(&mut others, name);
+    with_symbols(ListOf::new(others.allocator()), others.as_slice())
+}
+
+/// Puts a function in front of a list of the current buffer, which then has at most 8. A refusal leaves all as it was.
+fn add_hook(kernel: &mut Kernel, hook: &Value, function: &Value) -> Mem<Value>
+    requires { length (hook_added (state_of kernel.old) (view hook.now) (view function.now)) ≤ most_hooks }
+    ensures value { IfOk result (λ v. view v ≡
+        list (map symbol (hook_added (state_of kernel.old) (view hook.now) (view function.now)))) }
+    ensures ok { OnOk result (state_of kernel.new ≡
+        set_by AddHook (view hook.now ∷ view function.now ∷ []) (state_of kernel.old)) }
+    ensures err { OnErr result (state_of kernel.new ≡ state_of kernel.old) }
+{
     let current = kernel.editor.current();
     let before = is_before(hook);
     let name = symbol_of(function);
@@ -82,16 +125,28 @@ fn add_hook(kernel: &mut Kernel, hook: &Value, function: &Value) -> Mem<Value> {
 }
 
 /// Takes a function out of a list of the current buffer. A refusal leaves all as it was.
-fn remove_hook(kernel: &mut Kernel, hook: &Value, function: &Value) -> Mem<Value> {
+fn remove_hook(kernel: &mut Kernel, hook: &Value, function: &Value) -> Mem<Value>
+    ensures value { IfOk result (λ v. view v ≡
+        list (map symbol (hook_removed (state_of kernel.old) (view hook.now) (view function.now)))) }
+    ensures ok { OnOk result (state_of kernel.new ≡
+        set_by RemoveHook (view hook.now ∷ view function.now ∷ []) (state_of kernel.old)) }
+    ensures err { OnErr result (state_of kernel.new ≡ state_of kernel.old) }
+{
     let current = kernel.editor.current();
     let before = is_before(hook);
     let name = symbol_of(function);
-    let values = without_hook(kernel.hooks.list(current, before), name)?;
+    let values = without_hook(kernel.hooks.names(current, before)?, name)?;
     kernel.hooks.remove(current, before, name);
     Ok(list(values))
 }
 
 // QUESTIONS
+
+fn process_value(p: u32) -> Value
+    ensures { view result ≡ TheProcess p }
+{
+    Value::Process(p)
+}
 
 /// The listed processes.
 fn process_list(kernel: &Kernel) -> Mem<Value>
@@ -100,7 +155,7 @@ fn process_list(kernel: &Kernel) -> Mem<Value>
     let mut values = ListOf::new(kernel.alloc);
     for p in 0..kernel.processes.count() {
         if kernel.processes.get(p).listed() {
-            values.push(Value::Process(p))?;
+            values.push(process_value(p))?;
         }
     }
     Ok(list(values))
@@ -188,9 +243,11 @@ fn told(alloc: Global, prim: Primitive, process: &Process) -> Mem<Value>
 }
 
 /// What a call that asks about one process answers; nil where it wasn't made.
-fn told_of_one(kernel: &Kernel, prim: Primitive, p: u32) -> Mem<Value> {
+fn told_of_one(kernel: &Kernel, prim: Primitive, p: u32) -> Mem<Value>
+    ensures { IfOk result (λ v. view v ≡ told_of_one (prim_of prim) (process (state_of kernel.now) p)) }
+{
     if p >= kernel.processes.count() {
-        return Ok(Value::Nil);
+        return Ok(nil());
     }
     told(kernel.alloc, prim, kernel.processes.get(p))
 }
@@ -218,34 +275,70 @@ fn sentinel_of(v: &Value) -> Option<Sym>
     }
 }
 
+/// Gives a process that was made a filter.
+fn note_filter(kernel: &mut Kernel, p: u32, filter: Filter)
+    ensures { state_of kernel.new ≡ change_process p (with_filter (filter_meant filter)) (state_of kernel.old) }
+{
+    if p < kernel.processes.count() {
+        kernel.processes.set_filter(p, filter);
+    }
+}
+
 /// Sets the filter of a process that was made. A refusal leaves all as it was.
-fn set_filter(kernel: &mut Kernel, v: &Value, filter: &Value) -> Mem<Value> {
+fn set_filter(kernel: &mut Kernel, v: &Value, filter: &Value) -> Mem<Value>
+    ensures value { IfOk result (λ w. view w ≡ view filter.now) }
+    ensures ok { OnOk result (state_of kernel.new ≡
+        set_by SetProcessFilter (view v.now ∷ view filter.now ∷ []) (state_of kernel.old)) }
+    ensures err { OnErr result (state_of kernel.new ≡ state_of kernel.old) }
+{
     let answer = filter.copy()?;
     let p = process(kernel, v);
-    if p < kernel.processes.count() {
-        kernel.processes.set_filter(p, filter_of(filter));
-    }
+    note_filter(kernel, p, filter_of(filter));
     Ok(answer)
+}
+
+/// Gives a process that was made a sentinel.
+fn note_sentinel(kernel: &mut Kernel, p: u32, sentinel: Option<Sym>)
+    ensures { state_of kernel.new ≡ change_process p (with_sentinel (option_map number_of sentinel)) (state_of kernel.old) }
+{
+    if p < kernel.processes.count() {
+        kernel.processes.set_sentinel(p, sentinel);
+    }
 }
 
 /// Sets the sentinel of a process that was made. A refusal leaves all as it was.
-fn set_sentinel(kernel: &mut Kernel, v: &Value, sentinel: &Value) -> Mem<Value> {
+fn set_sentinel(kernel: &mut Kernel, v: &Value, sentinel: &Value) -> Mem<Value>
+    ensures value { IfOk result (λ w. view w ≡ view sentinel.now) }
+    ensures ok { OnOk result (state_of kernel.new ≡
+        set_by SetProcessSentinel (view v.now ∷ view sentinel.now ∷ []) (state_of kernel.old)) }
+    ensures err { OnErr result (state_of kernel.new ≡ state_of kernel.old) }
+{
     let answer = sentinel.copy()?;
     let p = process(kernel, v);
-    if p < kernel.processes.count() {
-        kernel.processes.set_sentinel(p, sentinel_of(sentinel));
-    }
+    note_sentinel(kernel, p, sentinel_of(sentinel));
     Ok(answer)
 }
 
-/// Sets the buffer of a process that was made. A refusal leaves all as it was.
-fn set_buffer(kernel: &mut Kernel, v: &Value, b: &Value) -> Mem<Value> {
-    let answer = b.copy()?;
-    let p = process(kernel, v);
+/// Gives a process that was made a buffer.
+fn note_buffer(kernel: &mut Kernel, p: u32, buffer: Option<u32>)
+    ensures { state_of kernel.new ≡ change_process p (of_buffer buffer) (state_of kernel.old) }
+{
     if p < kernel.processes.count() {
-        let buffer = process_buffer(&kernel.editor, b);
         kernel.processes.set_buffer(p, buffer);
     }
+}
+
+/// Sets the buffer of a process that was made. A refusal leaves all as it was.
+fn set_buffer(kernel: &mut Kernel, v: &Value, b: &Value) -> Mem<Value>
+    ensures value { IfOk result (λ w. view w ≡ view b.now) }
+    ensures ok { OnOk result (state_of kernel.new ≡
+        set_by SetProcessBuffer (view v.now ∷ view b.now ∷ []) (state_of kernel.old)) }
+    ensures err { OnErr result (state_of kernel.new ≡ state_of kernel.old) }
+{
+    let answer = b.copy()?;
+    let p = process(kernel, v);
+    let buffer = process_buffer(&kernel.editor, b);
+    note_buffer(kernel, p, buffer);
     Ok(answer)
 }
 

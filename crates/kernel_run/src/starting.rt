@@ -1,16 +1,19 @@
 //! Starting a process: its memory is taken before its child is asked for.
-ghost use Rattle.std.specs.Prelude.{◌≡◌, ◌≤◌, ◌+◌, ◌<◌, true, map, length, Some, IfOk, OnOk};
-ghost use Rattle.editor_model.specs.Arguments.{arg};
+ghost use Rattle.std.specs.Prelude.{◌≡◌, ◌≤◌, ◌+◌, ◌<◌, true, map, length, Some, IfOk, IfSome, OnOk};
+ghost use Rattle.editor_model.specs.Arguments.{arg, name_of};
+ghost use Rattle.editor_model.specs.Editor.{is_live};
+ghost use Rattle.editor_model.specs.Limits.{most_markers};
+ghost use Rattle.plain_machine.specs.Arguments.{is_new_name};
 ghost use Rattle.editor_model.specs.Values.{StartProcess};
 ghost use Rattle.plain_machine.specs.Refusals.{may_ask, most_sent};
 ghost use Rattle.plain_machine.specs.State.{change_process};
-ghost use Rattle.plain_machine.specs.Calls.{started, with_input_closed};
+ghost use Rattle.plain_machine.specs.Calls.{started, with_editor, with_input_closed, with_process_buffer};
 ghost use Rattle.ek_types.specs.Listing.{items_of};
 ghost use Rattle.ek_call.specs.Meaning.{view};
 ghost use Rattle.kernel_steps.specs.Processes.{asked_once, counted};
 ghost use Rattle.kernel_steps.specs.Waits.{Passes};
 ghost use Rattle.kernel_run.specs.Meaning.{state_of};
-ghost use Rattle.kernel_run.specs.Starting.{HasPlace, IsPlaceFor};
+ghost use Rattle.kernel_run.specs.Starting.{HasBuffer, HasPlace, IsPlaceFor, MayMake, MayStart, put_end, with_end};
 
 use crate::kernel::Kernel;
 use crate::place::StartPlace;
@@ -22,6 +25,7 @@ use editor_prims::{arg, nil};
 use ek_call::{Value, Values};
 use ek_types::Mem;
 use kernel_steps::Program;
+use marker_set::Room;
 use std::mem;
 
 /// Counts an exchange.
@@ -63,7 +67,10 @@ fn keep_place(kernel: &mut Kernel, place: StartPlace)
 }
 
 /// Room for the buffer of a start, where it is to be made.
-fn reserve_buffer(kernel: &Kernel, b: &Value) -> Mem<Option<BufferRoom>> {
+fn reserve_buffer(kernel: &Kernel, b: &Value) -> Mem<Option<BufferRoom>>
+    ensures { IfOk result (λ room. HasBuffer (is_new_name (state_of kernel.now).editor (view b.now)) room
+        (state_of kernel.now).editor (name_of (view b.now))) }
+{
     if !is_new_name(&kernel.editor, b) {
         return Ok(None);
     }
@@ -99,32 +106,65 @@ pub fn reserve_process<P: Program>(kernel: &mut Kernel, program: &P, args: &Valu
     Ok(())
 }
 
-/// Makes the buffer of a start, where it is new.
-fn make_buffer(kernel: &mut Kernel, room: Option<BufferRoom>) {
+/// Makes the buffer that a value gives a process, where it is new.
+fn make_buffer(kernel: &mut Kernel, b: &Value, room: Option<BufferRoom>)
+    requires may { MayMake (state_of kernel.old).editor (view b.now) }
+    requires room { HasBuffer (is_new_name (state_of kernel.old).editor (view b.now)) room
+        (state_of kernel.old).editor (name_of (view b.now)) }
+    ensures { state_of kernel.new ≡
+        with_editor (with_process_buffer (view b.now) (state_of kernel.old).editor) (state_of kernel.old) }
+{
     if let Some(room) = room {
         kernel.editor.make_reserved(room);
     }
 }
 
-/// Puts a new mark at the end of the accessible portion of a buffer, or nowhere.
-fn put_mark(kernel: &mut Kernel, mark: u32, buffer: Option<u32>) {
+/// Puts a marker at the end of the accessible portion of a buffer, or leaves it where it is.
+fn put_mark(kernel: &mut Kernel, mark: u32, buffer: Option<u32>)
+    requires made { mark < length (state_of kernel.old).editor.marks.markers }
+    requires live { IfSome buffer (λ id. is_live (state_of kernel.old).editor id ≡ true) }
+    ensures { state_of kernel.new ≡
+        with_editor (put_end mark buffer (state_of kernel.old).editor) (state_of kernel.old) }
+{
     if let Some(id) = buffer {
         let end = kernel.editor.bounds(id).end;
         kernel.editor.set_marker(mark, Some((id, end)));
     }
 }
 
+/// Makes a marker at the end of the accessible portion of a buffer, or nowhere, in the room that was taken.
+fn make_mark(kernel: &mut Kernel, room: Room, buffer: Option<u32>) -> u32
+    requires few { length (state_of kernel.old).editor.marks.markers < most_markers }
+    requires fits { length (state_of kernel.old).editor.marks.markers < room }
+    requires live { IfSome buffer (λ id. is_live (state_of kernel.old).editor id ≡ true) }
+    ensures number { result ≡ length (state_of kernel.old).editor.marks.markers }
+    ensures state { state_of kernel.new ≡
+        with_editor (with_end buffer (state_of kernel.old).editor) (state_of kernel.old) }
+{
+    let mark = kernel.editor.make_marker_reserved(room);
+    put_mark(kernel, mark, buffer);
+    mark
+}
+
 /// Makes the process of a child that was started in the room that was taken.
-fn start_in(kernel: &mut Kernel, place: StartPlace, b: &Value, child: u32) -> u32 {
+fn start_in(kernel: &mut Kernel, place: StartPlace, args: &Values, child: u32) -> u32
+    requires may { MayStart (state_of kernel.old) (map view (items_of args.now)) }
+    requires place { IsPlaceFor place (state_of kernel.old) (map view (items_of args.now)) }
+    ensures number { result ≡ length (state_of kernel.old).processes }
+    ensures state { state_of kernel.new ≡
+        started (state_of kernel.old) (arg (map view (items_of args.now)) 0) (arg
+        (map view (items_of args.now)) 1) child }
+{
+    let nil = nil();
+    let b = arg(args, 1, &nil);
     let StartPlace {
         process,
         mark,
         buffer,
     } = place;
-    make_buffer(kernel, buffer);
+    make_buffer(kernel, b, buffer);
     let id = process_buffer(&kernel.editor, b);
-    let mark = kernel.editor.make_marker_reserved(mark);
-    put_mark(kernel, mark, id);
+    let mark = make_mark(kernel, mark, id);
     kernel.asked += 1;
     kernel.processes.add_reserved(process, child, id, mark)
 }
@@ -139,10 +179,8 @@ pub fn start<P: Program>(kernel: &mut Kernel, program: &P, args: &Values, child:
         started (state_of kernel.old) (arg (map view (items_of args.now)) 0) (arg
         (map view (items_of args.now)) 1) child }
 {
-    let nil = nil();
-    let b = arg(args, 1, &nil);
     match mem::replace(&mut kernel.place, None) {
-        Some(place) => start_in(kernel, place, b, child),
+        Some(place) => start_in(kernel, place, args, child),
         None => unreachable!(),
     }
 }

@@ -1,5 +1,5 @@
 //! Texts as bytes: what is sent to a child, and the words of a command.
-ghost use Rattle.std.specs.Prelude.{◌≡◌, ◌∷◌, [], true, length, map, string_bytes, IfOk};
+ghost use Rattle.std.specs.Prelude.{◌≡◌, ◌∷◌, [], true, drop, length, map, string_bytes, IfOk};
 ghost use Rattle.std.specs.List.{list_all};
 ghost use Rattle.editor_model.specs.Arguments.{arg, name_of};
 ghost use Rattle.editor_model.specs.Values.{StartProcess};
@@ -132,6 +132,17 @@ fn words(alloc: Global, values: &[Value]) -> Mem<Vec<String>>
     Ok(words)
 }
 
+/// The words of a command behind its program.
+fn all_words(alloc: Global, args: &Values) -> Mem<Vec<String>>
+    requires { list_all is_word (drop 3 (map view (items_of args.now))) ≡ true }
+    ensures { IfOk result (λ words. map string_bytes words.items ≡ words_of (map view (items_of args.now))) }
+{
+    if args.len() <= 3 {
+        return Ok(Vec::new(alloc));
+    }
+    words(alloc, &args.as_slice()[3..])
+}
+
 /// The program that a start asks for, and its arguments.
 pub fn command<P: Program>(kernel: &Kernel, program: &P, args: &Values) -> Mem<Command>
     requires { Passes (P.meant program.now) (state_of kernel.now) StartProcess (map view (items_of args.now)) }
@@ -141,11 +152,7 @@ pub fn command<P: Program>(kernel: &Kernel, program: &P, args: &Values) -> Mem<C
         words_of (map view (items_of args.now))) }
 {
     let nil = nil();
-    let words = if args.len() > 3 {
-        words(kernel.alloc, &args.as_slice()[3..])?
-    } else {
-        Vec::new(kernel.alloc)
-    };
+    let words = all_words(kernel.alloc, args)?;
     Ok(Command {
         program: word_of(kernel.alloc, arg(args, 2, &nil))?,
         words,
