@@ -1,3 +1,4 @@
+pub mod Living
 pub mod Defaults
 pub mod Meaning
 pub mod Setting

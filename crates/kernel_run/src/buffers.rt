@@ -1,5 +1,6 @@
 //! Buffers that are killed, with their processes.
-ghost use Rattle.std.specs.Prelude.{◌≡◌, ◌&&◌, length, nat_lt, IfOk, OnOk, OnErr};
+ghost use Rattle.std.specs.Prelude.{◌≡◌, ◌&&◌, ◌<◌, drop, length, nat_lt, IfSome, IfOk, OnOk, OnErr};
+ghost use Rattle.editor_model.specs.Editor.{live_from};
 ghost use Rattle.plain_machine.specs.Arguments.{running_in, runs, stands_in};
 ghost use Rattle.plain_machine.specs.Refusals.{is_last, must_be_replaceable};
 ghost use Rattle.ek_call.specs.Meaning.{reply_of};
@@ -7,6 +8,7 @@ ghost use Rattle.buffer_table.specs.Kept.{editor_of};
 ghost use Rattle.editor_prims.specs.Meaning.{fault_in};
 ghost use Rattle.kernel_steps.specs.Waits.{killed_by};
 ghost use Rattle.kernel_run.specs.Meaning.{state_of};
+ghost use Rattle.kernel_run.specs.Living.{from_first};
 
 use crate::kernel::Kernel;
 use buffer_table::Editor;
@@ -15,16 +17,31 @@ use ek_call::{Fault, Reply, Value};
 use ek_types::Mem;
 use process_table::{Process, Status};
 
+/// The first live buffer from a number on.
+fn first_live(editor: &Editor, from: u32) -> Option<u32>
+    ensures first { live_from from (drop from (editor_of editor.now).buffers) ≡
+        from_first result (editor_of editor.now).buffers }
+    ensures few { IfSome result (λ id. id < 256) }
+{
+    for id in from..editor.count() {
+        if editor.is_live(id) {
+            return Some(id);
+        }
+    }
+    None
+}
+
 /// Whether a buffer is the only one that lives.
 fn is_last(editor: &Editor, buffer: u32) -> bool
     ensures { result ≡ is_last (editor_of editor.now) buffer }
 {
-    for other in 0..editor.count() {
-        if other != buffer && editor.is_live(other) {
-            return false;
-        }
+    let Some(only) = first_live(editor, 0) else {
+        return false;
+    };
+    match first_live(editor, only + 1) {
+        None => only == buffer,
+        Some(_) => false,
     }
-    editor.is_live(buffer)
 }
 
 /// The last live buffer is killed only where one more can be made.
