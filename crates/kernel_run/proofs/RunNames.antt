@@ -1,6 +1,6 @@
 -- The names and the natives of a run, one after the other.
-use Rattle.std.proofs.Common.{◌≡◌, ℕ, zero, suc, ◌+◌, ◌<◌, ◌≤◌, Bool, true, false, List, [], ◌∷◌, ◌++◌, length, map, drop, refl, sym, ap, ◌∙◌, arith, length-append}
-use Rattle.std.specs.Prelude.{◌==◌, Option, Some, None, slice_get, unwrap_or}
+use Rattle.std.proofs.Common.{◌≡◌, ℕ, zero, suc, ◌+◌, ◌<◌, ◌≤◌, Bool, true, false, List, [], ◌∷◌, ◌++◌, length, drop, refl, sym, ap, ◌∙◌, arith, length-append}
+use Rattle.std.specs.Prelude.{◌==◌, Option, Some, slice_get, unwrap_or}
 use Rattle.std.specs.List.{list_any}
 use Rattle.text_model.proofs.Lists.{drop_at}
 use Rattle.text_model.specs.Names.{with_name, same_word}
@@ -8,20 +8,11 @@ use Rattle.editor_model.specs.Values.{HandlerDef}
 use Rattle.plain_machine.specs.Arguments.{handler_def, native_from}
 use Rattle.plain_machine.specs.Symbols.{with_names}
 
-nothing_behind : {A : Type 0} (xs : List A) (i : ℕ) → length xs ≤ i → drop i xs ≡ []
-nothing_behind [] zero l = refl
-nothing_behind [] (suc i) l = refl
-nothing_behind (x ∷ xs) zero l = absurd (omega arith)
-nothing_behind (x ∷ xs) (suc i) l = nothing_behind xs i (omega arith)
-
 -- SYMBOLS
 pub name_put : (names : List (List ℕ)) (i : ℕ) (name : List ℕ) (symbols new whole : List (List ℕ)) → slice_get names i ≡ Some name → new ≡ with_name symbols name
     → with_names symbols (drop i names) ≡ whole → with_names new (drop (i + 1) names) ≡ whole
 name_put names i name symbols new whole at is e =
     ap (λ s. with_names s (drop (i + 1) names)) is ∙ ap (λ rest. with_names symbols rest) (sym (drop_at names i name at)) ∙ e
-
-pub names_put : (names : List (List ℕ)) (i : ℕ) (symbols whole : List (List ℕ)) → length names ≤ i → with_names symbols (drop i names) ≡ whole → symbols ≡ whole
-names_put names i symbols whole l e = ap (λ rest. with_names symbols rest) (sym (nothing_behind names i l)) ∙ e
 
 one_longer : (b : Bool) (symbols : List (List ℕ)) (name : List ℕ) → length (let s : List (List ℕ) = elim b [ true ↦ symbols | false ↦ symbols ++ name ∷ [] ] in s) ≤ length symbols + 1
 one_longer true symbols name = omega arith
@@ -43,9 +34,6 @@ def_met defs i d name whole at h e = sym (def_one d (drop (i + 1) defs) name h) 
 pub def_passed : (defs : List HandlerDef) (i : ℕ) (d : HandlerDef) (name : ℕ) (whole : Option HandlerDef) → slice_get defs i ≡ Some d → (d.name == name) ≡ false → handler_def (drop i defs) name ≡ whole → handler_def (drop (i + 1) defs) name ≡ whole
 def_passed defs i d name whole at h e = sym (def_other d (drop (i + 1) defs) name h) ∙ ap (λ rest. handler_def rest name) (sym (drop_at defs i d at)) ∙ e
 
-pub no_def : (defs : List HandlerDef) (i name : ℕ) (whole : Option HandlerDef) → length defs ≤ i → handler_def (drop i defs) name ≡ whole → None ≡ whole
-no_def defs i name whole l e = ap (λ rest. handler_def rest name) (sym (nothing_behind defs i l)) ∙ e
-
 -- NATIVES
 native_one : (i n : ℕ) (ns : List ℕ) (name : ℕ) → (n == name) ≡ true → native_from i (n ∷ ns) name ≡ Some i
 native_one i n ns name h = ap (λ (b : Bool). let o : Option ℕ = elim b [ true ↦ Some i | false ↦ native_from (i + 1) ns name ] in o) h
@@ -58,9 +46,6 @@ native_met ns i n name whole at h e = sym (native_one i n (drop (i + 1) ns) name
 
 pub native_passed : (ns : List ℕ) (i n name : ℕ) (whole : Option ℕ) → slice_get ns i ≡ Some n → (n == name) ≡ false → native_from i (drop i ns) name ≡ whole → native_from (i + 1) (drop (i + 1) ns) name ≡ whole
 native_passed ns i n name whole at h e = sym (native_other i n (drop (i + 1) ns) name h) ∙ ap (λ rest. native_from i rest name) (sym (drop_at ns i n at)) ∙ e
-
-pub no_native : (ns : List ℕ) (i name : ℕ) (whole : Option ℕ) → length ns ≤ i → native_from i (drop i ns) name ≡ whole → None ≡ whole
-no_native ns i name whole l e = ap (λ rest. native_from i rest name) (sym (nothing_behind ns i l)) ∙ e
 
 pub name_there : (names : List (List ℕ)) (i : ℕ) → i < length names → slice_get names i ≡ Some (unwrap_or (slice_get names i) [])
 name_there [] i l = absurd (omega arith)

@@ -1,25 +1,24 @@
 -- A process that is started.
-use Rattle.std.proofs.Common.{◌≡◌, ℕ, zero, suc, ◌+◌, ◌<◌, ◌≤◌, Bool, true, false, List, [], ◌∷◌, ◌++◌, length, map, drop, refl, sym, ap, subst, ◌∙◌, arith, length-append, zero-add}
-use Rattle.std.specs.Prelude.{◌==◌, not, nat_lt, if◌then◌else◌, Option, Some, None, IfSome, is_some, slice_get, slice_set, unwrap_or}
+use Rattle.std.proofs.Common.{◌≡◌, ℕ, zero, suc, ◌+◌, ◌<◌, ◌≤◌, Bool, true, false, List, [], ◌∷◌, ◌++◌, length, map, drop, refl, sym, ap, subst, ◌∙◌, arith, zero-add}
+use Rattle.std.specs.Prelude.{not, nat_lt, if◌then◌else◌, Option, Some, None, IfSome, is_some, slice_get, slice_set, unwrap_or}
 use Rattle.std.proofs.lemmas.Bool.{ltb-true}
-use Rattle.text_model.specs.Marks.{Marks, Marker, Spot}
+use Rattle.text_model.specs.Marks.{Marker}
 use Rattle.marker_set.specs.Numbered.{nowhere}
 use Rattle.machine_laws.proofs.Tests.{no_fault, append_passes, refuse_ok}
-use Rattle.editor_model.specs.Values.{Value, Nil, Str, TheBuffer, Fault, WrongType, BufferKilled, TooMany, ExchangesSpent, StartProcess}
+use Rattle.editor_model.specs.Values.{Value, Nil, Str, TheBuffer, WrongType, BufferKilled, TooMany, ExchangesSpent, StartProcess}
 use Rattle.editor_model.specs.Answers.{Test, refuse, first_fault}
-use Rattle.editor_model.specs.Editor.{Editor, Name, Live, empty_buffer, find, find_from, same_name, is_live, live, with_buffer, with_marker, set_marker_spot}
+use Rattle.editor_model.specs.Editor.{Editor, Name, Live, empty_buffer, find, find_from, same_name, is_live, live, with_buffer, with_marker}
 use Rattle.editor_model.specs.Limits.{most_buffers, most_markers}
-use Rattle.editor_model.specs.Arguments.{arg, name_of, buffer_of, must_be_name, must_be_fewer, must_be_short}
+use Rattle.editor_model.specs.Arguments.{arg, name_of, must_be_name, must_be_fewer, must_be_short}
 use Rattle.plain_machine.specs.State.{State, Program, Process}
 use Rattle.plain_machine.specs.Arguments.{find_process, free_name, process_name, is_new_name, is_process_buffer}
-use Rattle.plain_machine.specs.Refusals.{process_tests, must_be_word, must_live_or_be_named, must_ask, may_ask, most_exchanges, most_processes, only_where}
+use Rattle.plain_machine.specs.Refusals.{must_be_word, must_live_or_be_named, must_ask, may_ask, most_exchanges, most_processes, only_where}
 use Rattle.plain_machine.specs.Calls.{end_of, started, with_process_buffer, process_buffer}
 use Rattle.process_table.specs.Table.{new_process}
 use Rattle.process_table.proofs.Numbering.{first_is_free}
 use Rattle.process_table.proofs.Finding.{same_name-refl}
-use Rattle.buffer_table.specs.Room.{Room}
 use Rattle.kernel_steps.specs.Waits.{Passes}
-use Rattle.kernel_run.specs.Starting.{HasBuffer, MayMake, MayStart, put_end, with_end}
+use Rattle.kernel_run.specs.Starting.{MayMake, MayStart, put_end, with_end}
 
 -- THE TESTS
 where_so : (b : Bool) (t : Test) → only_where b t ≡ None → b ≡ true → t ≡ None
@@ -78,44 +77,6 @@ name_is_free table name few = go (find_process 0 table name) refl
     go : (o : Option ℕ) → find_process 0 table name ≡ o → find_process 0 table (process_name table name) ≡ None
     go None e = ap (λ b. find_process 0 table (chosen_name b table name)) (ap is_some e) ∙ e
     go (Some p) e = ap (λ b. find_process 0 table (chosen_name b table name)) (ap is_some e) ∙ first_is_free table name few
-
--- THE BUFFER
-none_free : (o : Option ℕ) → not (is_some o) ≡ true → o ≡ None
-none_free None h = refl
-none_free (Some id) h = cc
-
-pub name_unknown : (e : Editor) (b : Value) → is_new_name e b ≡ true → find e (name_of b) ≡ None
-name_unknown e (Str t) h = none_free (find e (name_of (Str t))) h
-name_unknown e v h = cc
-
-room_is_new : (new : Bool) (room : Room) (e : Editor) (name : Name) → HasBuffer new (Some room) e name → new ≡ true
-room_is_new true room e name h = refl
-room_is_new false room e name h = cc
-
-pub room_new : (e : Editor) (b : Value) (buffer : Option Room) (room : Room) → buffer ≡ Some room → HasBuffer (is_new_name e b) buffer e (name_of b) → is_new_name e b ≡ true
-room_new e b buffer room is h = room_is_new (is_new_name e b) room e (name_of b) (subst (λ (o : Option Room). HasBuffer (is_new_name e b) o e (name_of b)) is h)
-
-none_is_old : (new : Bool) (e : Editor) (name : Name) → HasBuffer new None e name → new ≡ false
-none_is_old true e name h = absurd h
-none_is_old false e name h = refl
-
-pub no_room_old : (e : Editor) (b : Value) (buffer : Option Room) → buffer ≡ None → HasBuffer (is_new_name e b) buffer e (name_of b) → is_new_name e b ≡ false
-no_room_old e b buffer is h = none_is_old (is_new_name e b) e (name_of b) (subst (λ (o : Option Room). HasBuffer (is_new_name e b) o e (name_of b)) is h)
-
-room_of : (new : Bool) (buffer : Option Room) (room : Room) (e : Editor) (name : Name) → new ≡ true → buffer ≡ Some room → HasBuffer new buffer e name → (room.name ≡ name) × (length e.buffers < room.buffers)
-room_of new buffer room e name so is h = subst (λ (n : Bool). HasBuffer n (Some room) e name) so (subst (λ (o : Option Room). HasBuffer new o e name) is h)
-
-pub room_fits : (e : Editor) (b : Value) (buffer : Option Room) (room : Room) → buffer ≡ Some room → HasBuffer (is_new_name e b) buffer e (name_of b) → (room.name ≡ name_of b) × (length e.buffers < room.buffers)
-room_fits e b buffer room is h = room_of (is_new_name e b) buffer room e (name_of b) (room_new e b buffer room is h) is h
-
-abbrev either_editor : Bool → Value → Editor → Editor
-either_editor new b e = if new then with_buffer (name_of b) e else e
-
-pub made_buffer : (e made : Editor) (b : Value) (name : Name) → is_new_name e b ≡ true → name ≡ name_of b → made ≡ with_buffer name e → made ≡ with_process_buffer b e
-made_buffer e made b name so named is = is ∙ ap (λ n. with_buffer n e) named ∙ sym (ap (λ x. either_editor x b e) so)
-
-pub kept_buffer : (e : Editor) (b : Value) → is_new_name e b ≡ false → e ≡ with_process_buffer b e
-kept_buffer e b so = sym (ap (λ x. either_editor x b e) so)
 
 -- THE BUFFER THAT IS GIVEN LIVES
 -- a buffer that was found lives
@@ -195,14 +156,6 @@ end_put e k (Some id) h =
 
 pub mark_put : (e between new : Editor) (k : ℕ) (buffer : Option ℕ) → k ≡ length e.marks.markers → between ≡ with_marker nowhere e → new ≡ put_end k buffer between → new ≡ with_end buffer e
 mark_put e between new k buffer h first second = second ∙ ap (put_end k buffer) first ∙ end_put e k buffer h
-
-pub mark_within : (e between : Editor) (k : ℕ) → k ≡ length e.marks.markers → between ≡ with_marker nowhere e → k < length between.marks.markers
-mark_within e between k h is =
-    let longer : length between.marks.markers ≡ length (e.marks.markers ++ nowhere ∷ []) = ap (λ (x : Editor). length x.marks.markers) is in
-    grind (arith, length-append)
-
-pub still_live : (e between : Editor) (buffer : Option ℕ) → between ≡ with_marker nowhere e → IfSome buffer (λ id. is_live e id ≡ true) → IfSome buffer (λ id. is_live between id ≡ true)
-still_live e between buffer is h = subst (λ (x : Editor). IfSome buffer (λ id. is_live x id ≡ true)) (sym is) h
 
 -- ALL OF IT
 abbrev pub with_start : State → Editor → List Process → State

@@ -1,6 +1,4 @@
-use Rattle.std.proofs.Common.{◌≡◌, List, map, ◌+◌, length, refl, ap, ◌∙◌, ◌++◌, ◌∷◌, [], arith}
-use Rattle.editor_model.specs.Values.{Value}
-use Rattle.editor_model.specs.Editor.{Editor}
+use Rattle.std.proofs.Common.{◌≡◌, List, map, ◌+◌, refl, ap, ◌∙◌, ◌++◌, ◌∷◌, [], arith}
 use Rattle.editor_model.specs.Arguments.{arg, name_of}
 use Rattle.plain_machine.specs.State.{State, Process}
 use Rattle.plain_machine.specs.Arguments.{find_process}

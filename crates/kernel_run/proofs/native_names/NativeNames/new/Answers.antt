@@ -1,4 +1,4 @@
-use Rattle.std.proofs.Common.{◌∙◌, [], ◌∷◌, ap, arith, length-append}
+use Rattle.std.proofs.Common.{◌∙◌, [], ap, arith, length-append}
 use Rattle.std.specs.Prelude.{slice_get, unwrap_or}
 use Rattle.text_model.specs.Names.{number_from}
 use Rattle.ek_types.specs.Listing.{items_of}
