@@ -8,3 +8,4 @@ pub mod Coding
 pub mod Spoken
 pub mod Refusing
 pub mod Exchanges
+pub mod Lives
