@@ -1,4 +1,6 @@
 pub mod Parameters
+pub mod Inserting
+pub mod LastBuffers
 pub mod HookCalls
 pub mod ProcessCalls
 pub mod Starts

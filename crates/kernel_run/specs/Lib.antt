@@ -1,4 +1,3 @@
-pub mod Living
 pub mod Defaults
 pub mod Meaning
 pub mod Setting
