@@ -132,10 +132,11 @@ impl Editor {
     }
 
     /// Kills a live buffer. Where it was the current one, the first of the others becomes current, and where it was the only
-    /// one a new `*scratch*`. A refusal leaves the editor as it was.
+    /// one a new `*scratch*`; fewer than 256 buffers were made then. A refusal leaves the editor as it was.
     pub fn kill(&mut self, id: u32) -> Mem<()>
         requires live { is_live (editor_of self.old) id ≡ true }
-        requires room { length (editor_of self.old).buffers < 256 }
+        requires room { None ≡ first (live_from 0 (slice_set (editor_of self.old).buffers id None))
+            → length (editor_of self.old).buffers < 256 }
         ensures ok { OnOk result (editor_of self.new ≡ killed id (editor_of self.old)) }
         ensures err { OnErr result (editor_of self.new ≡ editor_of self.old) }
         ensures blocks { OnOk result (live self.new.pool + length (named_at self.old.buffers id).buffer.text.blocks ≡ live self.old.pool) }

@@ -7,6 +7,8 @@ pub mod Starts
 pub mod RunNames
 pub mod Equality
 pub mod Coding
+pub mod Spoken
 pub mod Refusing
 pub mod Exchanges
 pub mod Unbegun
+pub mod Lives

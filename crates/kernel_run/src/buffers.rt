@@ -1,11 +1,13 @@
 //! Buffers that are killed, with their processes.
-ghost use Rattle.std.specs.Prelude.{◌≡◌, ◌&&◌, length, nat_lt, IfOk, OnOk, OnErr};
+ghost use Rattle.std.specs.Prelude.{◌≡◌, ◌&&◌, length, nat_lt, true, None, IfOk, OnOk, OnErr};
 ghost use Rattle.plain_machine.specs.Arguments.{running_in, runs, stands_in};
 ghost use Rattle.plain_machine.specs.Refusals.{is_last, must_be_replaceable};
 ghost use Rattle.ek_call.specs.Meaning.{reply_of};
 ghost use Rattle.buffer_table.specs.Kept.{editor_of};
 ghost use Rattle.editor_prims.specs.Meaning.{fault_in};
 ghost use Rattle.kernel_steps.specs.Waits.{killed_by};
+ghost use Rattle.editor_model.specs.Editor.{is_live, killed};
+ghost use Rattle.editor_model.specs.Values.{Answered, T};
 ghost use Rattle.kernel_run.specs.Meaning.{state_of};
 
 use crate::kernel::Kernel;
@@ -70,6 +72,33 @@ pub fn has_running(kernel: &Kernel, buffer: u32) -> bool
     false
 }
 
+/// Kills a buffer that lives, where it may be killed. A refusal leaves all as it was.
+fn kill_one(kernel: &mut Kernel, buffer: u32) -> Mem<Reply>
+    requires live { is_live (state_of kernel.old).editor buffer ≡ true }
+    requires free { must_be_replaceable (state_of kernel.old).editor buffer ≡ None }
+    ensures reply { IfOk result (λ r. reply_of r ≡ Answered T) }
+    ensures ok { OnOk result (state_of kernel.new ≡
+        record (state_of kernel.old) { editor = killed buffer (state_of kernel.old).editor }) }
+    ensures err { OnErr result (state_of kernel.new ≡ state_of kernel.old) }
+{
+    kernel.editor.kill(buffer)?;
+    Ok(Reply::Value(Value::T))
+}
+
+/// Kills a buffer that lives, unless it is the last and none can be made in its place.
+fn kill_if_replaceable(kernel: &mut Kernel, buffer: u32) -> Mem<Reply>
+    requires live { is_live (state_of kernel.old).editor buffer ≡ true }
+    ensures reply { IfOk result (λ r. reply_of r ≡ (killed_by (state_of kernel.old).editor buffer).reply) }
+    ensures ok { OnOk result (state_of kernel.new ≡
+        record (state_of kernel.old) { editor = (killed_by (state_of kernel.old).editor buffer).editor }) }
+    ensures err { OnErr result (state_of kernel.new ≡ state_of kernel.old) }
+{
+    match must_be_replaceable(&kernel.editor, buffer) {
+        Ok(()) => kill_one(kernel, buffer),
+        Err(fault) => Ok(Reply::Fault(fault)),
+    }
+}
+
 /// Kills a buffer, if it lives. A refusal leaves all as it was.
 pub fn kill_live(kernel: &mut Kernel, buffer: u32) -> Mem<Reply>
     ensures reply { IfOk result (λ r. reply_of r ≡ (killed_by (state_of kernel.old).editor buffer).reply) }
@@ -77,13 +106,9 @@ pub fn kill_live(kernel: &mut Kernel, buffer: u32) -> Mem<Reply>
         record (state_of kernel.old) { editor = (killed_by (state_of kernel.old).editor buffer).editor }) }
     ensures err { OnErr result (state_of kernel.new ≡ state_of kernel.old) }
 {
-    if !kernel.editor.is_live(buffer) {
-        return Ok(Reply::Value(Value::Nil));
+    if kernel.editor.is_live(buffer) {
+        kill_if_replaceable(kernel, buffer)
+    } else {
+        Ok(Reply::Value(Value::Nil))
     }
-    match must_be_replaceable(&kernel.editor, buffer) {
-        Err(fault) => return Ok(Reply::Fault(fault)),
-        Ok(()) => {}
-    }
-    kernel.editor.kill(buffer)?;
-    Ok(Reply::Value(Value::T))
 }

@@ -1,10 +1,10 @@
 -- What follows from how a script ended, and from the outcome of a call.
-use Rattle.std.proofs.Common.{◌≡◌, ℕ, ◌≤◌, ◌<◌, List, [], length, Some, None, Result, Ok, Err, inl, inr, refl, subst, arith}
+use Rattle.std.proofs.Common.{◌≡◌, ℕ, ◌<◌, List, [], length, Some, None, Result, Ok, Err, inl, inr, refl, subst, arith}
 use Rattle.std.specs.Prelude.{◌⊎◌}
 use Rattle.std.specs.declared.option.Option.{Option}
 use Rattle.std.specs.Io.KnownBytes.{Consumes, IsAtEnd}
 use Rattle.editor_model.specs.Values.{Script}
-use Rattle.plain_machine.specs.Exchanges.{Exchange}
+use Rattle.plain_machine.specs.Exchanges.{Ask, Answer, Exchange}
 use Rattle.plain_machine.specs.State.{Program}
 use Rattle.plain_machine.specs.Grammar.{longest_script, IsScript}
 use Rattle.ek_types.specs.Io.{SourceState, SinkState, Rose}
@@ -13,10 +13,11 @@ use Rattle.kernel_steps.specs.Outcomes.{EndsAs}
 use Rattle.kernel_steps.specs.declared.stop.Stop.{Stop}
 use Rattle.kernel_steps.specs.declared.stop.Stop.TheVariants as stop
 use Rattle.kernel_top.specs.Words.{IsRun}
-use Rattle.kernel_top.specs.Reading.{HasEnded}
-use Rattle.kernel_top.specs.Outcomes.{status_of, Seen, seen, IsQuiet, IsNoScript, Outcome, Completes}
+use Rattle.kernel_top.specs.Reading.{HasEnded, IsAll}
+use Rattle.kernel_top.specs.Outcomes.{status_of, Seen, seen, IsQuiet, IsNoScript, Outcome, Came, CameOf, Completes}
 use Rattle.kernel_top.specs.declared.status.Status.{Status}
 use Rattle.kernel_top.specs.declared.status.Status.TheVariants as status
+use Rattle.kernel_steps.proofs.HostCalls.{calls_told}
 use Rattle.kernel_top.proofs.Taking.{all_read, front_only}
 
 -- STATUSES
@@ -31,16 +32,31 @@ is_no_read_fault (Err stop.WriteFault) e = let no : status.WriteFault ≡ status
 is_no_read_fault (Err stop.NoMemory) e = let no : status.NoMemory ≡ status.ReadFault = e in cc
 
 -- THE OUTCOME
-pub quiet : (before : Seen) (source : SourceState) → IsQuiet [] [] before (record before { source = source })
-quiet before source = record { nothing = refl; alone = refl; sink = refl; host = refl }
+pub quiet : (source source' : SourceState) (sink : SinkState) (host : HostState) → IsQuiet [] [] (seen source sink host) (seen source' sink host)
+quiet source source' sink host = record { nothing = refl; alone = refl; sink = refl; host = refl }
 
 -- what a script came to that was run
 pub came : {T : Type 0} (program : Script → Program) (script : Script) (r : Result T Stop) (words : List (List ℕ)) (read written : List ℕ) (exchanges : List Exchange) (before now : Seen) →
     IsRun words → HasEnded before.source.left now.source.left → IsScript read script → EndsAs r (program script) script exchanges written before.sink now.sink →
     Outcome program (status_of r) words read written exchanges before now
-came program script (Ok x) words read written exchanges before now run ended is so = (run, ended, (script, is, so))
-came program script (Err stop.WriteFault) words read written exchanges before now run ended is so = (run, ended, (script, is, so))
-came program script (Err stop.NoMemory) words read written exchanges before now run ended is so = (run, inr (ended, (script, is, so)))
+came program script (Ok x) words read written exchanges before now run ended is so = (run, record { ended = ended; script = script; is = is; so = so })
+came program script (Err stop.WriteFault) words read written exchanges before now run ended is so = (run, record { ended = ended; script = script; is = is; so = so })
+came program script (Err stop.NoMemory) words read written exchanges before now run ended is so = (run, inr (record { ended = ended; script = script; is = is; so = so }))
+
+-- and so it is of the bytes of a source, and the host has told its calls
+pub came_from : {H : Type 0} (hosted : H → HostState) (made : H → H → Ask → ℕ → Answer → Type 0) (program : Script → Program) (words : List (List ℕ)) (bytes : List ℕ) (answer : Status) (start now : H) (source source' : SourceState) (sink sink' : SinkState) →
+    IsRun words → IsAll bytes source source' → CameOf hosted made program bytes answer start now sink sink' → Came hosted made program words answer start now source source' sink sink'
+came_from hosted made program words bytes answer start now source source' sink sink' run all of = record {
+  read = bytes;
+  written = of.written;
+  exchanges = of.exchanges;
+  taken = all.taken;
+  few = omega (arith, all.short);
+  put = of.put;
+  calls = of.calls;
+  told = calls_told hosted made start now of.exchanges of.calls;
+  outcome = of.outcome words source source' run all.ended;
+}
 
 -- COMPLETENESS
 -- a script is not refused
@@ -49,11 +65,11 @@ told_ended bytes None now told ended = absurd (let no : None ≡ Some bytes = to
 told_ended bytes (Some left) now told ended = ended
 
 no_script_read : (bytes read : List ℕ) (script : Script) (line : ℕ) (before now : Option (List ℕ)) → before ≡ Some bytes → Consumes before now read → HasEnded before now ⊎ (longest_script < length read) → IsScript bytes script → IsNoScript read line → ⊥
-no_script_read bytes read script line before now told taken (inl end) is no =
+no_script_read bytes read script line before now told taken (inl end) is refused =
     let all : Consumes (Some bytes) now read = subst (λ o. Consumes o now read) told taken in
     let same : bytes ≡ read = all_read bytes read now all (told_ended bytes before now told end) in
-    no.none script (subst (λ l. IsScript l script) same is)
-no_script_read bytes read script line before now told taken (inr long) is no =
+    refused.none script (subst (λ l. IsScript l script) same is)
+no_script_read bytes read script line before now told taken (inr long) is refused =
     let all : Consumes (Some bytes) now read = subst (λ o. Consumes o now read) told taken in
     omega (arith, long, front_only bytes read now all, is.short)
 
@@ -64,6 +80,6 @@ module _ (program : Script → Program) (words : List (List ℕ)) (read written 
   completes status.Done o r w = λ bytes script run told is unread unwritten. inl refl
   completes status.NoMemory o r w = λ bytes script run told is unread unwritten. inr refl
   completes status.Usage (never, none, nothing, alone, kept) r w = λ bytes script run told is unread unwritten. absurd (never run)
-  completes (status.Script line) (first, ended, no, kept) r w = λ bytes script run told is unread unwritten. absurd (no_script_read bytes read script line source.left source'.left told taken ended is no)
+  completes (status.Script line) (first, ended, refused, kept) r w = λ bytes script run told is unread unwritten. absurd (no_script_read bytes read script line source.left source'.left told taken ended is refused)
   completes status.ReadFault o r w = λ bytes script run told is unread unwritten. absurd (unread (r refl))
   completes status.WriteFault o r w = λ bytes script run told is unread unwritten. absurd (unwritten (w refl))

@@ -39,8 +39,11 @@ pub record IsQuiet (written : List ℕ) (exchanges : List Exchange) (before now 
   pub host : now.host ≡ before.host
 
 -- the source has ended, the bytes read are a script, and this is so of it
-abbrev pub OfScript : (read : List ℕ) → (before now : Seen) → (Script → Type 0) → Type 0
-OfScript read before now So = HasEnded before.source.left now.source.left × ((script : Script) × IsScript read script × So script)
+pub record OfScript (read : List ℕ) (before now : Seen) (So : Script → Type 0) : Type 0 where
+  pub ended : HasEnded before.source.left now.source.left
+  pub script : Script
+  pub is : IsScript read script
+  pub so : So script
 
 -- the bytes read are no script, and this is the line of the fault
 pub record IsNoScript (read : List ℕ) (line : ℕ) : Type 0 where
@@ -64,7 +67,7 @@ Outcome program status.NoMemory words read written exchanges before now =
 
 -- What a call came to. The bytes read and written are those that source and sink tell, where they tell any. The exchanges
 -- are the calls that were made on the host, which tells them where it tells any.
-pub record Came {H : Type 0} (hosted : H → HostState) (made : H → H → Ask → ℕ → Answer → Type 0) (program : Script → Program) (words : List (List ℕ)) (status : Status) (start now : H) (source source' : SourceState) (sink sink' : SinkState) : Type 0 where
+pub record Came {H : Type 0} (hosted : H → HostState) (made : H → H → Ask → ℕ → Answer → Type 0) (program : Script → Program) (words : List (List ℕ)) (answer : Status) (start now : H) (source source' : SourceState) (sink sink' : SinkState) : Type 0 where
   pub read : List ℕ
   pub written : List ℕ
   pub exchanges : List Exchange
@@ -73,19 +76,19 @@ pub record Came {H : Type 0} (hosted : H → HostState) (made : H → H → Ask 
   pub put : Appends sink.held sink'.held written
   pub calls : CallsSince hosted made start now exchanges
   pub told : Tells (hosted start).told (hosted now).told exchanges
-  pub outcome : Outcome program status words read written exchanges (seen source sink (hosted start)) (seen source' sink' (hosted now))
+  pub outcome : Outcome program answer words read written exchanges (seen source sink (hosted start)) (seen source' sink' (hosted now))
 
 -- What became of bytes that were read, from whatever source that has ended.
-pub record CameOf {H : Type 0} (hosted : H → HostState) (made : H → H → Ask → ℕ → Answer → Type 0) (program : Script → Program) (bytes : List ℕ) (status : Status) (start now : H) (sink sink' : SinkState) : Type 0 where
+pub record CameOf {H : Type 0} (hosted : H → HostState) (made : H → H → Ask → ℕ → Answer → Type 0) (program : Script → Program) (bytes : List ℕ) (answer : Status) (start now : H) (sink sink' : SinkState) : Type 0 where
   pub written : List ℕ
   pub exchanges : List Exchange
   pub put : Appends sink.held sink'.held written
   pub calls : CallsSince hosted made start now exchanges
   pub outcome : (words : List (List ℕ)) (source source' : SourceState) → IsRun words → HasEnded source.left source'.left →
-      Outcome program status words bytes written exchanges (seen source sink (hosted start)) (seen source' sink' (hosted now))
+      Outcome program answer words bytes written exchanges (seen source sink (hosted start)) (seen source' sink' (hosted now))
 
 -- Where neither source nor sink failed, a script is run to its end, or memory was wanting.
 abbrev pub Completes : Status → (words : List (List ℕ)) → (source source' : SourceState) → (sink sink' : SinkState) → Type 0
-Completes status words source source' sink sink' =
+Completes answer words source source' sink sink' =
     (bytes : List ℕ) (script : Script) → IsRun words → source.left ≡ Some bytes → IsScript bytes script →
-    (Rose source.faults source'.faults → ⊥) → (Rose sink.faults sink'.faults → ⊥) → (status ≡ status.Done) ⊎ (status ≡ status.NoMemory)
+    (Rose source.faults source'.faults → ⊥) → (Rose sink.faults sink'.faults → ⊥) → (answer ≡ status.Done) ⊎ (answer ≡ status.NoMemory)

@@ -1,5 +1,5 @@
 //! The top call.
-ghost use Rattle.std.specs.Prelude.{◌≡◌, ◌^◌, ◌≤◌, length, map, string_bytes, IsTrue};
+ghost use Rattle.std.specs.Prelude.{◌≡◌, ◌≢◌, ◌^◌, ◌≤◌, length, map, string_bytes, IsTrue};
 ghost use Rattle.ek_types.specs.Io.{HasCause};
 ghost use Rattle.kernel_run.specs.Whole.{program_with};
 ghost use Rattle.kernel_top.specs.Outcomes.{Came, CameOf, Completes};

@@ -167,8 +167,9 @@ process 0 #<process c> exit 0
     )?;
     let script = waits(rt.alloc(), 3)?;
     let bytes = output.as_bytes();
+    let (front, back) = bytes.split_at(4096.min(bytes.len()));
     let plays = one_child(rt.alloc(), &[bytes])?;
-    let exchanges = exchanges(rt.alloc(), &[&bytes[..4096], &bytes[4096..]])?;
+    let exchanges = exchanges(rt.alloc(), &[front, back])?;
     check_run(
         &rt,
         rt.alloc(),

@@ -1,9 +1,9 @@
-use Rattle.std.proofs.Common.{refl, ap, sym, ◌∙◌, [], inl, inr, Err}
+use Rattle.std.proofs.Common.{refl, ap, sym, ◌∙◌, [], inl, Err}
 use Rattle.std.proofs.KnownBytes.{Appends-nil}
 use Rattle.ek_call.specs.Meaning.{script_of}
 use Rattle.kernel_run.specs.Whole.{program_with}
 use Rattle.kernel_top.specs.Outcomes.{seen}
-use Rattle.kernel_top.proofs.Outcomes.{came, is_write_fault, is_no_read_fault}
+use Rattle.kernel_top.proofs.Outcomes.{quiet, came, is_write_fault, is_no_read_fault}
 use Rattle.kernel_top.proofs.top.run_bytes.Goals as goal
 
 pub returns-in-Err-Line-clause-outcome : goal.returns-in-Err-Line-clause-outcome
@@ -15,7 +15,7 @@ returns-in-Err-Line-clause-outcome g c =
       exchanges = [];
       put = Appends-nil _;
       calls = refl;
-      outcome = λ words source source' run ended. rw c.in-Err-Line.line-is (run, inl ended, record { none = none; at = at }, record { nothing = refl; alone = refl; sink = refl; host = refl });
+      outcome = λ words source source' run ended. rw c.in-Err-Line.line-is (run, inl ended, record { none = none; at = at }, quiet source source' _ _);
     }
 
 pub returns-in-Err-NoMemory-clause-outcome : goal.returns-in-Err-NoMemory-clause-outcome
@@ -24,7 +24,16 @@ returns-in-Err-NoMemory-clause-outcome g c = record {
   exchanges = [];
   put = Appends-nil _;
   calls = refl;
-  outcome = λ words source source' run ended. (run, inl (record { nothing = refl; alone = refl; sink = refl; host = refl }));
+  outcome = λ words source source' run ended. (run, inl (quiet source source' _ _));
+}
+
+pub returns-in_default-clause-outcome : goal.returns-in_default-clause-outcome
+returns-in_default-clause-outcome g c = record {
+  written = [];
+  exchanges = [];
+  put = Appends-nil _;
+  calls = refl;
+  outcome = λ words source source' run ended. (run, inl (quiet source source' _ _));
 }
 
 pub returns-clause-outcome : goal.returns-clause-outcome
@@ -37,7 +46,7 @@ returns-clause-outcome g c =
       calls = calls;
       outcome = λ words source source' run ended.
           came (λ script. program_with g.N.Natives.names g.N.Natives.does script c.args.natives.now) (script_of c.in-Ok.script) c.run_script-ended.result words c.args.bytes.now written exchanges
-              (seen source (g.K.Sink.state c.args.sink.now) (g.H.Host.state c.args.host.now)) (seen source' (g.K.Sink.state c.run_script-ended.new.sink) (g.H.Host.state c.run_script-ended.new.host)) run ended c.in-Ok.ensures.script so;
+          (seen source (g.K.Sink.state c.args.sink.now) (g.H.Host.state c.args.host.now)) (seen source' (g.K.Sink.state c.run_script-ended.new.sink) (g.H.Host.state c.run_script-ended.new.host)) run ended c.in-Ok.ensures.script so;
     })
 
 pub returns-clause-no_read : goal.returns-clause-no_read
