@@ -59,6 +59,9 @@ some_lives (None ∷ buffers) zero h = cc
 some_lives (Some n ∷ buffers) zero h = (n, refl)
 some_lives (x ∷ buffers) (suc id) h = some_lives buffers id h
 
+pub live_made : (buffers : List (Option Named)) (id : ℕ) → is_live buffers id ≡ true → id < length buffers
+live_made buffers id h = let n = some_lives buffers id h in slice_get_within buffers id (Some n.0) n.1
+
 pub some_here : (buffers : List (Option Named)) (id : ℕ) (o : Option Named) → id < length buffers → o ≡ get_or buffers id o → is_some o ≡ true → is_live buffers id ≡ true
 some_here buffers id o l e h = ap (λ x. is_some (unwrap_or x None)) (slice_get_read buffers (length buffers) id o refl l e) ∙ h
 

@@ -107,7 +107,7 @@ overlay_found id size (x ∷ xs) (suc j) h = overlay_found id size xs j (All-tai
 
 -- KEPT PLACES
 pub saved_placed : (k : Kept) (s : Saved) (other size : ℕ) → Stands k other size → IsKeptPlace (editor_of k) s → SavedWithin other size s
-saved_placed k s other size lives p = λ e. given_place k (kept.buffer_of s) other (kept.last_place s) size lives p e
+saved_placed k s other size lives p = λ e. given_place k (kept.buffer_of s) other (kept.last_place s) size lives (record { live = p.live; within = p.within }) e
 
 pub saved_popped : {A : Type 0} (id size : ℕ) (r : Option A) (f : A → Saved) (old new : List Saved) → IfSome r (λ s. old ≡ f s ∷ new) → IfNone r (new ≡ old) → All (SavedWithin id size) old → All (SavedWithin id size) new
 saved_popped id size None f old new some none w = subst (All (SavedWithin id size)) (sym none) w

@@ -21,6 +21,7 @@ impl Editor {
         ensures lies { IfSome result (λ b. LiesIn self.now.pool b.now.text) }
         ensures sets { IfSome result (λ b. b.now.sets ≡ map (λ c. c.1) (buffer_at (editor_of self.now) id).text) }
         ensures named { IfSome result (λ b. b.now ≡ (named_at self.now.buffers id).buffer) }
+        ensures made { IfSome result (λ _. id < 256) }
     {
         // The invariant is known where a field is read.
         let _buffers = &self.buffers;
@@ -40,7 +41,7 @@ impl Editor {
         self.alloc
     }
 
-    /// Whether a live buffer has the number.
+    /// Whether a live buffer has the number, which is below 256 then.
     pub fn is_live(&self, id: u32) -> bool
         ensures live { result ≡ is_live (editor_of self.now) id }
         ensures made { result ≡ true → id < 256 }

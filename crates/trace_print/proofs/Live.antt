@@ -1,5 +1,5 @@
 -- The lines of live buffers.
-use Rattle.std.proofs.Common.{◌≡◌, ℕ, List, [], sym, ap, ◌∙◌, refl}
+use Rattle.std.proofs.Common.{◌≡◌, ℕ, List, [], sym, ap, ◌∙◌}
 use Rattle.std.specs.Prelude.{Option, Some, None, ◌==◌, Bool}
 use Rattle.editor_model.specs.Editor.{Live}
 use Rattle.plain_machine.specs.Lines.{shown_live}

@@ -1,14 +1,13 @@
 -- The lines of a run.
 use Rattle.std.proofs.Common.{◌≡◌, ℕ, zero, suc, ◌+◌, ◌<◌, ◌≤◌, List, [], ◌∷◌, ◌++◌, length, map, refl, ap, sym, ◌∙◌, arith, append-nil}
-use Rattle.std.specs.Prelude.{codes, decimal, flat_map, slice_get, Option, Some, None, option_map}
+use Rattle.std.specs.Prelude.{codes, decimal, flat_map, Option}
 use Rattle.std.specs.List.{enumerate_from}
 use Rattle.std.specs.Fmt.{digits}
-use Rattle.std.proofs.lemmas.Option.{slice_get-map}
 use Rattle.editor_model.specs.Editor.{Editor}
 use Rattle.editor_model.specs.Values.{Value, Values, Nil, T, Int, Sym, Str, Items, Dotted, TheBuffer, TheMarker, TheOverlay, TheProcess, End, More, Reply, Answered, Refused}
-use Rattle.plain_machine.specs.State.{State, Process}
-use Rattle.plain_machine.specs.Lines.{Kind, Replied, Entered, Left, KilledLast, Dumped, line, shown_live, shown_status, indented, spaced, bracketed, shown, shown_each, shown_name, shown_buffer, shown_marker, shown_overlay, shown_process, fault_words, kind_word, handler_word}
-use Rattle.process_table.specs.Table.{kept}
+use Rattle.plain_machine.specs.State.{State}
+use Rattle.plain_machine.specs.Lines.{Kind, Replied, Entered, Left, KilledLast, Dumped, line, shown_live, indented, spaced, bracketed, shown, shown_each, shown_buffer, shown_marker, shown_overlay, shown_process, fault_words, kind_word, handler_word}
+use Rattle.process_table.specs.Table.{with_table}
 use Rattle.ek_call.specs.Meaning.{view}
 use Rattle.ek_call.specs.Faults.{fault_of, fault_number, fault_name}
 use Rattle.ek_call.specs.declared.value.Value as declared
@@ -69,8 +68,11 @@ spaced_led w [] = append-nil w
 spaced_led w (v ∷ words) = ap (λ l. w ++ l) (led_spaced v words)
 
 -- THE STATE
--- a value is printed alike in states that have one editor and processes of the same names
-module _ (symbols : List (List ℕ)) (s t : State) (e : s.editor ≡ t.editor) (k : (p : ℕ) → shown_process s p ≡ shown_process t p) where
+process_alike : (s t : State) → s.processes ≡ t.processes → (p : ℕ) → shown_process s p ≡ shown_process t p
+process_alike s t k p = ap (λ l. shown_process (with_table l) p) k
+
+-- a value is printed alike in states that have one editor and the same processes
+module _ (symbols : List (List ℕ)) (s t : State) (e : s.editor ≡ t.editor) (k : s.processes ≡ t.processes) where
   mutual
     pub shown_alike : (v : Value) → shown symbols s v ≡ shown symbols t v
     shown_alike Nil = refl
@@ -83,7 +85,7 @@ module _ (symbols : List (List ℕ)) (s t : State) (e : s.editor ≡ t.editor) (
     shown_alike (TheBuffer b) = ap (λ x. shown_buffer x b) e
     shown_alike (TheMarker m) = ap (λ x. shown_marker x m) e
     shown_alike (TheOverlay o) = ap (λ x. shown_overlay x o) e
-    shown_alike (TheProcess p) = k p
+    shown_alike (TheProcess p) = process_alike s t k p
 
     pub each_alike : (vs : Values) → shown_each symbols s vs ≡ shown_each symbols t vs
     each_alike End = refl
@@ -93,13 +95,6 @@ module _ (symbols : List (List ℕ)) (s t : State) (e : s.editor ≡ t.editor) (
   words_alike [] = refl
   words_alike (v ∷ vs) = ap (λ l. l ∷ map (shown symbols s) vs) (shown_alike v) ∙ ap (λ l. shown symbols t v ∷ l) (words_alike vs)
 
-abbrev words_of : Option Process → List ℕ
-words_of found = elim found [ Some x ↦ codes "#<process " ++ (shown_name x.name ++ codes ">") | None ↦ [] ]
-
-kept_words : (found : Option Process) → words_of (option_map kept found) ≡ words_of found
-kept_words None = refl
-kept_words (Some x) = refl
-
 -- the dump, by the lines of its processes
 abbrev edited : List (List ℕ) → Editor → List ℕ → List ℕ
 edited symbols e processes =
@@ -108,12 +103,9 @@ edited symbols e processes =
     (flat_map (overlay_line symbols e) (enumerate_from 0 e.marks.overlays) ++ processes))
 
 module _ (names : Names) (s : State) (known : AreNamesIn s names) where
-  pub process_alike : (p : ℕ) → shown_process (state_of names) p ≡ shown_process s p
-  process_alike p = ap (λ l. words_of (slice_get l p)) known.processes ∙ ap words_of (slice_get-map kept s.processes p) ∙ kept_words (slice_get s.processes p)
-
   module _ (symbols : List (List ℕ)) where
     pub reply_told : (depth : ℕ) (r : Reply) → margin depth ++ (reply_words symbols (state_of names) r ++ 10 ∷ []) ≡ line symbols s (Replied depth r)
-    reply_told depth (Answered v) = indents depth (reply_words symbols (state_of names) (Answered v)) ∙ ap (λ l. indented depth (codes "= " ++ l)) (shown_alike symbols (state_of names) s known.editor process_alike v)
+    reply_told depth (Answered v) = indents depth (reply_words symbols (state_of names) (Answered v)) ∙ ap (λ l. indented depth (codes "= " ++ l)) (shown_alike symbols (state_of names) s known.editor known.processes v)
     reply_told depth (Refused f) = indents depth (reply_words symbols (state_of names) (Refused f))
 
     pub entry_told : (depth : ℕ) (kind : Kind) (handler : Option ℕ) (args : List Value) →
@@ -121,16 +113,10 @@ module _ (names : Names) (s : State) (known : AreNamesIn s names) where
     entry_told depth kind handler args =
         indents depth (codes "> " ++ (kind_word kind ++ (32 ∷ (handler_word symbols handler ++ led (map (shown symbols (state_of names)) args))))) ∙
         ap (λ l. indented depth (codes "> " ++ (kind_word kind ++ (32 ∷ l)))) (spaced_led (handler_word symbols handler) (map (shown symbols (state_of names)) args)) ∙
-        ap (λ l. indented depth (codes "> " ++ spaced (kind_word kind ∷ handler_word symbols handler ∷ l))) (words_alike symbols (state_of names) s known.editor process_alike args)
+        ap (λ l. indented depth (codes "> " ++ spaced (kind_word kind ∷ handler_word symbols handler ∷ l))) (words_alike symbols (state_of names) s known.editor known.processes args)
 
     pub kill_told : (p : ℕ) → codes "kill " ++ (shown_process (state_of names) p ++ 10 ∷ []) ≡ line symbols s (KilledLast p)
-    kill_told p = ap (λ l. codes "kill " ++ (l ++ 10 ∷ [])) (process_alike p)
-
-  processes_alike : (n : ℕ) (xs : List Process) → flat_map (process_line (state_of names)) (enumerate_from n (map kept xs)) ≡ flat_map (process_line s) (enumerate_from n xs)
-  processes_alike n [] = refl
-  processes_alike n (x ∷ xs) =
-      ap (λ l. codes "process " ++ (decimal n ++ (32 ∷ (l ++ (32 ∷ (shown_status x.status ++ 10 ∷ []))))) ++ flat_map (process_line (state_of names)) (enumerate_from (n + 1) (map kept xs))) (process_alike n) ∙
-      ap (λ l. process_line s (n, x) ++ l) (processes_alike (n + 1) xs)
+    kill_told p = ap (λ l. codes "kill " ++ (l ++ 10 ∷ [])) (process_alike (state_of names) s known.processes p)
 
   pub dump_told : (symbols : List (List ℕ)) →
       flat_map (shown_live symbols (editor_of names.editor.now).current) (enumerate_from 0 (editor_of names.editor.now).buffers) ++
@@ -139,7 +125,7 @@ module _ (names : Names) (s : State) (known : AreNamesIn s names) where
       flat_map (process_line (state_of names)) (enumerate_from 0 (state_of names).processes))) ≡ line symbols s Dumped
   dump_told symbols =
       ap (λ (e : Editor). edited symbols e (flat_map (process_line (state_of names)) (enumerate_from 0 (state_of names).processes))) known.editor ∙
-      ap (edited symbols s.editor) (ap (λ l. flat_map (process_line (state_of names)) (enumerate_from 0 l)) known.processes ∙ processes_alike 0 s.processes)
+      ap (λ l. edited symbols s.editor (flat_map (process_line (with_table l)) (enumerate_from 0 l))) known.processes
 
 pub exit_told : (symbols : List (List ℕ)) (s : State) (depth : ℕ) (handler : Option ℕ) → margin depth ++ ((codes "< " ++ handler_word symbols handler) ++ 10 ∷ []) ≡ line symbols s (Left depth handler)
 exit_told symbols s depth handler = indents depth (codes "< " ++ handler_word symbols handler)

@@ -13,9 +13,9 @@ loop-id-init g c = prints_nothing
 pub loop-id-preserved : goal.loop-id-preserved
 loop-id-preserved g c =
     let e = c.args.names.now.editor.now in
-    prints_same (one_more (shown_live c.args.names.now.symbols.now (editor_of e).current) (editor_of e).buffers c.loop-id.id _ (item_there (editor_of e).buffers c.loop-id.id None (omega (arith, c.count-id-end.ensures, c.loop-id-test.true, length-map e.buffers (option_map (live_of e.pool)))))) (prints_then c.loop-id.invariant c.numbered_buffer.ensures)
+    prints_same (one_more (shown_live c.args.names.now.symbols.now (editor_of e).current) (editor_of e).buffers c.loop-id.id _ (item_there (editor_of e).buffers c.loop-id.id None (omega (arith, c.count-id-end.ensures.number, c.loop-id-test.true, length-map e.buffers (option_map (live_of e.pool)))))) (prints_then c.loop-id.invariant c.numbered_buffer.ensures)
 
 pub returns : goal.returns
 returns g c =
     let e = c.args.names.now.editor.now in
-    prints_same (all_lines (shown_live c.args.names.now.symbols.now (editor_of e).current) (editor_of e).buffers c.loop-id.id (omega (arith, c.count-id-end.ensures, c.loop-id-test.false, length-map e.buffers (option_map (live_of e.pool))))) c.loop-id.invariant
+    prints_same (all_lines (shown_live c.args.names.now.symbols.now (editor_of e).current) (editor_of e).buffers c.loop-id.id (omega (arith, c.count-id-end.ensures.number, c.loop-id-test.false, length-map e.buffers (option_map (live_of e.pool))))) c.loop-id.invariant
