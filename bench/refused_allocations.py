@@ -148,6 +148,7 @@ ROW_PROGRAM = r"""//! A row where one allocation is refused: standard input has 
 #![tactic(auto)]
 
 use ek_types::{ListOf, MemorySink, MemorySource};
+use handler_code::NoNatives;
 use host_link::{Answer, Answers, Ask, Exchange, Host, MemoryHost, Play};
 use kernel_top::run;
 use std::alloc::Global;
@@ -249,7 +250,7 @@ fn run_row(rt: &HostRuntime, row: &Given) -> Result<(), Fail> {
     let mut sink = MemorySink::new(alloc, 100_000, 1000, Vec::new(alloc))?;
     let mut host = MemoryHost::new(plays, Vec::new(alloc));
     text(rt, b"set up\n");
-    let status = run(alloc, words.as_slice(), &mut source, &mut sink, &mut host);
+    let status = run(alloc, words.as_slice(), &mut source, &mut sink, &mut host, &NoNatives);
     let _ = println!(rt; "{status:?}");
     if let Some(told) = host.told() {
         for i in 0..told.len() {
@@ -584,7 +585,7 @@ def try_rows():
     given = "".join(rust_row(script, reads) for _, script, reads, _ in ROWS)
     program = ROW_PROGRAM.replace("ROW_COUNT", str(len(ROWS))).replace("    GIVEN_ROWS\n", given)
     inputs = [f"{row} {n}" for row in range(len(ROWS)) for n in [*range(1, LAST + 1), AMPLE]]
-    said = outputs(["ek_types", "host_link", "kernel_top"], program, inputs)
+    said = outputs(["ek_types", "handler_code", "host_link", "kernel_top"], program, inputs)
     right = True
     for row, (name, _, _, lines) in enumerate(ROWS):
         lines = lines[1:]
