@@ -41,9 +41,6 @@ set_at s x (r ∷ rs) (suc i) within here before =
 pub set_found : (s : Sym) (x : Value) (rs : List (Sym × Value)) (i : ℕ) → position (is_named (number_of s)) rs ≡ Some i → registers_of (slice_set rs i (s, x)) ≡ with_register (number_of s) (view x) (registers_of rs)
 set_found s x rs i at = let d : Sym × Value = (s, x) in let p = position-Some (is_named (number_of s)) rs i d at in set_at s x rs i p.0 p.1 p.2
 
-pub within_found : (s : Sym) (x : Value) (rs : List (Sym × Value)) (i : ℕ) → position (is_named (number_of s)) rs ≡ Some i → i < length rs
-within_found s x rs i at = let d : Sym × Value = (s, x) in (position-Some (is_named (number_of s)) rs i d at).0
-
 pub named_at : (params : List Sym) (i : ℕ) (d : Sym) → i < length params → slice_get (map number_of params) i ≡ Some (number_of (get_or params i d))
 named_at [] i d below = absurd (omega arith)
 named_at (p ∷ params) zero d below = refl
