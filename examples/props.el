@@ -1,0 +1,36 @@
+; Text properties: given, searched for, and inherited by what is put in beside them.
+
+(insert "plain bold italic")
+(put-text-property 7 11 'face 'bold)
+(add-text-properties 12 18 '(face italic size 2))
+(add-text-properties 12 18 '(face italic))
+(get-text-property 7 'face)
+(text-properties-at 12)
+(next-property-change 1)
+(next-single-property-change 7 'face)
+(next-single-property-change 1 'size 10)
+(next-property-change 12)
+(previous-property-change 18)
+(previous-single-property-change 12 'face)
+(text-property-any 1 18 'face 'italic)
+(text-property-not-all 7 18 'face 'bold)
+
+; A character offers its properties to what comes behind it, unless it says otherwise.
+(goto-char 11)
+(insert-and-inherit "er")
+(insert "!")
+(put-text-property 7 13 'rear-nonsticky t)
+(goto-char 13)
+(insert-and-inherit "?")
+(remove-text-properties 7 13 '(rear-nonsticky nil))
+(set-text-properties 16 22 '(face underline))
+(buffer-string)
+(buffer-substring-no-properties 7 11)
+
+; To what comes before it a character offers those that its stickiness names.
+(put-text-property 16 17 'front-sticky '(face))
+(goto-char 16)
+(insert-and-inherit "x")
+(text-properties-at 16)
+(get-text-property 17 'front-sticky)
+(insert #("link" 0 4 (face link)))
