@@ -1,4 +1,4 @@
-ghost use Rattle.std.specs.Prelude.{◌^◌, ◌≤◌, length};
+ghost use Rattle.std.specs.Prelude.{◌≡◌, ◌^◌, ◌≤◌, [], length, IfOk};
 
 use super::*;
 use ek_types::{ListOf, MemorySink, MemorySource};
@@ -31,7 +31,9 @@ fn written(rt: &HostRuntime, script: &str) -> Result<(Status, Vec<u8>), Fail> {
 }
 
 /// One child that gives these bytes, and then none yet.
-fn one_child(alloc: Global, bytes: &[u8]) -> Result<MemoryHost, Fail> {
+fn one_child(alloc: Global, bytes: &[u8]) -> Result<MemoryHost, Fail>
+    ensures { IfOk result (λ host. host.kills ≡ []) }
+{
     let mut heard = ListOf::new(alloc);
     for byte in bytes {
         heard.push(*byte)?;
