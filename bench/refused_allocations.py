@@ -1,26 +1,28 @@
 #!/usr/bin/env python3
 """Refuses each allocation in turn, one a run, and judges what each run answers and writes.
 
-    python3 bench/refused_allocations.py [LAST]     (allocations 1 to 110 if no number is given)
+    python3 bench/refused_allocations.py [WORD]     (the runs whose names have this word, all if none is given)
 
 It uses `rt try`, which proves nothing and refuses the allocation of a given number. So that all runs need one build,
-that number is fixed, and each run first makes and drops so many others that the wanted one comes to it. A refusal while
-a run is set up is told apart ("before the run").
+that number is fixed, and each run first makes and drops so many others that the wanted one comes to it. How many
+allocations a run makes is found by making more behind it, until the one that is refused is among them.
 
-A row of the program is a script, a source, a sink and a host in memory, and the lines that it writes where memory is
-ample. It must answer
+The runs are those that the tests of `kernel_top` work out, and some more: each a script, with a source, a sink and a
+host in memory. What a run writes and asks where memory is ample is what the tests compare. Where an allocation is refused it
+must answer
 
 - Done, with all lines and all exchanges, or
-- NoMemory, with whole lines that are a front of all lines; its exchanges are a front of all exchanges but the kills,
-  and behind them a kill of the child where it was started and not heard to have ended, and nothing else; and the
-  entries of filters among its lines spell just what was read.
+- NoMemory, with whole lines that are a front of all lines; its exchanges are a front of all exchanges, and behind them
+  a kill of each child that lives by these, by rising number, and nothing else; and the entries of filters among its
+  lines spell just what was read.
 
 A text in blocks is made to grow, changed, copied and read. Where one of these is refused the text must be as it was,
 with as many blocks lent out as before, and a second try, for which there is memory, must succeed; in the end the text
 must be what it is without refusals, and all blocks given back.
 
-Prints the allocations by ranges, and ends with status 1 where a run answers otherwise.
+Prints what became of the allocations of each run, and ends with status 1 where a run answers otherwise.
 """
+import collections
 import os
 import re
 import shutil
@@ -29,143 +31,49 @@ import sys
 import tempfile
 
 TOP = os.path.dirname(os.path.dirname(os.path.abspath(__file__)))
-LAST = int(sys.argv[1]) if len(sys.argv) > 1 else 110
-AMPLE = 999
+TESTS = f"{TOP}/crates/kernel_top/src/tests"
+WORD = sys.argv[1] if len(sys.argv) > 1 else ""
+# The allocation that is refused, counted from the beginning of a program: one of these, the least that is more than a run makes.
+REFUSED = [600, 5000]
+TEXT_ALLOCATIONS = 110
 
-START = '(start-process "c" "*scratch*" "cat")'
-WAIT = "(accept-process-output)"
+# The tests' tables of runs.
+TABLES = ["edits", "undos", "hooks", "waits", "filters", "reentry", "nesting"]
 
-# The name of a row, its script, what the child gives at each read (None: no child can be started), and all lines.
-ROWS = [
-    ("the empty script", "", None, """
-buffer *scratch* point 1 min 1 max 1 modified nil current
-text ""
-"""),
-    ("insert, go, delete", '(insert "hello")(goto-char 2)(delete-region 2 3)', None, """
-= nil
-= 2
-= nil
-buffer *scratch* point 2 min 1 max 5 modified t current
-text "hllo"
-"""),
-    ("a longer insertion behind these",
-     '(insert "hello")(goto-char 2)(delete-region 2 3)(insert "abcdefghijklmnopqrstuvwxyz")(insert "")', None, """
-= nil
-= 2
-= nil
-= nil
-= nil
-buffer *scratch* point 28 min 1 max 31 modified t current
-text "habcdefghijklmnopqrstuvwxyzllo"
-"""),
-    ("a region out of range", '(insert "ab")(delete-region 1 9)', None, """
-= nil
-! 1 args-out-of-range
-buffer *scratch* point 3 min 1 max 3 modified t current
-text "ab"
-"""),
-    ("an empty insertion", '(insert "")(goto-char 7)', None, """
-= nil
-= 7
-buffer *scratch* point 1 min 1 max 1 modified nil current
-text ""
-"""),
-    ("a child that can't be started", START + WAIT + WAIT, None, """
-! 12 spawn-failed
-= nil
-= nil
-buffer *scratch* point 1 min 1 max 1 modified nil current
-text ""
-"""),
-    ("a child that is heard out", START + WAIT + WAIT, [b"ab"], r"""
-= #<process c>
-> filter default #<process c> "ab"
-< default
-= t
-> sentinel default #<process c> "finished\n"
-< default
-= nil
-buffer *scratch* point 23 min 1 max 23 modified t current
-text "ab\nProcess c finished\n"
-marker 0 #<marker at 23 in *scratch*>
-process 0 #<process c> exit 0
-"""),
-    ("a child without a buffer", '(start-process "c" nil "cat")(insert "ab")' + WAIT + "(goto-char 9)" + WAIT, [b"ab\n"],
-     r"""
-= #<process c>
-= nil
-> filter default #<process c> "ab\n"
-< default
-= t
-= 9
-> sentinel default #<process c> "finished\n"
-< default
-= nil
-buffer *scratch* point 3 min 1 max 3 modified t current
-text "ab"
-marker 0 #<marker in no buffer>
-process 0 #<process c> exit 0
-"""),
+# More runs: the name, the script, and what the child gives at each read.
+MORE = [
+    ("a longer insertion", '(insert "hello")(goto-char 2)(insert "abcdefghijklmnopqrstuvwxyz")(insert "")', []),
+    ("a child without a buffer", '(start-process "c" nil "cat")(insert "ab")(accept-process-output)(accept-process-output)',
+     [b"ab\n"]),
     ("a child that lives at the end, with a character cut across its reads",
-     '(start-process "c" "*scratch*" "cat" "x" "y")' + WAIT + WAIT + "(accept-process-output nil 1)" + WAIT,
-     [b"a\xE2", b"\x82", b"\xAC\xF0\x9F", b"\xFF"], r"""
-= #<process c>
-> filter default #<process c> "a"
-< default
-= t
-= t
-> filter default #<process c> "€"
-< default
-= t
-> filter default #<process c> "\360\237\377"
-< default
-= t
-kill #<process c>
-buffer *scratch* point 6 min 1 max 6 modified t current
-text "a€\360\237\377"
-marker 0 #<marker at 6 in *scratch*>
-process 0 #<process c> run 0
-"""),
-    ("a beginning of a character at the end of the output", START + WAIT + WAIT + '(insert "z")', [b"a\xE2\x82"], r"""
-= #<process c>
-> filter default #<process c> "a"
-< default
-= t
-> filter default #<process c> "\342\202"
-< default
-> sentinel default #<process c> "finished\n"
-< default
-= nil
-= nil
-buffer *scratch* point 25 min 1 max 25 modified t current
-text "a\342\202\nProcess c finished\nz"
-marker 0 #<marker at 24 in *scratch*>
-process 0 #<process c> exit 0
-"""),
+     '(start-process "c" "*scratch*" "cat" "x" "y")' + "(accept-process-output)" * 4,
+     [b"a\xE2", b"\x82", b"\xAC\xF0\x9F", b"\xFF"]),
+    ("a sentinel that starts its successor",
+     """(defhandler s (p m) (setq p (start-process "c" "out" "cat"))(set-process-sentinel p 's))
+(setq p (start-process "c" "out" "cat"))(set-process-sentinel p 's)(accept-process-output nil 9)""", [b"a"]),
+    ("properties, overlays and a killed buffer",
+     """(get-buffer-create "w")(set-buffer "w")(insert #("abcd" 1 3 (face bold)))(setq o (make-overlay 2 4))
+(overlay-put o 'face 'inner)(add-text-properties 1 3 '(x (a b)))(save-excursion (erase-buffer))(undo-start)(undo-more 1)
+(buffer-undo-list)(get-char-property 2 'face)(kill-buffer)""", []),
 ]
 
-ROW_PROGRAM = r"""//! A row where one allocation is refused: standard input has the number of the row and that of the allocation.
+ROW_PROGRAM = r"""//! A run where one allocation is refused: standard input has the number of the run, how many allocations come before it, and
+//! whether allocations behind it are counted.
 #![tactic(auto)]
+
+mod playing;
+MODULES
 
 use ek_types::{ListOf, MemorySink, MemorySource};
 use handler_code::NoNatives;
-use host_link::{Answer, Answers, Ask, Exchange, Host, MemoryHost, Play};
+use host_link::{Answer, Answers, Ask, Ended, Exchange, Host, MemoryHost, Play};
 use kernel_top::run;
+use playing::{Child, Row};
 use std::alloc::Global;
 use std::io::{self, Read, Write};
 use std::test::Fail;
 
-/// The allocation that is refused, counted from the beginning of the program.
-const REFUSED: usize = 1000;
-
-struct Given {
-    script: &'static str,
-    children: &'static [&'static [&'static [u8]]],
-}
-
-const ROWS: [Given; ROW_COUNT] = [
-    GIVEN_ROWS
-];
+const TABLES: [&[Row]; TABLE_COUNT] = [TABLE_NAMES];
 
 fn text(rt: &HostRuntime, bytes: &[u8]) {
     let _ = io::writer(rt).write_all(bytes);
@@ -218,31 +126,45 @@ fn show_answer(rt: &HostRuntime, answer: &Answer) {
         Answer::Nothing => text(rt, b"nothing"),
         Answer::End => text(rt, b"end"),
         Answer::Code(code) => named(rt, b"code ", *code as u64),
+        Answer::Signal => text(rt, b"signal"),
+        Answer::Running => text(rt, b"running"),
         Answer::Killed => text(rt, b"killed"),
+        Answer::Sent => text(rt, b"sent"),
+        Answer::Closed => text(rt, b"closed"),
         _ => text(rt, b"another"),
     }
 }
 
-fn play(alloc: Global, reads: &[&[u8]]) -> Result<Play, Fail> {
-    let mut answers: Answers = ListOf::new(alloc);
-    for given in reads {
+fn ended(ended: Ended) -> Answer {
+    match ended {
+        Ended::Code(code) => Answer::Code(code),
+        Ended::Signal => Answer::Signal,
+        Ended::Running => Answer::Running,
+        Ended::Failed => Answer::Failed,
+    }
+}
+
+fn play(alloc: Global, child: &Child) -> Result<Play, Fail> {
+    let mut reads: Answers = ListOf::new(alloc);
+    for given in child.reads {
         let mut bytes = ListOf::new(alloc);
         for byte in *given {
             bytes.push(*byte)?;
         }
-        answers.push(Answer::Bytes(bytes))?;
+        reads.push(Answer::Bytes(bytes))?;
     }
-    Ok(Play {
-        reads: answers,
-        ends: ListOf::new(alloc),
-    })
+    let mut ends: Answers = ListOf::new(alloc);
+    for end in child.ends {
+        ends.push(ended(*end))?;
+    }
+    Ok(Play { reads, ends })
 }
 
-fn run_row(rt: &HostRuntime, row: &Given) -> Result<(), Fail> {
+fn run_row(rt: &HostRuntime, row: &Row, whole: bool) -> Result<(), Fail> {
     let alloc = rt.alloc();
     let mut plays = Vec::new(alloc);
-    for reads in row.children {
-        plays.push(play(alloc, *reads)?)?;
+    for child in row.children {
+        plays.push(play(alloc, child)?)?;
     }
     let mut words = Vec::new(alloc);
     words.push(String::from_str(alloc, "run")?)?;
@@ -250,6 +172,9 @@ fn run_row(rt: &HostRuntime, row: &Given) -> Result<(), Fail> {
     let mut sink = MemorySink::new(alloc, 100_000, 1000, Vec::new(alloc))?;
     let mut host = MemoryHost::new(plays, Vec::new(alloc));
     text(rt, b"set up\n");
+    if !whole {
+        return Ok(());
+    }
     let status = run(alloc, words.as_slice(), &mut source, &mut sink, &mut host, &NoNatives);
     let _ = println!(rt; "{status:?}");
     if let Some(told) = host.told() {
@@ -267,26 +192,70 @@ fn run_row(rt: &HostRuntime, row: &Given) -> Result<(), Fail> {
     Ok(())
 }
 
+fn row_at(which: usize) -> Option<&'static Row> {
+    let mut left = which;
+    for table in TABLES {
+        if left < table.len() {
+            return Some(&table[left]);
+        }
+        left -= table.len();
+    }
+    None
+}
+
+/// Makes and drops so many allocations, up to one that is refused; answers how many came before that.
+fn allocate(rt: &HostRuntime, count: usize) -> usize {
+    for i in 0..count {
+        let one: Result<Vec<u8>, _> = Vec::with_capacity(rt.alloc(), 1);
+        if one.is_err() {
+            return i;
+        }
+    }
+    count
+}
+
 fn main(rt: HostRuntime) -> Result<(), Fail> {
-    let mut numbers = [0usize; 2];
-    let mut line = [0u8; 16];
+    let mut numbers = [0usize; 3];
+    let mut line = [0u8; 32];
     let Ok(count) = rt.reader().read(&mut line) else {
         return Ok(());
     };
     let mut which = 0;
     for byte in &line[..count] {
         match *byte {
-            b' ' => which = 1,
+            b' ' => which += 1,
             digit => numbers[which] = numbers[which] * 10 + (digit - b'0') as usize,
         }
     }
-    for _ in numbers[1]..REFUSED {
-        let one: Result<Vec<u8>, _> = Vec::with_capacity(rt.alloc(), 1);
-        if one.is_err() {
-            text(&rt, b"refused too early\n");
-        }
+    let Some(row) = row_at(numbers[0]) else {
+        return Ok(());
+    };
+    allocate(&rt, numbers[1]);
+    run_row(&rt, row, numbers[2] != 1)?;
+    if numbers[2] > 0 {
+        let behind = allocate(&rt, MOST);
+        named(&rt, b"\nbehind ", behind as u64);
+        text(&rt, b"\n");
     }
-    run_row(&rt, &ROWS[numbers[0]])
+    Ok(())
+}
+"""
+
+PLAYING = """//! What the tables of runs are made of.
+use host_link::Ended;
+
+#[derive(Clone, Copy)]
+pub struct Child {
+    pub reads: &'static [&'static [u8]],
+    pub ends: &'static [Ended],
+}
+
+pub struct Row {
+    pub shows: &'static str,
+    pub script: &'static str,
+    pub children: &'static [Child],
+    pub lines: &'static str,
+    pub exchanges: &'static [u8],
 }
 """
 
@@ -461,14 +430,36 @@ fn main(rt: HostRuntime) -> Result<(), Fail> {
 
 
 def rust_string(text):
-    return '"' + text.replace("\\", "\\\\").replace('"', '\\"') + '"'
+    return '"' + text.replace("\\", "\\\\").replace('"', '\\"').replace("\n", "\\n") + '"'
 
 
-def rust_row(script, reads):
-    children = ""
-    if reads is not None:
-        children = "&[" + ", ".join('b"' + "".join(f"\\x{b:02X}" for b in read) + '"' for read in reads) + "]"
-    return f"    Given {{ script: {rust_string(script)}, children: &[{children}] }},\n"
+def rust_bytes(given):
+    return 'b"' + "".join(f"\\x{byte:02X}" for byte in given) + '"'
+
+
+def more_table():
+    """The further runs as a table like those of the tests; their lines and exchanges aren't compared."""
+    rows = ""
+    for shows, script, reads in MORE:
+        child = f"Child {{ reads: &[{', '.join(map(rust_bytes, reads))}], ends: &[] }}"
+        children = f"&[{child}, {child}]" if reads else "&[]"
+        rows += f"    Row {{ shows: {rust_string(shows)}, script: {rust_string(script)}, children: {children}, "
+        rows += 'lines: "", exchanges: b"" },\n'
+    return f"use super::playing::{{Child, Row}};\n\npub const ROWS: [Row; {len(MORE)}] = [\n{rows}];\n"
+
+
+def test_table(name):
+    """The table of a test, without what uses it."""
+    code = open(f"{TESTS}/{name}.rt").read()
+    code = code[:code.index("\n#[test]")]
+    head, body = code.split("\n\n", 2)[0], code[re.search(r"^(///|const|pub const)", code, re.M).start():]
+    uses = [word for word in ("Child", "Row") if re.search(rf"\b{word}\b", body)]
+    imports = f"use super::playing::{{{', '.join(uses)}}};\n" + ("use host_link::Ended;\n" if "Ended" in body else "")
+    return f"{head}\n{imports}\n{body}\n"
+
+
+def names_of(tables):
+    return [re.sub(r"\s+", " ", name) for table in tables for name in re.findall(r'\bshows: "([^"]*)"', table)]
 
 
 def copy_crates(work, needed):
@@ -490,25 +481,29 @@ def copy_crates(work, needed):
         out.write(f"refused: {' '.join(needed)}\n")
 
 
-def outputs(needed, program, inputs):
+def outputs(needed, files, inputs, refused):
     """What the program prints, by its standard input."""
     with tempfile.TemporaryDirectory(prefix="refused_allocations") as work:
         copy_crates(work, needed)
         os.makedirs(f"{work}/crates/refused/src")
-        with open(f"{work}/crates/refused/src/main.rt", "w") as out:
-            out.write(program)
+        for name, code in files.items():
+            with open(f"{work}/crates/refused/src/{name}.rt", "w") as out:
+                out.write(code)
         os.makedirs(f"{work}/cases")
         for given in inputs:
             with open(f"{work}/cases/{given.replace(' ', '-')}", "w") as out:
                 out.write(given)
         ran = subprocess.run(
-            ["rt", "try", "--fail-alloc", "1000", "--cases", "../../cases"],
+            ["rt", "try", "--fail-alloc", str(refused), "--cases", "../../cases"],
             cwd=f"{work}/crates/refused", stdout=subprocess.PIPE, stderr=subprocess.STDOUT)
     if b"\ncases=" not in ran.stdout:
         sys.exit(ran.stdout.decode(errors="replace")[-3000:])
-    print(ran.stdout.decode(errors="replace").splitlines()[-1])
+    print(ran.stdout.decode(errors="replace").splitlines()[-1], flush=True)
     parts = re.split(rb"^== ([0-9-]+)\n", ran.stdout, flags=re.M)
     return {name.decode().replace("-", " "): out for name, out in zip(parts[1::2], parts[2::2])}
+
+
+Ran = collections.namedtuple("Ran", "status exchanges written")
 
 
 def parsed(output):
@@ -516,7 +511,12 @@ def parsed(output):
     found = re.search(rb"^set up\n(\w+)\n((?:[^\n]*: [^\n]*\n)*)written\n(.*?)whole\n", output, re.M | re.S)
     if not found:
         return None
-    return found[1].decode(), found[2].decode().splitlines(), found[3].decode()
+    return Ran(found[1].decode(), found[2].decode().splitlines(), found[3].decode())
+
+
+def behind(output):
+    """How many allocations could be made behind a run."""
+    return int(re.search(rb"^behind (\d+)$", output, re.M)[1])
 
 
 def spelled(read, ended):
@@ -537,64 +537,89 @@ def spelled(read, ended):
     return text
 
 
-def verdict(found, whole, lines):
-    if found is None:
+def living(exchanges):
+    """The children that live by these exchanges, by rising number."""
+    lives = []
+    for it in exchanges:
+        ask, answer = it.rsplit(": ", 1)
+        word, child = ask.split()[0], ask.split()[-1]
+        if answer.startswith("started "):
+            lives.append(int(answer.split()[1]))
+        elif word == "kill" or (word == "end" and answer != "running"):
+            lives.remove(int(child))
+    return sorted(lives)
+
+
+def same_front(one, other):
+    """How many exchanges at the front are the same."""
+    return next((i for i, (x, y) in enumerate(zip(one, other)) if x != y), min(len(one), len(other)))
+
+
+def heard(exchanges, child):
+    """What filters are entered with of a child."""
+    mine = [it.split(": ", 1)[1] for it in exchanges if it.startswith(f"read {child}: ")]
+    read = b"".join(bytes(map(int, it.split()[1:])) for it in mine if it.startswith("bytes"))
+    return spelled(read, any(it in ("end", "another") for it in mine))
+
+
+def entries_spell(ran, names):
+    """Whether the filter entries of each name spell what was read from the children of that name."""
+    entered, read = {}, {}
+    for name, text in re.findall(r'^ *> filter \S+ #<process (\S+)> "(.*)"$', ran.written, re.M):
+        entered[name] = entered.get(name, "") + text
+    for child, name in enumerate(names):
+        read[name] = read.get(name, "") + heard(ran.exchanges, child)
+    return all(entered.get(name, "") == read.get(name, "") for name in {*entered, *read})
+
+
+def verdict(ran, whole, names):
+    if ran is None:
         return "refused before the run"
-    status, exchanges, written = found
-    if status == "Done":
-        return "Done, all lines" if exchanges == whole and written == lines else "WRONG: Done without all"
-    if status != "NoMemory":
-        return f"WRONG: {status}"
-    kills = [it for it in exchanges if it.startswith("kill")]
-    others = [it for it in exchanges if not it.startswith("kill")]
-    lives = any("started" in it for it in others) and not any(it.startswith("end") for it in others)
-    read = b"".join(bytes(map(int, it.split()[3:])) for it in others if re.match(r"read \d+: bytes", it))
-    entered = "".join(re.findall(r'^> filter default #<process c> "(.*)"$', written, re.M))
+    if ran.status == "Done":
+        return "Done" if ran == whole else "WRONG: Done without all"
+    if ran.status != "NoMemory":
+        return f"WRONG: {ran.status}"
     faults = []
-    if not lines.startswith(written) or (written and not written.endswith("\n")):
+    if not whole.written.startswith(ran.written) or (ran.written and not ran.written.endswith("\n")):
         faults.append("no front of whole lines")
-    if exchanges != others + kills or others != [it for it in whole if not it.startswith("kill")][:len(others)]:
-        faults.append("no front of the exchanges")
-    if kills != (["kill 0: killed"] if lives else []):
-        faults.append("not the kills of living children")
-    if entered != spelled(read, any(it.endswith(": end") for it in others)):
+    front = same_front(ran.exchanges, whole.exchanges)
+    if ran.exchanges[front:] != [f"kill {child}: killed" for child in living(ran.exchanges[:front])]:
+        faults.append("not a front of the exchanges and the kills of living children")
+    if not entries_spell(ran, names):
         faults.append("the entries don't spell what was read")
-    if faults:
-        return "WRONG: NoMemory, " + ", ".join(faults)
-    asked = f"{len(others)} exchanges" + (" and a kill" if kills else "")
-    return f"NoMemory, {len(written.splitlines())} lines, {asked}"
-
-
-def print_ranges(whats):
-    """Prints what became of the allocations from 1 on, by ranges, and says whether all was right."""
-    ranges = []
-    for n, what in enumerate(whats, 1):
-        if ranges and ranges[-1][2] == what:
-            ranges[-1][1] = n
-        else:
-            ranges.append([n, n, what])
-    for first, last, what in ranges:
-        print(f"    {first:3} to {last:3}: {what}")
-    if not ranges[-1][2].startswith("Done"):
-        print("    WRONG: allocations behind the last one tried")
-        return False
-    return not any(what.startswith("WRONG") for what in whats)
+    return "WRONG: NoMemory, " + ", ".join(faults) if faults else "NoMemory"
 
 
 def try_rows():
-    given = "".join(rust_row(script, reads) for _, script, reads, _ in ROWS)
-    program = ROW_PROGRAM.replace("ROW_COUNT", str(len(ROWS))).replace("    GIVEN_ROWS\n", given)
-    inputs = [f"{row} {n}" for row in range(len(ROWS)) for n in [*range(1, LAST + 1), AMPLE]]
-    said = outputs(["ek_types", "handler_code", "host_link", "kernel_top"], program, inputs)
+    tables = {name: test_table(name) for name in TABLES} | {"more": more_table()}
+    names = names_of(tables.values())
+    wanted = [row for row, name in enumerate(names) if WORD in name]
+    program = ROW_PROGRAM.replace("MODULES", "\n".join(f"mod {name};" for name in tables))
+    program = program.replace("TABLE_COUNT", str(len(tables))).replace("MOST", str(REFUSED[-1]))
+    program = program.replace("TABLE_NAMES", ", ".join(f"&{name}::ROWS" for name in tables))
+    files = tables | {"main": program, "playing": PLAYING}
+    needed = ["ek_types", "handler_code", "host_link", "kernel_top"]
+    said = outputs(needed, files, [f"{row} 0 {kind}" for row in wanted for kind in (1, 2)], REFUSED[-1])
+    # The allocations that each run makes, from the first one behind what sets it up, and one more.
+    tried, whole = {}, {}
+    for row in wanted:
+        set_up, last = (REFUSED[-1] - 1 - behind(said[f"{row} 0 {kind}"]) for kind in (1, 2))
+        refused = next(n for n in REFUSED if n > last + 1)
+        tried[row] = [(refused, f"{row} {refused - n} 0") for n in range(set_up + 1, last + 2)]
+        whole[row] = parsed(said[f"{row} 0 2"])
+    for number in REFUSED:
+        inputs = [given for row in wanted for refused, given in tried[row] if refused == number]
+        if inputs:
+            said |= outputs(needed, files, inputs, number)
     right = True
-    for row, (name, _, _, lines) in enumerate(ROWS):
-        lines = lines[1:]
-        status, whole, written = parsed(said[f"{row} {AMPLE}"])
-        print(f"{name}: {status}, {len(lines.splitlines())} lines, exchanges: {'; '.join(whole) or 'none'}")
-        if (status, written) != ("Done", lines):
-            print(f"    WRONG: where memory is ample it writes\n{written}")
-            right = False
-        right &= print_ranges([verdict(parsed(said[f"{row} {n}"]), whole, lines) for n in range(1, LAST + 1)])
+    for row in wanted:
+        ample = whole[row]
+        processes = re.findall(r"^process \d+ #<process (\S+)> ", ample.written, re.M)
+        whats = [verdict(parsed(said[given]), ample, processes) for _, given in tried[row]]
+        told = ", ".join(f"{count} {what}" for what, count in collections.Counter(whats).items())
+        print(f"{names[row]}: {len(ample.written.splitlines())} lines, {len(ample.exchanges)} exchanges: {told}")
+        right &= ample.status == "Done" and not any(what.startswith("WRONG") for what in whats)
+    print(f"{len(wanted)} runs, {sum(map(len, tried.values()))} refused allocations: {'none' if right else 'SOME'} judged wrong")
     return right
 
 
@@ -609,9 +634,11 @@ def text_verdict(output):
 
 
 def try_texts():
-    said = outputs(["ek_types", "text_pool", "gap_text"], TEXT_PROGRAM, [f"{n}" for n in range(1, LAST + 1)])
-    print("a text in blocks")
-    return print_ranges([text_verdict(said[f"{n}"]) for n in range(1, LAST + 1)])
+    inputs = [f"{n}" for n in range(1, TEXT_ALLOCATIONS + 1)]
+    said = outputs(["ek_types", "text_pool", "gap_text"], {"main": TEXT_PROGRAM}, inputs, 1000)
+    whats = [text_verdict(said[n]) for n in inputs]
+    print("a text in blocks: " + "; ".join(f"{count} {what}" for what, count in collections.Counter(whats).items()))
+    return whats[-1] == "Done, nothing refused" and not any(what.startswith("WRONG") for what in whats)
 
 
-sys.exit(0 if try_texts() & try_rows() else 1)
+sys.exit(0 if (bool(WORD) or try_texts()) & try_rows() else 1)

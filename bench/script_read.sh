@@ -1,7 +1,7 @@
 #!/bin/sh
-# How many bytes of a script are read in a second, and how the time grows with their number: short forms, one long string,
-# and a body of blocks 16 deep, each at half the length and at the whole. Where emacs is installed, `emacs -Q --batch` reads
-# the same text by `read` until its end.
+# The processor time of reading a script ten times, and how it grows with the length: short forms, one long string, and
+# bodies of blocks 16 deep, each at half the length and at the whole. Where emacs is installed, `emacs -Q --batch` reads the
+# same text by `read` until its end, ten times too.
 #
 #     bench/script_read.sh [BYTES]        (1048576 if none is given)
 set -eu
@@ -36,22 +36,22 @@ scratch_program bench_scripts ek_types ek_call script_read <<'PROGRAM'
 //! Scripts that are read, each ten times.
 #![tactic(auto)]
 
+use bench_clock::used;
 use script_read::read;
-use std::time::Instant;
 use std::{env, fs, io};
 
 const TIMES: u32 = 10;
 
 fn reading(rt: &HostRuntime, path: &str) -> io::Result<()> {
     let bytes = fs::read(rt, path)?;
-    let start = Instant::now(rt)?;
+    let start = used(rt)?;
     let mut scripts = 0;
     for _ in 0..TIMES {
         if read(rt.alloc(), bytes.as_slice()).is_ok() {
             scripts += 1;
         }
     }
-    let time = start.elapsed(rt)?.as_micros();
+    let time = used(rt)?.saturating_sub(start) / 1000;
     println!(rt; "{path}: {} bytes, {scripts} times read in {time} us", bytes.len())
 }
 
@@ -65,7 +65,7 @@ PROGRAM
 
 export RT_SECONDS=3600
 for way in forms string nested; do
-    quietly rt try -- "$work/$way.half" "$work/$way.whole"
+    quietly rt run -- "$work/$way.half" "$work/$way.whole"
 done
 
 if command -v emacs > /dev/null; then
@@ -74,11 +74,12 @@ if command -v emacs > /dev/null; then
             SCRIPT="$work/$way.$part" emacs -Q --batch --eval '
 (with-temp-buffer
   (insert-file-contents (getenv "SCRIPT"))
-  (let ((start (float-time)))
+  (let ((start (float-time (get-internal-run-time))))
     (dotimes (_ 10)
       (goto-char 1)
       (while (ignore-errors (read (current-buffer)))))
-    (princ (format "emacs %s: %d us\n" (getenv "SCRIPT") (* 1000000 (- (float-time) start))))))'
+    (princ (format "emacs %s: %d us\n" (getenv "SCRIPT")
+                   (* 1000000 (- (float-time (get-internal-run-time)) start))))))'
         done
     done
 else

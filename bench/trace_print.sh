@@ -1,6 +1,6 @@
 #!/bin/sh
-# How long the dump of one buffer of CHARACTERS characters takes, in which the properties change at each 32nd, and how
-# long COUNT lines of replies take. The sink counts the bytes and the calls of `write` and drops them. The same with half
+# The processor time of the dump of one buffer of CHARACTERS characters, in which the properties change at each 32nd, and
+# that of COUNT lines of replies. The sink counts the bytes and the calls of `write` and drops them. The same with half
 # as many shows how the times grow. `emacs -Q --batch` prints the same by `prin1` and `terpri` where it is installed.
 #
 #     bench/trace_print.sh [CHARACTERS [COUNT]]        (4194304 and 1000000 if none is given)
@@ -18,8 +18,8 @@ use buffer_table::Editor;
 use ek_call::{Reply, Value};
 use ek_types::{Ch, Chars, Mem, Piece, PropSet, PropVal, Sink, Sym, Symbols, Wrote};
 use process_table::Processes;
+use bench_clock::used;
 use std::alloc::Global;
-use std::time::Instant;
 use std::{env, io};
 use trace_print::{Names, dump, reply};
 
@@ -47,22 +47,29 @@ fn chunk(alloc: Global, face: Sym) -> Mem<Piece> {
         text.push(Ch::Scalar(if i % 64 == 63 { '\n' } else { 'x' }))?;
     }
     let mut piece = Piece::plain(alloc, text);
-    for run in 0..32usize {
-        let set = PropSet::empty(alloc).with(face, &PropVal::Int(run as i64))?;
-        piece.put(run * 32, run * 32 + 32, &set)?;
+    for run in 0..32u32 {
+        let set = PropSet::empty(alloc).with(face, &PropVal::Int(i64::from(run)))?;
+        let from = run as usize * 32;
+        if from + 32 <= piece.len() {
+            piece.put(from, from + 32, &set)?;
+        }
     }
     Ok(piece)
 }
 
 fn fill(editor: &mut Editor, alloc: Global, face: Sym, characters: usize) -> Mem<()> {
     let piece = chunk(alloc, face)?;
-    for i in 0..characters / 1024 {
-        editor.replace(0, i * 1024, i * 1024, &piece, false)?;
+    for _ in 0..characters / 1024 {
+        let end = editor.size(0);
+        if editor.is_live(0) {
+            editor.replace(0, end, end, &piece, false)?;
+        }
     }
     Ok(())
 }
 
-fn report(rt: &HostRuntime, what: &str, of: usize, micros: u128, sink: &Counting) -> io::Result<()> {
+fn report(rt: &HostRuntime, what: &str, of: usize, start: u64, sink: &Counting) -> io::Result<()> {
+    let micros = used(rt)?.saturating_sub(start) / 1000;
     let bytes = sink.bytes;
     let writes = sink.writes;
     println!(rt; "trace_print {what} {of}: {micros} us, {bytes} bytes, {writes} writes")
@@ -72,6 +79,9 @@ fn run(rt: &HostRuntime, editor: &mut Editor, characters: usize, count: usize) -
     let Ok(mut symbols) = Symbols::new(rt.alloc()) else {
         return Ok(());
     };
+    if symbols.count() > 100 {
+        return Ok(());
+    }
     let Ok(face) = symbols.intern("face") else {
         return Ok(());
     };
@@ -80,16 +90,16 @@ fn run(rt: &HostRuntime, editor: &mut Editor, characters: usize, count: usize) -
     }
     let processes = Processes::new(rt.alloc());
     let names = Names { editor, processes: &processes, symbols: &symbols };
-    let start = Instant::now(rt)?;
+    let start = used(rt)?;
     let mut sink = Counting { bytes: 0, writes: 0 };
     let _ = dump(&names, &mut sink);
-    report(rt, "dump of characters", characters, start.elapsed(rt)?.as_micros(), &sink)?;
-    let start = Instant::now(rt)?;
+    report(rt, "dump of characters", characters, start, &sink)?;
+    let start = used(rt)?;
     let mut sink = Counting { bytes: 0, writes: 0 };
     for i in 0..count {
-        let _ = reply(1, &Reply::Value(Value::Int(i as i64)), &names, &mut sink);
+        let _ = reply(1, &Reply::Value(Value::Int((i % 1_000_000) as i64)), &names, &mut sink);
     }
-    report(rt, "lines of replies", count, start.elapsed(rt)?.as_micros(), &sink)
+    report(rt, "lines of replies", count, start, &sink)
 }
 
 fn main(rt: HostRuntime) -> io::Result<()> {
@@ -103,9 +113,10 @@ fn main(rt: HostRuntime) -> io::Result<()> {
             }
         }
     }
-    for part in [2usize, 1] {
+    let [characters, count] = numbers;
+    for (characters, count) in [(characters / 2, count / 2), (characters, count)] {
         if let Ok(mut editor) = Editor::new(rt.alloc()) {
-            let done = run(&rt, &mut editor, numbers[0] / part, numbers[1] / part);
+            let done = run(&rt, &mut editor, characters, count);
             editor.close();
             done?;
         }
@@ -114,22 +125,22 @@ fn main(rt: HostRuntime) -> io::Result<()> {
 }
 PROGRAM
 
-rt try --seconds 3600 -- "$characters" "$count"
+RT_SECONDS=3600 quietly rt run -- "$characters" "$count"
 
 if command -v emacs > /dev/null; then
     emacs -Q --batch --eval "
 (let ((text (make-string $characters ?x)) (start nil))
   (dotimes (run (/ $characters 32))
     (put-text-property (* 32 run) (+ 32 (* 32 run)) 'face (mod run 32) text))
-  (setq start (float-time))
+  (setq start (float-time (get-internal-run-time)))
   (prin1 text)
   (terpri)
-  (message \"emacs dump of characters $characters: %d ms\" (* 1000 (- (float-time) start)))
-  (setq start (float-time))
+  (message \"emacs dump of characters $characters: %d ms\" (* 1000 (- (float-time (get-internal-run-time)) start)))
+  (setq start (float-time (get-internal-run-time)))
   (dotimes (i $count)
     (prin1 i)
     (terpri))
-  (message \"emacs lines of replies $count: %d ms\" (* 1000 (- (float-time) start))))" > /dev/null
+  (message \"emacs lines of replies $count: %d ms\" (* 1000 (- (float-time (get-internal-run-time)) start))))" > /dev/null
 else
     echo "emacs is not installed here"
 fi

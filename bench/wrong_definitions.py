@@ -1,13 +1,15 @@
 #!/usr/bin/env python3
-"""Change the definitions in telling ways, one at a time, and see that the laws of `machine_laws` no longer hold.
+"""Change the definitions in telling ways, one at a time, and see that a law or a computed row no longer holds.
 
-    python3 bench/wrong_definitions.py            all of them, a minute each
+    python3 bench/wrong_definitions.py            all of them, a minute or two each
     python3 bench/wrong_definitions.py tail       those whose names have this word
 
 Each change is made on a copy of the repository in a temporary folder. The definitions themselves must still check; then the
-laws named with the change must be refused. The table in docs/PROMISES.md tells what each change means.
+laws and rows named with the change must be refused. docs/PROMISES.md tells what each change means. RT may name another
+command in the place of `rt`.
 """
 
+import os
 import pathlib
 import re
 import shutil
@@ -15,7 +17,10 @@ import subprocess
 import sys
 import tempfile
 
+from wrong_rules import RULES
+
 ROOT = pathlib.Path(__file__).resolve().parent.parent
+RT = os.environ.get("RT", "rt").split()
 ENTRIES = ["filters_hear_what_was_read"]
 
 # an insertion, and one that also extends the insertion behind a boundary
@@ -169,29 +174,61 @@ CHANGES = [
 ]
 
 
-def check(crate):
-    run = subprocess.run(["rt", "check"], cwd=crate, stdout=subprocess.PIPE, stderr=subprocess.STDOUT, text=True)
+def check(crate, *words):
+    run = subprocess.run([*RT, "check", *words], cwd=crate, stdout=subprocess.PIPE, stderr=subprocess.STDOUT, text=True)
     return run.stdout
 
 
-def refused(copy, file, old, new, laws):
-    """The laws of these that are proved all the same, or why the change shows nothing."""
+def is_row(refuser):
+    return "." in refuser
+
+
+def row_holds(log, row):
+    """Whether the lemma of a computed row stands: no error names it."""
+    file, lemma = row.split(".")
+    return not re.search(rf"proofs/{file}\.antt:\d+:\d+: error: .*`{lemma}`", log)
+
+
+def held(copy, refusers):
+    """The laws and rows of these that hold all the same, or why nothing can be told of them."""
+    laws = [r for r in refusers if not is_row(r)]
+    rows = [r for r in refusers if is_row(r)]
+    still = []
+    for law in laws:
+        log = check(copy / "crates" / "machine_laws", "--only", f"machine_laws::{law}")
+        if re.search(r"^\S*specs/.* error:", log, re.M):
+            return "a statement of a law doesn't check"
+        tried = re.search(rf"^fn machine_laws::{law}: (.*)$", log, re.M)
+        if not tried:
+            return f"{law} wasn't tried"
+        still += [law] if tried.group(1).startswith("proved") else []
+    if rows:
+        log = check(copy / "crates" / "worked_rows")
+        if re.search(r"^\S*specs/.* error:", log, re.M):
+            return "a row doesn't check"
+        still += [row for row in rows if row_holds(log, row)]
+    return "still held: " + ", ".join(still) if still else None
+
+
+def refused(copy, file, old, new, refusers):
+    """Nothing where all of these refuse the change, and else what is wrong with it."""
     path = copy / "crates" / file
     text = path.read_text()
     if text.count(old) != 1:
         return f"the text to change stands {text.count(old)} times in {file}"
     path.write_text(text.replace(old, new))
     try:
-        own = check(copy / "crates" / file.split("/")[0])
-        if re.search(r"^\S*specs/.* error:", own, re.M):
-            return "the changed definition doesn't check"
-        log = check(copy / "crates" / "machine_laws")
-        if re.search(r"^\S*specs/.* error:", log, re.M):
-            return "a statement of a law doesn't check"
-        still = [law for law in laws if re.search(rf"^fn machine_laws::{law}: proved", log, re.M)]
-        return "still proved: " + ", ".join(still) if still else None
+        return held(copy, refusers)
     finally:
         path.write_text(text)
+
+
+def cut_down(copy):
+    """Leave out the lemmas on how forms, calls and handlers end, which no law uses: they would break first."""
+    path = copy / "crates" / "plain_machine" / "proofs" / "Composed.antt"
+    text = path.read_text()
+    first, last = text.index("-- THE FORMS OF A BODY"), text.index("-- what each step keeps holds over a run")
+    path.write_text(text[:first] + text[last:])
 
 
 def main():
@@ -200,11 +237,12 @@ def main():
     with tempfile.TemporaryDirectory() as folder:
         copy = pathlib.Path(folder) / "copy"
         shutil.copytree(ROOT, copy, ignore=shutil.ignore_patterns("out", ".git"))
-        for name, file, old, new, laws in CHANGES:
+        cut_down(copy)
+        for name, file, old, new, refusers in CHANGES + RULES:
             if words and not any(word in name for word in words):
                 continue
-            wrong = refused(copy, file, old, new, laws)
-            print(f"{'NOT REFUSED' if wrong else 'refused':12} {name}: {wrong or ', '.join(laws)}", flush=True)
+            wrong = refused(copy, file, old, new, refusers)
+            print(f"{'NOT REFUSED' if wrong else 'refused':12} {name}: {wrong or ', '.join(refusers)}", flush=True)
             failed += bool(wrong)
     return 1 if failed else 0
 

@@ -41,7 +41,7 @@ stays before after old new text c lies apart =
     }
 
 -- blocks apart from those that a text had are apart from those that it has
-still_apart : (before after blocks : List ℕ) (old new : Pooled) → ChangesBlocks before after old new → AllLive old blocks → Apart blocks before → Apart blocks after
+pub still_apart : (before after blocks : List ℕ) (old new : Pooled) → ChangesBlocks before after old new → AllLive old blocks → Apart blocks before → Apart blocks after
 still_apart before after [] old new c live apart = tt
 still_apart before after (block ∷ blocks) old new c live apart = (c.fresh block live.0 apart.0, still_apart before after blocks old new c live.1 apart.1)
 

@@ -1,5 +1,6 @@
 //! Markers that go back to where they stood before a deletion that is undone.
-ghost use Rattle.std.specs.Prelude.{◌≡◌, pos, ◌-ℤ◌, ◌≤◌, [], ◌∷◌, ◌++◌, length, take, drop, option_map, slice_get, All, OnOk, IfOk};
+ghost use Rattle.std.specs.Prelude.{◌≡◌, pos, ◌-ℤ◌, ◌≤◌, [], ◌∷◌, ◌++◌, length, take, drop};
+ghost use Rattle.std.specs.Prelude.{option_map, slice_get, All, OnOk, IfOk};
 ghost use Rattle.text_model.specs.Places.{clip};
 ghost use Rattle.text_model.specs.Commit.{moves_behind, place_of, spot_less, stands_at, marker_less};
 ghost use Rattle.marker_set.specs.Numbered.{spot_of};
@@ -33,7 +34,8 @@ fn add_standing(
     id: u32,
     place: usize,
 ) -> Mem<()>
-    ensures { OnOk result (moves.new.items ≡ moves.old.items ++ standing id place markers.now ((k, adjustment.now) ∷ [])) }
+    ensures { OnOk result (moves.new.items ≡ moves.old.items ++
+        standing id place markers.now ((k, adjustment.now) ∷ [])) }
 {
     if stands_at(markers, k, id, place) {
         moves.push((k, *adjustment))?;
@@ -54,7 +56,8 @@ pub fn standing_moves(
 ) -> Mem<Vec<(u32, i64)>>
     requires order { i ≤ end }
     requires range { end ≤ length undo.now.state.entries }
-    ensures { IfOk result (λ moves. moves.items ≡ standing id place markers.now (moves_behind (drop i (take end undo.now.state.entries)))) }
+    ensures { IfOk result (λ moves. moves.items ≡
+        standing id place markers.now (moves_behind (drop i (take end undo.now.state.entries)))) }
 {
     let mut moves = Vec::new(alloc);
     for j in i..end {

@@ -50,8 +50,10 @@ impl Buffer {
         requires place { at ≤ length self.old.sets }
         requires marks { AreWithin id (length self.old.sets) marks.old }
         ensures lies { LiesIn pool.new self.new.text }
-        ensures ok { OnOk result (site_of pool.new self.new marks.new ≡ inserted id at piece.now all advances (site_of pool.old self.old marks.old)) }
-        ensures err { OnErr result (site_of pool.new self.new marks.new ≡ site_of pool.old self.old marks.old) }
+        ensures ok { OnOk result (site_of pool.new self.new marks.new ≡
+            inserted id at piece.now all advances (site_of pool.old self.old marks.old)) }
+        ensures err { OnErr result (site_of pool.new self.new marks.new ≡
+            site_of pool.old self.old marks.old) }
         ensures marks { AreWithin id (length self.new.sets) marks.new }
         ensures blocks { ChangesBlocks self.old.text.blocks self.new.text.blocks pool.old pool.new }
     {
@@ -85,8 +87,10 @@ impl Buffer {
         requires range { to ≤ length self.old.sets }
         requires marks { AreWithin id (length self.old.sets) marks.old }
         ensures lies { LiesIn pool.new self.new.text }
-        ensures ok { OnOk result (site_of pool.new self.new marks.new ≡ deleted id from to (site_of pool.old self.old marks.old)) }
-        ensures err { OnErr result (site_of pool.new self.new marks.new ≡ site_of pool.old self.old marks.old) }
+        ensures ok { OnOk result (site_of pool.new self.new marks.new ≡
+            deleted id from to (site_of pool.old self.old marks.old)) }
+        ensures err { OnErr result (site_of pool.new self.new marks.new ≡
+            site_of pool.old self.old marks.old) }
         ensures marks { AreWithin id (length self.new.sets) marks.new }
         ensures blocks { ChangesBlocks self.old.text.blocks self.new.text.blocks pool.old pool.new }
     {
@@ -134,11 +138,15 @@ impl Buffer {
         requires one { (from ≡ to) ⊎ (with.now ≡ []) }
         requires marks { AreWithin id (length self.old.sets) marks.old }
         ensures lies { LiesIn pool.new self.new.text }
-        ensures ok { OnOk result (site_of pool.new self.new marks.new ≡ replaced id from to with.now all (site_of pool.old self.old marks.old)) }
-        ensures err { OnErr result (site_of pool.new self.new marks.new ≡ site_of pool.old self.old marks.old) }
+        ensures ok { OnOk result (site_of pool.new self.new marks.new ≡
+            replaced id from to with.now all (site_of pool.old self.old marks.old)) }
+        ensures err { OnErr result (site_of pool.new self.new marks.new ≡
+            site_of pool.old self.old marks.old) }
         ensures marks { AreWithin id (length self.new.sets) marks.new }
         ensures blocks { ChangesBlocks self.old.text.blocks self.new.text.blocks pool.old pool.new }
-        ensures undo { AreOrdered with.now → Good (buffer_of pool.old self.old) → OnOk result (KeepsBoundaries (buffer_of pool.old self.old) (buffer_of pool.new self.new)) }
+        ensures undo { AreOrdered with.now → Good (buffer_of pool.old self.old) →
+            OnOk result (KeepsBoundaries (buffer_of pool.old self.old)
+            (buffer_of pool.new self.new)) }
     {
         replacing_keeps_boundaries();
         // Read for what it ensures: there is a property set for each character.
@@ -163,8 +171,10 @@ impl Buffer {
         requires one { (from ≡ to) ⊎ (with.now ≡ []) }
         requires marks { AreWithin id (length self.old.sets) marks.old }
         ensures lies { LiesIn pool.new self.new.text }
-        ensures ok { OnOk result (site_of pool.new self.new marks.new ≡ replaced id from to with.now all (site_of pool.old self.old marks.old)) }
-        ensures err { OnErr result (site_of pool.new self.new marks.new ≡ site_of pool.old self.old marks.old) }
+        ensures ok { OnOk result (site_of pool.new self.new marks.new ≡
+            replaced id from to with.now all (site_of pool.old self.old marks.old)) }
+        ensures err { OnErr result (site_of pool.new self.new marks.new ≡
+            site_of pool.old self.old marks.old) }
         ensures marks { AreWithin id (length self.new.sets) marks.new }
         ensures blocks { ChangesBlocks self.old.text.blocks self.new.text.blocks pool.old pool.new }
     {

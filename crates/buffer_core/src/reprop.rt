@@ -1,5 +1,6 @@
 //! Changes of a buffer's properties.
-ghost use Rattle.std.specs.Prelude.{◌≡◌, ◌≢◌, ℕ, ◌<◌, ◌≤◌, List, [], ◌∷◌, ◌++◌, length, map, take, drop, option_map, slice_get, All, IfSome, IfOk, OnOk, OnErr};
+ghost use Rattle.std.specs.Prelude.{◌≡◌, ◌≢◌, ℕ, ◌<◌, ◌≤◌, List, [], ◌∷◌, ◌++◌, length, map, take};
+ghost use Rattle.std.specs.Prelude.{drop, option_map, slice_get, All, IfSome, IfOk, OnOk, OnErr};
 ghost use Rattle.std.specs.List.{filter_map};
 ghost use Rattle.text_model.specs.Properties.{Cell, get, edited};
 ghost use Rattle.text_model.specs.Ordered.{IsValue, GivesOrdered};
@@ -55,8 +56,10 @@ fn stretch_end(props: &Props, start: usize, to: usize, name: Sym) -> usize
     requires range { to ≤ length props.now }
     ensures behind { start < result }
     ensures within { result ≤ to }
-    ensures same { (j : ℕ) → start ≤ j → j < result → slice_get (values_of name.0 props.now) j ≡ slice_get (values_of name.0 props.now) start }
-    ensures other { result < to → slice_get (values_of name.0 props.now) result ≢ slice_get (values_of name.0 props.now) start }
+    ensures same { (j : ℕ) → start ≤ j → j < result →
+        slice_get (values_of name.0 props.now) j ≡ slice_get (values_of name.0 props.now) start }
+    ensures other { result < to → slice_get (values_of name.0 props.now) result ≢ slice_get
+        (values_of name.0 props.now) start }
 {
     let value = props.at(start).get(name);
     let mut end = props.run_end(start).min(to);
@@ -77,8 +80,11 @@ fn add_record(
 ) -> Mem<()>
     requires order { from ≤ to }
     requires value { IfSome (option_map (λ v. prop_of v.now) old) IsValue }
-    ensures records { OnOk result (map rec_of records.new.items ≡ map rec_of records.old.items ++ filter_map (stretch_record name.0 (option_map (λ v. prop_of v.now) new.entry)) ((option_map (λ v. prop_of v.now) old.entry, from, to) ∷ [])) }
-    ensures undoable { OnOk result (All CanBeUndone (map rec_of records.old.items) → All CanBeUndone (map rec_of records.new.items)) }
+    ensures records { OnOk result (map rec_of records.new.items ≡ map rec_of records.old.items ++
+        filter_map (stretch_record name.0 (option_map (λ v. prop_of v.now) new.entry))
+        ((option_map (λ v. prop_of v.now) old.entry, from, to) ∷ [])) }
+    ensures undoable { OnOk result (All CanBeUndone (map rec_of records.old.items) →
+        All CanBeUndone (map rec_of records.new.items)) }
 {
     if !same_option(old, new) {
         records.push(Rec::Prop(name, copied(old)?, from, to))?;
@@ -97,8 +103,11 @@ fn add_records_of_name(
 ) -> Mem<()>
     requires order { from ≤ to }
     requires range { to ≤ length props.now }
-    ensures records { OnOk result (map rec_of records.new.items ≡ map rec_of records.old.items ++ records_from name.0 (option_map (λ v. prop_of v.now) new.entry) from (drop from (take to props.now))) }
-    ensures undoable { OnOk result (All CanBeUndone (map rec_of records.old.items) → All CanBeUndone (map rec_of records.new.items)) }
+    ensures records { OnOk result (map rec_of records.new.items ≡ map rec_of records.old.items ++
+        records_from name.0 (option_map (λ v. prop_of v.now) new.entry) from
+        (drop from (take to props.now))) }
+    ensures undoable { OnOk result (All CanBeUndone (map rec_of records.old.items) →
+        All CanBeUndone (map rec_of records.new.items)) }
 {
     let mut start = from;
     while start < to {
@@ -120,7 +129,9 @@ fn property_records(
 ) -> Mem<Vec<Rec>>
     requires order { from ≤ to }
     requires range { to ≤ length props.now }
-    ensures records { (text : List Cell) → sets_in text ≡ props.now → IfOk result (λ records. map rec_of records.items ≡ property_records (edit_of edit.now) from to text) }
+    ensures records { (text : List Cell) → sets_in text ≡ props.now →
+        IfOk result (λ records. map rec_of records.items ≡
+        property_records (edit_of edit.now) from to text) }
     ensures undoable { IfOk result (λ records. All CanBeUndone (map rec_of records.items)) }
 {
     let names = touched(alloc, edit, props, from, to)?;
@@ -136,7 +147,9 @@ impl Buffer {
     pub fn would_change(&self, from: usize, to: usize, edit: &PropEdit) -> Mem<bool>
         requires order { from ≤ to }
         requires range { to ≤ length self.now.sets }
-        ensures { (text : List Cell) → sets_in text ≡ self.now.sets → IfOk result (λ b. b ≡ is_some_record (property_records (edit_of edit.now) from to text)) }
+        ensures { (text : List Cell) → sets_in text ≡ self.now.sets →
+            IfOk result (λ b. b ≡ is_some_record
+            (property_records (edit_of edit.now) from to text)) }
     {
         let records = property_records(self.alloc, edit, &self.props, from, to)?;
         Ok(!records.is_empty())
@@ -149,9 +162,14 @@ impl Buffer {
         requires range { to ≤ length self.old.sets }
         ensures text { self.new.text ≡ self.old.text }
         ensures size { length self.new.sets ≡ length self.old.sets }
-        ensures ok { (pool : Pooled) → LiesIn pool self.old.text → OnOk result (buffer_of pool self.new ≡ with_properties (edit_of edit.now) from to (buffer_of pool self.old)) }
-        ensures changed { (pool : Pooled) → LiesIn pool self.old.text → IfOk result (λ b. b ≡ is_some_record (property_records (edit_of edit.now) from to (buffer_of pool self.old).text)) }
-        ensures err { (pool : Pooled) → OnErr result (buffer_of pool self.new ≡ buffer_of pool self.old) }
+        ensures ok { (pool : Pooled) → LiesIn pool self.old.text →
+            OnOk result (buffer_of pool self.new ≡
+            with_properties (edit_of edit.now) from to (buffer_of pool self.old)) }
+        ensures changed { (pool : Pooled) → LiesIn pool self.old.text →
+            IfOk result (λ b. b ≡ is_some_record
+            (property_records (edit_of edit.now) from to (buffer_of pool self.old).text)) }
+        ensures err { (pool : Pooled) → OnErr result
+            (buffer_of pool self.new ≡ buffer_of pool self.old) }
     {
         let records = property_records(self.alloc, edit, &self.props, from, to)?;
         if records.is_empty() {
@@ -174,10 +192,17 @@ impl Buffer {
         requires range { to ≤ length self.old.sets }
         ensures text { self.new.text ≡ self.old.text }
         ensures size { length self.new.sets ≡ length self.old.sets }
-        ensures ok { (pool : Pooled) → LiesIn pool self.old.text → OnOk result (buffer_of pool self.new ≡ reset (edit_of edit.now) from to (buffer_of pool self.old)) }
-        ensures changed { (pool : Pooled) → LiesIn pool self.old.text → IfOk result (λ b. b ≡ is_some_record (property_records (edit_of edit.now) from to (buffer_of pool self.old).text)) }
-        ensures err { (pool : Pooled) → OnErr result (buffer_of pool self.new ≡ buffer_of pool self.old) }
-        ensures undo { (pool : Pooled) → LiesIn pool self.old.text → GivesOrdered (edit_of edit.now) → Good (buffer_of pool self.old) → OnOk result (KeepsBoundaries (buffer_of pool self.old) (buffer_of pool self.new)) }
+        ensures ok { (pool : Pooled) → LiesIn pool self.old.text →
+            OnOk result (buffer_of pool self.new ≡
+            reset (edit_of edit.now) from to (buffer_of pool self.old)) }
+        ensures changed { (pool : Pooled) → LiesIn pool self.old.text →
+            IfOk result (λ b. b ≡ is_some_record
+            (property_records (edit_of edit.now) from to (buffer_of pool self.old).text)) }
+        ensures err { (pool : Pooled) → OnErr result
+            (buffer_of pool self.new ≡ buffer_of pool self.old) }
+        ensures undo { (pool : Pooled) → LiesIn pool self.old.text →
+            GivesOrdered (edit_of edit.now) → Good (buffer_of pool self.old) →
+            OnOk result (KeepsBoundaries (buffer_of pool self.old) (buffer_of pool self.new)) }
     {
         changing_properties_keeps_boundaries();
         self.reset_properties(from, to, edit)
@@ -189,9 +214,14 @@ impl Buffer {
         requires range { to ≤ length self.old.sets }
         ensures text { self.new.text ≡ self.old.text }
         ensures size { length self.new.sets ≡ length self.old.sets }
-        ensures ok { (pool : Pooled) → LiesIn pool self.old.text → OnOk result (buffer_of pool self.new ≡ reset (edit_of edit.now) from to (buffer_of pool self.old)) }
-        ensures changed { (pool : Pooled) → LiesIn pool self.old.text → IfOk result (λ b. b ≡ is_some_record (property_records (edit_of edit.now) from to (buffer_of pool self.old).text)) }
-        ensures err { (pool : Pooled) → OnErr result (buffer_of pool self.new ≡ buffer_of pool self.old) }
+        ensures ok { (pool : Pooled) → LiesIn pool self.old.text →
+            OnOk result (buffer_of pool self.new ≡
+            reset (edit_of edit.now) from to (buffer_of pool self.old)) }
+        ensures changed { (pool : Pooled) → LiesIn pool self.old.text →
+            IfOk result (λ b. b ≡ is_some_record
+            (property_records (edit_of edit.now) from to (buffer_of pool self.old).text)) }
+        ensures err { (pool : Pooled) → OnErr result
+            (buffer_of pool self.new ≡ buffer_of pool self.old) }
     {
         let changed = self.change_properties(from, to, edit)?;
         if changed {

@@ -1,10 +1,12 @@
 //! Undoing.
-ghost use Rattle.std.specs.Prelude.{◌≡◌, ℕ, ◌+◌, ◌<◌, ◌≤◌, true, [], length, Ok, None, drop, take, IfOk, OnOk, OnErr, slice_get, IfSome, All, option_map};
+ghost use Rattle.std.specs.Prelude.{◌≡◌, ℕ, ◌+◌, ◌<◌, ◌≤◌, true, [], length, Ok, None, drop, take};
+ghost use Rattle.std.specs.Prelude.{IfOk, OnOk, OnErr, slice_get, IfSome, All, option_map};
 ghost use Rattle.text_model.specs.Ordered.{IsValue};
 ghost use Rattle.machine_laws.specs.Boundaries.{KeepsBoundaries};
 ghost use Rattle.machine_laws.specs.Good.{Good};
 ghost use Rattle.text_model.specs.Undo.{lies_inside, passed, trial, Deleted};
-ghost use Rattle.text_model.specs.Commit.{undo_one, undo_each, undone_groups, moves_behind, deleted, set_point};
+ghost use Rattle.text_model.specs.Commit.{undo_one, undo_each, undone_groups, moves_behind};
+ghost use Rattle.text_model.specs.Commit.{deleted, set_point};
 ghost use Rattle.gap_text.specs.Text.{LiesIn};
 ghost use Rattle.ek_types.specs.Property.{prop_of};
 ghost use Rattle.prop_intervals.specs.Edits.{edit_of};
@@ -29,7 +31,8 @@ use undo_list::{Plan, Rec, Undo};
 /// The change of properties that gives a property its old value, or takes it away where it had none.
 fn value_back(alloc: Global, name: Sym, old: Option<&PropVal>) -> Mem<PropEdit>
     requires { IfSome (option_map (λ v. prop_of v.now) old) IsValue }
-    ensures { IfOk result (λ edit. edit_of edit ≡ value_back name.0 (option_map (λ v. prop_of v.now) old.entry)) }
+    ensures { IfOk result (λ edit. edit_of edit ≡
+        value_back name.0 (option_map (λ v. prop_of v.now) old.entry)) }
 {
     match old {
         Some(value) => {
@@ -97,7 +100,8 @@ impl Buffer {
         requires high { to ≤ self.old.end }
         requires marks { AreWithin id (length self.old.sets) marks.old }
         ensures lies { LiesIn pool.new self.new.text }
-        ensures site { OnOk result (site_of pool.new self.new marks.new ≡ deleted id from to (set_point from (site_of pool.old self.old marks.old))) }
+        ensures site { OnOk result (site_of pool.new self.new marks.new ≡
+            deleted id from to (set_point from (site_of pool.old self.old marks.old))) }
         ensures marks { AreWithin id (length self.new.sets) marks.new }
         ensures blocks { ChangesBlocks self.old.text.blocks self.new.text.blocks pool.old pool.new }
     {
@@ -126,7 +130,10 @@ impl Buffer {
         requires range { end ≤ length records.now.state.entries }
         requires marks { AreWithin id (length self.old.sets) marks.old }
         ensures lies { LiesIn pool.new self.new.text }
-        ensures site { OnOk result (site_of pool.new self.new marks.new ≡ undo_one id (Deleted piece.now place) (moves_behind (drop i (take end records.now.state.entries))) (site_of pool.old self.old marks.old)) }
+        ensures site { OnOk result (site_of pool.new self.new marks.new ≡
+            undo_one id (Deleted piece.now place)
+            (moves_behind (drop i (take end records.now.state.entries)))
+            (site_of pool.old self.old marks.old)) }
         ensures marks { AreWithin id (length self.new.sets) marks.new }
         ensures blocks { ChangesBlocks self.old.text.blocks self.new.text.blocks pool.old pool.new }
     {
@@ -151,11 +158,15 @@ impl Buffer {
         requires lies { LiesIn pool.old self.old.text }
         requires order { i < end }
         requires range { end ≤ length records.now.state.entries }
-        requires inside { IfSome (slice_get records.now.state.entries i) (λ e. lies_inside self.old.begin self.old.end e.what ≡ true) }
+        requires inside { IfSome (slice_get records.now.state.entries i)
+            (λ e. lies_inside self.old.begin self.old.end e.what ≡ true) }
         requires undoable { IfSome (slice_get records.now.state.entries i) (λ e. CanBeUndone e.what) }
         requires marks { AreWithin id (length self.old.sets) marks.old }
         ensures lies { LiesIn pool.new self.new.text }
-        ensures site { OnOk result (IfSome (slice_get records.now.state.entries i) (λ e. site_of pool.new self.new marks.new ≡ undo_one id e.what (moves_behind (drop (i + 1) (take end records.now.state.entries))) (site_of pool.old self.old marks.old))) }
+        ensures site { OnOk result (IfSome (slice_get records.now.state.entries i)
+            (λ e. site_of pool.new self.new marks.new ≡
+            undo_one id e.what (moves_behind (drop (i + 1) (take end records.now.state.entries)))
+            (site_of pool.old self.old marks.old))) }
         ensures marks { AreWithin id (length self.new.sets) marks.new }
         ensures blocks { ChangesBlocks self.old.text.blocks self.new.text.blocks pool.old pool.new }
     {
@@ -195,11 +206,14 @@ impl Buffer {
         requires lies { LiesIn pool.old self.old.text }
         requires order { first ≤ end }
         requires range { end ≤ length records.now.state.entries }
-        requires inside { trial self.old.begin self.old.end (drop first (take end records.now.state.entries)) ≡ None }
+        requires inside { trial self.old.begin self.old.end
+            (drop first (take end records.now.state.entries)) ≡ None }
         requires undoable { All (λ e. CanBeUndone e.what) records.now.state.entries }
         requires marks { AreWithin id (length self.old.sets) marks.old }
         ensures lies { LiesIn pool.new self.new.text }
-        ensures site { OnOk result (site_of pool.new self.new marks.new ≡ undo_each id (drop first (take end records.now.state.entries)) (site_of pool.old self.old marks.old)) }
+        ensures site { OnOk result (site_of pool.new self.new marks.new ≡
+            undo_each id (drop first (take end records.now.state.entries))
+            (site_of pool.old self.old marks.old)) }
         ensures marks { AreWithin id (length self.new.sets) marks.new }
         ensures blocks { ChangesBlocks self.old.text.blocks self.new.text.blocks pool.old pool.new }
     {
@@ -223,13 +237,21 @@ impl Buffer {
     ) -> Mem<()>
         requires lies { LiesIn pool.old self.old.text }
         requires marks { AreWithin id (length self.old.sets) marks.old }
-        requires plan { (groups : ℕ) × (1 ≤ groups) × (planned groups self.old.begin self.old.end self.old.undo.state ≡ Ok plan.now) }
+        requires plan { (groups : ℕ) × (1 ≤ groups) ×
+            (planned groups self.old.begin self.old.end self.old.undo.state ≡ Ok plan.now) }
         ensures lies { LiesIn pool.new self.new.text }
-        ensures ok { (groups : ℕ) → 1 ≤ groups → planned groups self.old.begin self.old.end self.old.undo.state ≡ Ok plan.now → OnOk result (site_of pool.new self.new marks.new ≡ undone_groups id (passed groups self.old.undo.state) (site_of pool.old self.old marks.old)) }
-        ensures err { OnErr result (site_of pool.new self.new marks.new ≡ site_of pool.old self.old marks.old) }
+        ensures ok { (groups : ℕ) → 1 ≤ groups → planned groups self.old.begin self.old.end
+            self.old.undo.state ≡ Ok plan.now →
+            OnOk result (site_of pool.new self.new marks.new ≡
+            undone_groups id (passed groups self.old.undo.state)
+            (site_of pool.old self.old marks.old)) }
+        ensures err { OnErr result (site_of pool.new self.new marks.new ≡
+            site_of pool.old self.old marks.old) }
         ensures marks { AreWithin id (length self.new.sets) marks.new }
         ensures blocks { ChangesBlocks self.old.text.blocks self.new.text.blocks pool.old pool.new }
-        ensures undo { Good (buffer_of pool.old self.old) → OnOk result (KeepsBoundaries (buffer_of pool.old self.old) (buffer_of pool.new self.new)) }
+        ensures undo { Good (buffer_of pool.old self.old) →
+            OnOk result (KeepsBoundaries (buffer_of pool.old self.old)
+            (buffer_of pool.new self.new)) }
     {
         undoing_keeps_boundaries();
         // Read for what it ensures: the accessible portion lies in the text.
@@ -243,10 +265,16 @@ impl Buffer {
     fn undo_groups(&mut self, id: u32, plan: &Plan, marks: &mut Marks, pool: &mut Pool) -> Mem<()>
         requires lies { LiesIn pool.old self.old.text }
         requires marks { AreWithin id (length self.old.sets) marks.old }
-        requires plan { (groups : ℕ) × (1 ≤ groups) × (planned groups self.old.begin self.old.end self.old.undo.state ≡ Ok plan.now) }
+        requires plan { (groups : ℕ) × (1 ≤ groups) ×
+            (planned groups self.old.begin self.old.end self.old.undo.state ≡ Ok plan.now) }
         ensures lies { LiesIn pool.new self.new.text }
-        ensures ok { (groups : ℕ) → 1 ≤ groups → planned groups self.old.begin self.old.end self.old.undo.state ≡ Ok plan.now → OnOk result (site_of pool.new self.new marks.new ≡ undone_groups id (passed groups self.old.undo.state) (site_of pool.old self.old marks.old)) }
-        ensures err { OnErr result (site_of pool.new self.new marks.new ≡ site_of pool.old self.old marks.old) }
+        ensures ok { (groups : ℕ) → 1 ≤ groups → planned groups self.old.begin self.old.end
+            self.old.undo.state ≡ Ok plan.now →
+            OnOk result (site_of pool.new self.new marks.new ≡
+            undone_groups id (passed groups self.old.undo.state)
+            (site_of pool.old self.old marks.old)) }
+        ensures err { OnErr result (site_of pool.new self.new marks.new ≡
+            site_of pool.old self.old marks.old) }
         ensures marks { AreWithin id (length self.new.sets) marks.new }
         ensures blocks { ChangesBlocks self.old.text.blocks self.new.text.blocks pool.old pool.new }
     {

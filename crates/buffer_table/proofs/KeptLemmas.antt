@@ -24,7 +24,7 @@ use Rattle.buffer_core.proofs.BlockLemmas.{no_change}
 use Rattle.buffer_table.specs.Kept.{Named, Kept, Lives, AreKept, IsKept, is_live, named_at, nobody, live_of, editor_of, blocks_in}
 use Rattle.buffer_table.specs.Standing.{StandIn}
 use Rattle.buffer_table.proofs.StandLemmas.{stand_more}
-use Rattle.buffer_table.proofs.Texts.{StaysAs, stays, still_apart}
+use Rattle.buffer_core.proofs.Elsewhere.{StaysAs, stays, still_apart}
 
 -- WHO LIVES
 pub live_here : (buffers : List (Option Named)) (id : ℕ) (o : Option Named) (n : Named) → is_live buffers id ≡ true → o ≡ get_or buffers id o → o ≡ Some n → Lives buffers id n

@@ -1,4 +1,3 @@
-pub mod Texts
 pub mod StandLemmas
 pub mod KeptLemmas
 pub mod NameLemmas

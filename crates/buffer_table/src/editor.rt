@@ -1,5 +1,6 @@
 //! The editor.
-ghost use Rattle.std.specs.Prelude.{◌≡◌, ◌*◌, ◌<◌, ◌≤◌, true, length, None, option_map, unwrap_or, slice_get};
+ghost use Rattle.std.specs.Prelude.{◌≡◌, ◌*◌, ◌<◌, ◌≤◌, true, length, None, option_map, unwrap_or};
+ghost use Rattle.std.specs.Prelude.{slice_get};
 ghost use Rattle.editor_model.specs.Editor.{is_live};
 ghost use Rattle.buffer_table.specs.Kept.{blocks_in, cells_in, editor_of};
 
@@ -44,9 +45,21 @@ impl Model for Editor {
 
     ghost coded = { Prim.hlevel (codes, value.the_row.coded) };
 
-    ghost view = { λ e. record { buffers = e.buffers.items; current = e.current; marks = e.marks; registers = e.registers.items; pool = e.pool } };
+    ghost view = { λ e. record {
+      buffers = e.buffers.items;
+      current = e.current;
+      marks = e.marks;
+      registers = e.registers.items;
+      pool = e.pool;
+    } };
 
-    ghost invariant = { λ e. IsKept (record { buffers = e.buffers.items; current = e.current; marks = e.marks; registers = e.registers.items; pool = e.pool }) };
+    ghost invariant = { λ e. IsKept (record {
+      buffers = e.buffers.items;
+      current = e.current;
+      marks = e.marks;
+      registers = e.registers.items;
+      pool = e.pool;
+    }) };
 }
 
 impl Editor {
@@ -79,7 +92,8 @@ impl Editor {
 
     /// The buffer of a number: none where it was never made or was killed.
     pub fn buffer(&self, id: u32) -> Option<&Buffer>
-        ensures { option_map (λ b. b.now) result ≡ option_map (λ n. n.buffer) (unwrap_or (slice_get self.now.buffers id) None) }
+        ensures { option_map (λ b. b.now) result ≡
+            option_map (λ n. n.buffer) (unwrap_or (slice_get self.now.buffers id) None) }
     {
         match self.buffers.get(id as usize) {
             Some(Some(live)) => Some(&live.buffer),

@@ -29,7 +29,10 @@ impl<'a> Model for BufferText<'a> {
 
     ghost Value = { Live };
 
-    ghost view = { λ t. record { name = t.name.now.items; buffer = buffer_of t.pool.now t.buffer.now } };
+    ghost view = { λ t. record {
+      name = t.name.now.items;
+      buffer = buffer_of t.pool.now t.buffer.now;
+    } };
 
     ghost invariant = { λ t. IsReadable t.pool.now t.buffer.now };
 }

@@ -1,5 +1,6 @@
 //! Calls on one of the buffers.
-ghost use Rattle.std.specs.Prelude.{◌≡◌, ℕ, ◌⊎◌, ◌<◌, ◌≤◌, true, [], length, if◌then◌else◌, Ok, Err, IfOk, OnOk, OnErr, Some, option_map, slice_get};
+ghost use Rattle.std.specs.Prelude.{◌≡◌, ℕ, ◌⊎◌, ◌<◌, ◌≤◌, true, [], length, if◌then◌else◌, Ok};
+ghost use Rattle.std.specs.Prelude.{Err, IfOk, OnOk, OnErr, Some, option_map, slice_get};
 ghost use Rattle.text_model.specs.Properties.{part};
 ghost use Rattle.text_model.specs.Places.{clip};
 ghost use Rattle.text_model.specs.Undo.{with_boundary, started, enabled, disabled, passed};
@@ -24,7 +25,8 @@ impl Editor {
     pub fn char_at(&self, id: u32, i: usize) -> Ch
         requires live { is_live (editor_of self.now) id ≡ true }
         requires range { i < length (buffer_at (editor_of self.now) id).text }
-        ensures { option_map (λ c. c.0) (slice_get (buffer_at (editor_of self.now) id).text i) ≡ Some (ch_of result) }
+        ensures { option_map (λ c. c.0) (slice_get (buffer_at (editor_of self.now) id).text i) ≡
+            Some (ch_of result) }
     {
         match &self.buffers[id as usize] {
             Some(live) => live.buffer.text().at(&self.pool, i),
@@ -52,7 +54,8 @@ impl Editor {
         requires order { from ≤ to }
         requires range { to ≤ length (buffer_at (editor_of self.old) id).text }
         requires one { (from ≡ to) ⊎ (with.now ≡ []) }
-        ensures ok { OnOk result (editor_of self.new ≡ change_site id (replaced id from to with.now all) (editor_of self.old)) }
+        ensures ok { OnOk result (editor_of self.new ≡
+            change_site id (replaced id from to with.now all) (editor_of self.old)) }
         ensures err { OnErr result (editor_of self.new ≡ editor_of self.old) }
     {
         match &mut self.buffers[id as usize] {
@@ -69,8 +72,11 @@ impl Editor {
         requires live { is_live (editor_of self.old) id ≡ true }
         requires order { from ≤ to }
         requires range { to ≤ length (buffer_at (editor_of self.old) id).text }
-        ensures ok { OnOk result (editor_of self.new ≡ change_buffer id (reset (edit_of edit.now) from to) (editor_of self.old)) }
-        ensures changed { IfOk result (λ b. b ≡ is_some_record (property_records (edit_of edit.now) from to (buffer_at (editor_of self.old) id).text)) }
+        ensures ok { OnOk result (editor_of self.new ≡
+            change_buffer id (reset (edit_of edit.now) from to) (editor_of self.old)) }
+        ensures changed { IfOk result (λ b. b ≡ is_some_record
+            (property_records (edit_of edit.now) from to
+            (buffer_at (editor_of self.old) id).text)) }
         ensures err { OnErr result (editor_of self.new ≡ editor_of self.old) }
     {
         match &mut self.buffers[id as usize] {
@@ -82,7 +88,8 @@ impl Editor {
     /// Point goes to the position `p`, which counts from 1, or to the nearer end of the accessible portion.
     pub fn goto(&mut self, id: u32, p: i64)
         requires { is_live (editor_of self.old) id ≡ true }
-        ensures { editor_of self.new ≡ change_buffer id (λ b. record b { point = clip b.begin b.end (place_of p) }) (editor_of self.old) }
+        ensures { editor_of self.new ≡ change_buffer id
+            (λ b. record b { point = clip b.begin b.end (place_of p) }) (editor_of self.old) }
     {
         match &mut self.buffers[id as usize] {
             Some(live) => live.buffer.goto(p),
@@ -93,7 +100,8 @@ impl Editor {
     /// Point goes to a place, or to the nearer end of the accessible portion.
     pub fn goto_place(&mut self, id: u32, place: usize)
         requires { is_live (editor_of self.old) id ≡ true }
-        ensures { editor_of self.new ≡ change_buffer id (λ b. record b { point = clip b.begin b.end place }) (editor_of self.old) }
+        ensures { editor_of self.new ≡ change_buffer id
+            (λ b. record b { point = clip b.begin b.end place }) (editor_of self.old) }
     {
         match &mut self.buffers[id as usize] {
             Some(live) => live.buffer.goto_place(place),
@@ -106,7 +114,11 @@ impl Editor {
         requires live { is_live (editor_of self.old) id ≡ true }
         requires order { from ≤ to }
         requires range { to ≤ length (buffer_at (editor_of self.old) id).text }
-        ensures { editor_of self.new ≡ change_buffer id (λ b. record b { begin = from; end = to; point = clip from to b.point }) (editor_of self.old) }
+        ensures { editor_of self.new ≡ change_buffer id (λ b. record b {
+          begin = from;
+          end = to;
+          point = clip from to b.point;
+        }) (editor_of self.old) }
     {
         match &mut self.buffers[id as usize] {
             Some(live) => live.buffer.narrow(from, to),
@@ -128,7 +140,8 @@ impl Editor {
     /// Says whether a buffer was modified.
     pub fn set_modified(&mut self, id: u32, on: bool)
         requires { is_live (editor_of self.old) id ≡ true }
-        ensures { editor_of self.new ≡ change_buffer id (λ b. record b { modified = on }) (editor_of self.old) }
+        ensures { editor_of self.new ≡ change_buffer id (λ b. record b { modified = on })
+            (editor_of self.old) }
     {
         match &mut self.buffers[id as usize] {
             Some(live) => live.buffer.set_modified(on),
@@ -139,7 +152,8 @@ impl Editor {
     /// Ends the newest group of undo records, unless there is none. A refusal leaves the editor as it was.
     pub fn undo_boundary(&mut self, id: u32) -> Mem<()>
         requires { is_live (editor_of self.old) id ≡ true }
-        ensures ok { OnOk result (editor_of self.new ≡ change_buffer id (λ b. record b { undo = with_boundary b.undo }) (editor_of self.old)) }
+        ensures ok { OnOk result (editor_of self.new ≡
+            change_buffer id (λ b. record b { undo = with_boundary b.undo }) (editor_of self.old)) }
         ensures err { OnErr result (editor_of self.new ≡ editor_of self.old) }
     {
         match &mut self.buffers[id as usize] {
@@ -151,8 +165,11 @@ impl Editor {
     /// Makes all undo records pending. It is refused where recording is off, as `Disabled`, and changes nothing then.
     pub fn undo_start(&mut self, id: u32) -> Result<(), Refused>
         requires { is_live (editor_of self.old) id ≡ true }
-        ensures result { result ≡ (if (buffer_at (editor_of self.old) id).undo.on then Ok tt else Err Refused.Disabled) }
-        ensures editor { editor_of self.new ≡ change_buffer id (λ b. record b { undo = if b.undo.on then started b.undo else b.undo }) (editor_of self.old) }
+        ensures result { result ≡ (if (buffer_at (editor_of self.old) id).undo.on then Ok tt else
+            Err Refused.Disabled) }
+        ensures editor { editor_of self.new ≡ change_buffer id
+            (λ b. record b { undo = if b.undo.on then started b.undo else b.undo })
+            (editor_of self.old) }
     {
         match &mut self.buffers[id as usize] {
             Some(live) => live.buffer.undo_start(),
@@ -163,7 +180,9 @@ impl Editor {
     /// Begins to record, or stops and drops all records.
     pub fn undo_enable(&mut self, id: u32, on: bool)
         requires { is_live (editor_of self.old) id ≡ true }
-        ensures { editor_of self.new ≡ change_buffer id (λ b. record b { undo = if on then enabled b.undo else disabled b.undo }) (editor_of self.old) }
+        ensures { editor_of self.new ≡ change_buffer id
+            (λ b. record b { undo = if on then enabled b.undo else disabled b.undo })
+            (editor_of self.old) }
     {
         match &mut self.buffers[id as usize] {
             Some(live) => live.buffer.undo_enable(on),

@@ -1,8 +1,12 @@
 //! Calls on markers, overlays and kept places.
-ghost use Rattle.std.specs.Prelude.{◌≡◌, ◌↔◌, ℕ, ◌+◌, ◌-◌, ◌^◌, ◌<◌, ◌≤◌, true, false, [], ◌∷◌, ◌++◌, length, Some, None, IsNone, IfNone, IfSome, IfOk, OnOk, OnErr, option_map};
+ghost use Rattle.std.specs.Prelude.{◌≡◌, ◌↔◌, ℕ, ◌+◌, ◌-◌, ◌^◌, ◌<◌, ◌≤◌, true, false, [], ◌∷◌};
+ghost use Rattle.std.specs.Prelude.{◌++◌, length, Some, None, IsNone, IfNone, IfSome, IfOk, OnOk};
+ghost use Rattle.std.specs.Prelude.{OnErr, option_map};
 ghost use Rattle.text_model.specs.Properties.{put};
 ghost use Rattle.text_model.specs.Marks.{Marker, Overlay};
-ghost use Rattle.editor_model.specs.Editor.{is_live, buffer_at, marker_of, with_marker, set_marker_spot, change_marker, overlay_of, with_overlay, change_overlay};
+ghost use Rattle.editor_model.specs.Editor.{is_live, buffer_at, marker_of, with_marker};
+ghost use Rattle.editor_model.specs.Editor.{set_marker_spot, change_marker, overlay_of};
+ghost use Rattle.editor_model.specs.Editor.{with_overlay, change_overlay};
 ghost use Rattle.ek_types.specs.Property.{prop_of};
 ghost use Rattle.marker_set.specs.Numbered.{nowhere, spot_of};
 ghost use Rattle.overlay_set.specs.Numbered.{span_at, span_of, given_of};
@@ -101,7 +105,8 @@ impl Editor {
     /// Says whether marker `k` advances at an insertion.
     pub fn set_marker_kind(&mut self, k: u32, after: bool)
         requires { k < length (editor_of self.old).marks.markers }
-        ensures { editor_of self.new ≡ change_marker k (λ m. record m { advances = after }) (editor_of self.old) }
+        ensures { editor_of self.new ≡ change_marker k (λ m. record m { advances = after })
+            (editor_of self.old) }
     {
         let marks = &mut self.marks;
         marks.markers.set_kind(k, after);
@@ -121,7 +126,13 @@ impl Editor {
         requires order { from ≤ to }
         requires place { IsPlace (editor_of self.old) id to }
         ensures number { IfOk result (λ k. k ≡ length (editor_of self.old).marks.overlays) }
-        ensures ok { OnOk result (editor_of self.new ≡ with_overlay (record { span = Some (span_at (id, from, to)); front_advance = front; rear_advance = rear; props = [] }) (editor_of self.old)) }
+        ensures ok { OnOk result (editor_of self.new ≡
+            with_overlay (record {
+              span = Some (span_at (id, from, to));
+              front_advance = front;
+              rear_advance = rear;
+              props = [];
+            }) (editor_of self.old)) }
         ensures err { OnErr result (editor_of self.new ≡ editor_of self.old) }
     {
         let marks = &mut self.marks;
@@ -157,7 +168,9 @@ impl Editor {
         requires made { k < length (editor_of self.old).marks.overlays }
         requires order { from ≤ to }
         requires place { IsPlace (editor_of self.old) id to }
-        ensures ok { OnOk result (editor_of self.new ≡ change_overlay k (λ o. record o { span = Some (span_at (id, from, to)) }) (editor_of self.old)) }
+        ensures ok { OnOk result (editor_of self.new ≡
+            change_overlay k (λ o. record o { span = Some (span_at (id, from, to)) })
+            (editor_of self.old)) }
         ensures err { OnErr result (editor_of self.new ≡ editor_of self.old) }
     {
         let marks = &mut self.marks;
@@ -167,7 +180,8 @@ impl Editor {
     /// Takes overlay `k` out of its buffer.
     pub fn remove_overlay(&mut self, k: u32)
         requires { k < length (editor_of self.old).marks.overlays }
-        ensures { editor_of self.new ≡ change_overlay k (λ o. record o { span = None }) (editor_of self.old) }
+        ensures { editor_of self.new ≡ change_overlay k (λ o. record o { span = None })
+            (editor_of self.old) }
     {
         let marks = &mut self.marks;
         marks.overlays.remove(k);
@@ -176,7 +190,10 @@ impl Editor {
     /// Gives overlay `k` a property, or takes it away where `v` is none or nil. A refusal leaves the editor as it was.
     pub fn put_overlay(&mut self, k: u32, name: Sym, v: Option<&PropVal>) -> Mem<()>
         requires { k < length (editor_of self.old).marks.overlays }
-        ensures ok { OnOk result (editor_of self.new ≡ change_overlay k (λ o. record o { props = put o.props name.0 (given_of (option_map (λ p. prop_of p.now) v.entry)) }) (editor_of self.old)) }
+        ensures ok { OnOk result (editor_of self.new ≡
+            change_overlay k (λ o. record o
+            { props = put o.props name.0 (given_of (option_map (λ p. prop_of p.now) v.entry)) })
+            (editor_of self.old)) }
         ensures err { OnErr result (editor_of self.new ≡ editor_of self.old) }
     {
         let marks = &mut self.marks;
@@ -186,7 +203,8 @@ impl Editor {
     /// Keeps places of a live buffer, whose ends stand in order. A refusal leaves the editor as it was.
     pub fn push_saved(&mut self, s: Saved) -> Mem<()>
         requires { IsKeptPlace (editor_of self.old) (kept_of s) }
-        ensures ok { OnOk result (editor_of self.new ≡ with_marks (λ m. record m { saved = kept_of s ∷ m.saved }) (editor_of self.old)) }
+        ensures ok { OnOk result (editor_of self.new ≡
+            with_marks (λ m. record m { saved = kept_of s ∷ m.saved }) (editor_of self.old)) }
         ensures err { OnErr result (editor_of self.new ≡ editor_of self.old) }
     {
         let marks = &mut self.marks;
@@ -204,7 +222,8 @@ impl Editor {
     /// buffer was killed meanwhile; its ends stand in order in any case.
     pub fn pop_saved(&mut self) -> Option<Saved>
         ensures none { IsNone result ↔ ((editor_of self.old).marks.saved ≡ []) }
-        ensures newest { IfSome result (λ s. editor_of self.old ≡ with_marks (λ m. record m { saved = kept_of s ∷ m.saved }) (editor_of self.new)) }
+        ensures newest { IfSome result (λ s. editor_of self.old ≡
+            with_marks (λ m. record m { saved = kept_of s ∷ m.saved }) (editor_of self.new)) }
         ensures unchanged { IfNone result (editor_of self.new ≡ editor_of self.old) }
         ensures place { IfSome result (λ s. IsKeptIn (editor_of self.new) (kept_of s)) }
         ensures ordered { IfSome result (λ s. IsOrdered (kept_of s)) }
@@ -223,9 +242,12 @@ impl Editor {
     /// The same, where places are measured by property sets.
     fn take_saved(&mut self) -> Option<Saved>
         ensures none { IsNone result ↔ ((editor_of self.old).marks.saved ≡ []) }
-        ensures newest { IfSome result (λ s. editor_of self.old ≡ with_marks (λ m. record m { saved = kept_of s ∷ m.saved }) (editor_of self.new)) }
+        ensures newest { IfSome result (λ s. editor_of self.old ≡
+            with_marks (λ m. record m { saved = kept_of s ∷ m.saved }) (editor_of self.new)) }
         ensures unchanged { IfNone result (editor_of self.new ≡ editor_of self.old) }
-        ensures within { IfSome result (λ s. (n : Named) → Lives self.new.buffers (buffer_of (kept_of s)) n → last_place (kept_of s) ≤ length n.buffer.sets) }
+        ensures within { IfSome result (λ s. (n : Named) →
+            Lives self.new.buffers (buffer_of (kept_of s)) n →
+            last_place (kept_of s) ≤ length n.buffer.sets) }
         ensures ordered { IfSome result (λ s. IsOrdered (kept_of s)) }
     {
         let marks = &mut self.marks;

@@ -16,7 +16,9 @@ impl Editor {
         requires live { is_live (editor_of self.now) id ≡ true }
         requires order { from ≤ to }
         requires range { to ≤ length (buffer_at (editor_of self.now) id).text }
-        ensures { IfOk result (λ b. b ≡ is_some_record (property_records (edit_of edit.now) from to (buffer_at (editor_of self.now) id).text)) }
+        ensures { IfOk result (λ b. b ≡ is_some_record
+            (property_records (edit_of edit.now) from to
+            (buffer_at (editor_of self.now) id).text)) }
     {
         match self.found(id) {
             Some(buffer) => buffer.would_change(from, to, edit),

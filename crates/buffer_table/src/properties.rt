@@ -16,7 +16,8 @@ impl Editor {
     /// The property set of character `i`: its names rise, and nil is never a value.
     pub fn props_at(&self, id: u32, i: usize) -> &PropSet
         requires { i < length (buffer_at (editor_of self.now) id).text }
-        ensures exact { option_map (λ c. c.1) (slice_get (buffer_at (editor_of self.now) id).text i) ≡ Some result.now }
+        ensures exact { option_map (λ c. c.1) (slice_get (buffer_at (editor_of self.now) id).text
+            i) ≡ Some result.now }
         ensures proper { IsProper result.now }
     {
         match self.found(id) {

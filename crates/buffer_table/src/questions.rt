@@ -1,5 +1,6 @@
 //! What is asked of one buffer. Where no live buffer has the number, the answer is that of an empty one.
-ghost use Rattle.std.specs.Prelude.{◌≡◌, ◌<◌, ◌≤◌, true, length, Ok, map, IfSome, Some, option_map, slice_get};
+ghost use Rattle.std.specs.Prelude.{◌≡◌, ◌<◌, ◌≤◌, true, length, Ok, map, IfSome, Some, option_map};
+ghost use Rattle.std.specs.Prelude.{slice_get};
 ghost use Rattle.editor_model.specs.Editor.{live, is_live, buffer_at, characters_in};
 ghost use Rattle.gap_text.specs.Text.{LiesIn};
 ghost use Rattle.undo_list.specs.Plans.{planned};
@@ -17,9 +18,11 @@ use undo_list::{Plan, Rec, Refused};
 impl Editor {
     /// The live buffer of a number, whose blocks live in the pool and whose characters have a property set each.
     pub(crate) fn found(&self, id: u32) -> Option<&Buffer>
-        ensures shown { option_map (λ b. buffer_of self.now.pool b.now) result ≡ option_map (λ l. l.buffer) (live (editor_of self.now) id) }
+        ensures shown { option_map (λ b. buffer_of self.now.pool b.now) result ≡
+            option_map (λ l. l.buffer) (live (editor_of self.now) id) }
         ensures lies { IfSome result (λ b. LiesIn self.now.pool b.now.text) }
-        ensures sets { IfSome result (λ b. b.now.sets ≡ map (λ c. c.1) (buffer_at (editor_of self.now) id).text) }
+        ensures sets { IfSome result (λ b. b.now.sets ≡
+            map (λ c. c.1) (buffer_at (editor_of self.now) id).text) }
         ensures named { IfSome result (λ b. b.now ≡ (named_at self.now.buffers id).buffer) }
         ensures made { IfSome result (λ _. id < 256) }
     {
@@ -52,7 +55,8 @@ impl Editor {
     /// How many characters the text has; each has a property set.
     pub fn size(&self, id: u32) -> usize
         ensures exact { result ≡ length (buffer_at (editor_of self.now) id).text }
-        ensures sets { is_live (editor_of self.now) id ≡ true → result ≡ length (named_at self.now.buffers id).buffer.sets }
+        ensures sets { is_live (editor_of self.now) id ≡ true →
+            result ≡ length (named_at self.now.buffers id).buffer.sets }
     {
         match self.found(id) {
             Some(buffer) => {
@@ -128,7 +132,8 @@ impl Editor {
     /// An undo record with its serial number; the newest is number 0.
     pub fn undo_at(&self, id: u32, i: usize) -> (&Rec, u64)
         requires { i < length (buffer_at (editor_of self.now) id).undo.entries }
-        ensures { slice_get (buffer_at (editor_of self.now) id).undo.entries i ≡ Some (record { what = rec_of result.0.now; serial = result.1 }) }
+        ensures { slice_get (buffer_at (editor_of self.now) id).undo.entries i ≡
+            Some (record { what = rec_of result.0.now; serial = result.1 }) }
     {
         match self.found(id) {
             Some(buffer) => buffer.undo().at(i),
@@ -139,7 +144,8 @@ impl Editor {
     /// What undoing so many groups of the pending records would pass in the accessible portion, or why it is refused.
     pub fn undo_plan(&self, id: u32, groups: u32) -> Mem<Result<Plan, Refused>>
         requires { 1 ≤ groups }
-        ensures { result ≡ Ok (planned groups (buffer_at (editor_of self.now) id).begin (buffer_at (editor_of self.now) id).end (buffer_at (editor_of self.now) id).undo) }
+        ensures { result ≡ Ok (planned groups (buffer_at (editor_of self.now) id).begin
+            (buffer_at (editor_of self.now) id).end (buffer_at (editor_of self.now) id).undo) }
     {
         match self.found(id) {
             Some(buffer) => {

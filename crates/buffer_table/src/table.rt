@@ -1,6 +1,8 @@
 //! Buffers that are made, named and found.
-ghost use Rattle.std.specs.Prelude.{◌≡◌, ℕ, ◌+◌, ◌<◌, true, length, None, IfOk, OnOk, OnErr, option_map, map, slice_set};
-ghost use Rattle.editor_model.specs.Editor.{scratch, live, is_live, find, find_from, with_buffer, renamed};
+ghost use Rattle.std.specs.Prelude.{◌≡◌, ℕ, ◌+◌, ◌<◌, true, length, None, IfOk, OnOk, OnErr};
+ghost use Rattle.std.specs.Prelude.{option_map, map, slice_set};
+ghost use Rattle.editor_model.specs.Editor.{scratch, live, is_live, find, find_from, with_buffer};
+ghost use Rattle.editor_model.specs.Editor.{renamed};
 ghost use Rattle.buffer_table.specs.Kept.{editor_of, has_name, named_at};
 
 use crate::editor::{Editor, Live};
@@ -48,7 +50,8 @@ impl Editor {
 
     /// The name of a live buffer, or `None` where no live buffer has the number.
     pub fn name(&self, id: u32) -> Option<&Chars>
-        ensures { option_map (λ n. n.now.items) result ≡ option_map (λ l. l.name) (live (editor_of self.now) id) }
+        ensures { option_map (λ n. n.now.items) result ≡
+            option_map (λ l. l.name) (live (editor_of self.now) id) }
     {
         match self.buffers.get(id as usize) {
             Some(Some(live)) => Some(&live.name),
@@ -83,7 +86,8 @@ impl Editor {
         ensures live { is_live (editor_of self.new) result ≡ true }
         ensures editor { editor_of self.new ≡ with_buffer room.name (editor_of self.old) }
         ensures pool { self.new.pool ≡ self.old.pool }
-        ensures others { (id : ℕ) → id < length self.old.buffers → named_at self.new.buffers id ≡ named_at self.old.buffers id }
+        ensures others { (id : ℕ) → id < length self.old.buffers →
+            named_at self.new.buffers id ≡ named_at self.old.buffers id }
     {
         let BufferRoom { name, buffers } = room;
         let number = self.buffers.len() as u32;
@@ -99,10 +103,12 @@ impl Editor {
         requires free { find (editor_of self.old) name.now.items ≡ None }
         ensures number { IfOk result (λ id. id ≡ length (editor_of self.old).buffers) }
         ensures live { IfOk result (λ id. is_live (editor_of self.new) id ≡ true) }
-        ensures ok { OnOk result (editor_of self.new ≡ with_buffer name.now.items (editor_of self.old)) }
+        ensures ok { OnOk result (editor_of self.new ≡
+            with_buffer name.now.items (editor_of self.old)) }
         ensures err { OnErr result (editor_of self.new ≡ editor_of self.old) }
         ensures pool { self.new.pool ≡ self.old.pool }
-        ensures others { (id : ℕ) → id < length self.old.buffers → named_at self.new.buffers id ≡ named_at self.old.buffers id }
+        ensures others { (id : ℕ) → id < length self.old.buffers →
+            named_at self.new.buffers id ≡ named_at self.old.buffers id }
     {
         let room = self.reserve_buffer(name.copy()?)?;
         Ok(self.make_reserved(room))
@@ -111,7 +117,8 @@ impl Editor {
     /// Gives a live buffer a name that no other live buffer has. A refusal leaves the editor as it was.
     pub fn rename(&mut self, id: u32, name: &Chars) -> Mem<()>
         requires live { is_live (editor_of self.old) id ≡ true }
-        requires free { find_from 0 (slice_set (editor_of self.old).buffers id None) name.now.items ≡ None }
+        requires free { find_from 0 (slice_set (editor_of self.old).buffers id None)
+            name.now.items ≡ None }
         ensures ok { OnOk result (editor_of self.new ≡ renamed id name.now.items (editor_of self.old)) }
         ensures err { OnErr result (editor_of self.new ≡ editor_of self.old) }
     {

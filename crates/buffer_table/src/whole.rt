@@ -1,5 +1,6 @@
 //! The editor as a whole: how it begins, and how it ends.
-ghost use Rattle.std.specs.Prelude.{◌≡◌, ◌≢◌, ◌==◌, if◌then◌else◌, ◌+◌, ◌<◌, true, length, None, IfSome, IfOk, OnOk, OnErr, slice_set};
+ghost use Rattle.std.specs.Prelude.{◌≡◌, ◌≢◌, ◌==◌, if◌then◌else◌, ◌+◌, ◌<◌, true, length, None};
+ghost use Rattle.std.specs.Prelude.{IfSome, IfOk, OnOk, OnErr, slice_set};
 ghost use Rattle.text_model.specs.PropertyQuestions.{first};
 ghost use Rattle.editor_model.specs.Editor.{new_editor, is_live, live_from, killed};
 ghost use Rattle.gap_text.specs.Blocks.{SameOutside};
@@ -76,7 +77,8 @@ impl Editor {
         requires live { is_live (editor_of self.old) id ≡ true }
         requires aside { (editor_of self.old).current ≢ id }
         ensures editor { editor_of self.new ≡ gone id (editor_of self.old) }
-        ensures blocks { live self.new.pool + length (named_at self.old.buffers id).buffer.text.blocks ≡ live self.old.pool }
+        ensures blocks { live self.new.pool + length
+            (named_at self.old.buffers id).buffer.text.blocks ≡ live self.old.pool }
     {
         match mem::replace(&mut self.buffers[id as usize], None) {
             Some(live) => {
@@ -92,7 +94,10 @@ impl Editor {
     fn leave(&mut self, id: u32, other: u32)
         requires live { is_live (editor_of self.old) other ≡ true }
         requires other { other ≢ id }
-        ensures editor { editor_of self.new ≡ record (editor_of self.old) { current = if (editor_of self.old).current == id then other else (editor_of self.old).current } }
+        ensures editor { editor_of self.new ≡ record (editor_of self.old) {
+          current = if (editor_of self.old).current == id then other else
+              (editor_of self.old).current;
+        } }
         ensures aside { (editor_of self.new).current ≢ id }
         ensures buffers { self.new.buffers ≡ self.old.buffers }
         ensures pool { self.new.pool ≡ self.old.pool }
@@ -109,7 +114,8 @@ impl Editor {
         requires room { length (editor_of self.old).buffers < 256 }
         ensures ok { OnOk result (editor_of self.new ≡ killed only (editor_of self.old)) }
         ensures err { OnErr result (editor_of self.new ≡ editor_of self.old) }
-        ensures blocks { OnOk result (live self.new.pool + length (named_at self.old.buffers only).buffer.text.blocks ≡ live self.old.pool) }
+        ensures blocks { OnOk result (live self.new.pool + length
+            (named_at self.old.buffers only).buffer.text.blocks ≡ live self.old.pool) }
     {
         let name = scratch(self.alloc)?;
         self.buffers.reserve(1)?;
@@ -139,7 +145,8 @@ impl Editor {
             → length (editor_of self.old).buffers < 256 }
         ensures ok { OnOk result (editor_of self.new ≡ killed id (editor_of self.old)) }
         ensures err { OnErr result (editor_of self.new ≡ editor_of self.old) }
-        ensures blocks { OnOk result (live self.new.pool + length (named_at self.old.buffers id).buffer.text.blocks ≡ live self.old.pool) }
+        ensures blocks { OnOk result (live self.new.pool + length
+            (named_at self.old.buffers id).buffer.text.blocks ≡ live self.old.pool) }
     {
         match self.other_than(id) {
             Some(other) => {

@@ -1,5 +1,7 @@
 //! The hook functions of all buffers.
-ghost use Rattle.std.specs.Prelude.{◌≡◌, ◌↔◌, ◌<◌, ◌≤◌, ◌==◌, [], ◌∷◌, ◌++◌, Some, None, true, false, map, length, nat_le, slice_get, if◌then◌else◌, IfOk, OnErr};
+ghost use Rattle.std.specs.Prelude.{◌≡◌, ◌↔◌, ◌<◌, ◌≤◌, ◌==◌, [], ◌∷◌, ◌++◌, Some, None, true};
+ghost use Rattle.std.specs.Prelude.{false, map, length, nat_le, slice_get, if◌then◌else◌, IfOk};
+ghost use Rattle.std.specs.Prelude.{OnErr};
 ghost use Rattle.std.specs.List.{position};
 ghost use Rattle.editor_model.specs.Limits.{most_buffers};
 ghost use Rattle.editor_model.specs.Values.{Sym as symbol};
@@ -44,7 +46,8 @@ impl Model for Hooks {
 
     ghost view = { λ h. record { lists = map entry_of h.buffers.items; inhibited = h.inhibited } };
 
-    ghost invariant = { λ h. AreKept (map entry_of h.buffers.items) × (most_buffers ≤ vec_capacity h.buffers) × (items_of h.nothing ≡ []) };
+    ghost invariant = { λ h. AreKept (map entry_of h.buffers.items) ×
+        (most_buffers ≤ vec_capacity h.buffers) × (items_of h.nothing ≡ []) };
 }
 
 impl Hooks {
@@ -63,7 +66,8 @@ impl Hooks {
     /// last comes first.
     pub fn list(&self, buffer: u32, before: bool) -> &SymList
         ensures few { length (items_of result.now) ≤ most_hooks }
-        ensures names { map number_of (items_of result.now) ≡ hook_here (state_with self.now buffer) (symbol (hook before)) }
+        ensures names { map number_of (items_of result.now) ≡
+            hook_here (state_with self.now buffer) (symbol (hook before)) }
     {
         match self.place(buffer) {
             Some(i) => self.buffers[i].list(before),
@@ -73,7 +77,8 @@ impl Hooks {
 
     /// The same functions as a list of their own, since their calls may change the list.
     pub fn names(&self, buffer: u32, before: bool) -> Mem<SymList>
-        ensures { IfOk result (λ names. map number_of (items_of names) ≡ hook_here (state_with self.now buffer) (symbol (hook before))) }
+        ensures { IfOk result (λ names. map number_of (items_of names) ≡
+            hook_here (state_with self.now buffer) (symbol (hook before))) }
     {
         self.list(buffer, before).copy()
     }
@@ -82,9 +87,16 @@ impl Hooks {
     /// there, and then nothing changes. Want of memory leaves all as it was.
     pub fn add(&mut self, buffer: u32, before: bool, name: Sym) -> Mem<bool>
         requires { buffer < most_buffers }
-        ensures fits { IfOk result (λ fits. fits ≡ nat_le (length (hook_added (state_with self.old buffer) (symbol (hook before)) (symbol name.0))) most_hooks) }
-        ensures others { IfOk result (λ fits. (fits ≡ false) ↔ (length (hook_removed (state_with self.old buffer) (symbol (hook before)) (symbol name.0)) ≡ most_hooks)) }
-        ensures hooks { IfOk result (λ fits. self.new ≡ (if fits then with_list buffer before (hook_added (state_with self.old buffer) (symbol (hook before)) (symbol name.0)) self.old else self.old)) }
+        ensures fits { IfOk result (λ fits. fits ≡
+            nat_le (length (hook_added (state_with self.old buffer) (symbol (hook before))
+            (symbol name.0))) most_hooks) }
+        ensures others { IfOk result (λ fits. (fits ≡ false) ↔
+            (length (hook_removed (state_with self.old buffer) (symbol (hook before))
+            (symbol name.0)) ≡ most_hooks)) }
+        ensures hooks { IfOk result (λ fits. self.new ≡
+            (if fits then with_list buffer before
+            (hook_added (state_with self.old buffer) (symbol (hook before)) (symbol name.0))
+            self.old else self.old)) }
         ensures err { OnErr result (self.new ≡ self.old) }
     {
         let names = self.list(buffer, before);
@@ -102,7 +114,9 @@ impl Hooks {
     /// Takes a function out of a list of a buffer, where it stands there. It takes no memory.
     pub fn remove(&mut self, buffer: u32, before: bool, name: Sym)
         requires { buffer < most_buffers }
-        ensures { self.new ≡ with_list buffer before (hook_removed (state_with self.old buffer) (symbol (hook before)) (symbol name.0)) self.old }
+        ensures { self.new ≡ with_list buffer before
+            (hook_removed (state_with self.old buffer) (symbol (hook before)) (symbol name.0))
+            self.old }
     {
         let i = self.entry(buffer);
         self.buffers[i].remove(before, name);
@@ -145,7 +159,10 @@ impl Hooks {
     fn entry(&mut self, buffer: u32) -> usize
         requires { buffer < most_buffers }
         ensures place { position (is_of buffer) self.new.lists ≡ Some result }
-        ensures hooks { self.new ≡ record self.old { lists = with_hooks buffer (hooks_of self.old.lists buffer) self.old.lists } }
+        ensures hooks { self.new ≡ record self.old {
+          lists = with_hooks buffer
+              (hooks_of self.old.lists buffer) self.old.lists;
+        } }
     {
         if let Some(i) = self.place(buffer) {
             return i;

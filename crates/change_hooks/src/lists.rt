@@ -40,7 +40,10 @@ impl BufferHooks {
 
     /// Puts a list in the place of one of the two.
     pub fn set(&mut self, before: bool, names: SymList)
-        ensures { entry_of self.new ≡ (self.old.buffer, with_hook_list (hook before) (map number_of (items_of names)) (lists_of self.old)) }
+        ensures { entry_of self.new ≡ (
+          self.old.buffer,
+          with_hook_list (hook before) (map number_of (items_of names)) (lists_of self.old),
+        ) }
     {
         if before {
             self.before = names;
@@ -51,7 +54,11 @@ impl BufferHooks {
 
     /// Takes a name out of one of the two lists. It takes no memory.
     pub fn remove(&mut self, before: bool, name: Sym)
-        ensures { entry_of self.new ≡ (self.old.buffer, with_hook_list (hook before) (filter (λ n. not (n == name.0)) (hook_list (hook before) (lists_of self.old))) (lists_of self.old)) }
+        ensures { entry_of self.new ≡ (
+          self.old.buffer,
+          with_hook_list (hook before) (filter (λ n. not (n == name.0))
+              (hook_list (hook before) (lists_of self.old))) (lists_of self.old),
+        ) }
     {
         if before {
             remove_from(&mut self.before, name);
@@ -63,7 +70,8 @@ impl BufferHooks {
 
 /// Takes a name out of a list.
 fn remove_from(names: &mut SymList, name: Sym)
-    ensures { map number_of (items_of names.new) ≡ filter (λ n. not (n == name.0)) (map number_of (items_of names.old)) }
+    ensures { map number_of (items_of names.new) ≡
+        filter (λ n. not (n == name.0)) (map number_of (items_of names.old)) }
 {
     names.retain(|n| n.0 != name.0);
 }
@@ -84,7 +92,8 @@ pub fn place_of(buffers: &[BufferHooks], buffer: u32) -> Option<usize>
 
 /// A list with a name in front of the others.
 pub fn with_first(name: Sym, names: &SymList) -> Mem<SymList>
-    ensures { IfOk result (λ longer. map number_of (items_of longer) ≡ name.0 ∷ map number_of (items_of names.now)) }
+    ensures { IfOk result (λ longer. map number_of (items_of longer) ≡ name.0 ∷
+        map number_of (items_of names.now)) }
 {
     let mut longer = ListOf::new(names.allocator());
     longer.push(name)?;

@@ -69,7 +69,8 @@ pub fn buffer_name(editor: &Editor, b: &Value) -> Result<Value, Failure>
 
 /// The live buffers by rising number.
 fn all_live(editor: &Editor) -> Mem<Values>
-    ensures { IfOk result (λ values. map view (items_of values) ≡ map TheBuffer (live_from 0 (editor_of editor.now).buffers)) }
+    ensures { IfOk result (λ values. map view (items_of values) ≡
+        map TheBuffer (live_from 0 (editor_of editor.now).buffers)) }
 {
     let mut values = Values::new(editor.allocator());
     for id in 0..editor.count() {
@@ -95,7 +96,8 @@ pub fn buffer_modified_p(editor: &Editor, b: &Value) -> Result<Value, Failure>
 }
 
 pub fn set_buffer(editor: &mut Editor, b: &Value) -> Result<Value, Failure>
-    ensures { Applies result (editor_of editor.old) (editor_of editor.new) (calls.set_buffer (editor_of editor.old) (view b.now)) }
+    ensures { Applies result (editor_of editor.old) (editor_of editor.new)
+        (calls.set_buffer (editor_of editor.old) (view b.now)) }
 {
     must_be_buffer(b)?;
     let id = objects::buffer(editor, b)?;
@@ -105,14 +107,16 @@ pub fn set_buffer(editor: &mut Editor, b: &Value) -> Result<Value, Failure>
 
 /// Says whether the current buffer was modified.
 fn set_modified(editor: &mut Editor, on: bool)
-    ensures { editor_of editor.new ≡ change_buffer (editor_of editor.old).current (λ b. record b { modified = on }) (editor_of editor.old) }
+    ensures { editor_of editor.new ≡ change_buffer (editor_of editor.old).current
+        (λ b. record b { modified = on }) (editor_of editor.old) }
 {
     let id = editor.current();
     editor.set_modified(id, on);
 }
 
 pub fn set_buffer_modified_p(editor: &mut Editor, v: &Value) -> Result<Value, Failure>
-    ensures { Applies result (editor_of editor.old) (editor_of editor.new) (calls.set_buffer_modified_p (editor_of editor.old) (view v.now)) }
+    ensures { Applies result (editor_of editor.old) (editor_of editor.new)
+        (calls.set_buffer_modified_p (editor_of editor.old) (view v.now)) }
 {
     set_modified(editor, flag(v));
     Ok(truth(flag(v)))
@@ -121,7 +125,8 @@ pub fn set_buffer_modified_p(editor: &mut Editor, v: &Value) -> Result<Value, Fa
 /// Makes a buffer of a name that no live buffer has.
 fn make_named(editor: &mut Editor, v: &Value) -> Result<Value, Failure>
     requires { find (editor_of editor.old) (name_of (view v.now)) ≡ None }
-    ensures { Applies result (editor_of editor.old) (editor_of editor.new) (calls.found_or_made (editor_of editor.old) (view v.now) None) }
+    ensures { Applies result (editor_of editor.old) (editor_of editor.new)
+        (calls.found_or_made (editor_of editor.old) (view v.now) None) }
 {
     let name = string_of_name(v)?;
     must_be_short(v)?;
@@ -131,7 +136,8 @@ fn make_named(editor: &mut Editor, v: &Value) -> Result<Value, Failure>
 }
 
 pub fn get_buffer_create(editor: &mut Editor, b: &Value) -> Result<Value, Failure>
-    ensures { Applies result (editor_of editor.old) (editor_of editor.new) (calls.get_buffer_create (editor_of editor.old) (view b.now)) }
+    ensures { Applies result (editor_of editor.old) (editor_of editor.new)
+        (calls.get_buffer_create (editor_of editor.old) (view b.now)) }
 {
     match b {
         Value::Buffer(id) => Ok(Value::Buffer(*id)),
@@ -144,7 +150,8 @@ pub fn get_buffer_create(editor: &mut Editor, b: &Value) -> Result<Value, Failur
 }
 
 pub fn generate_new_buffer(editor: &mut Editor, v: &Value) -> Result<Value, Failure>
-    ensures { Applies result (editor_of editor.old) (editor_of editor.new) (calls.generate_new_buffer (editor_of editor.old) (view v.now)) }
+    ensures { Applies result (editor_of editor.old) (editor_of editor.new)
+        (calls.generate_new_buffer (editor_of editor.old) (view v.now)) }
 {
     let name = string_of_name(v)?;
     must_be_short(v)?;
@@ -155,7 +162,8 @@ pub fn generate_new_buffer(editor: &mut Editor, v: &Value) -> Result<Value, Fail
 }
 
 pub fn rename_buffer(editor: &mut Editor, v: &Value) -> Result<Value, Failure>
-    ensures { Applies result (editor_of editor.old) (editor_of editor.new) (calls.rename_buffer (editor_of editor.old) (view v.now)) }
+    ensures { Applies result (editor_of editor.old) (editor_of editor.new)
+        (calls.rename_buffer (editor_of editor.old) (view v.now)) }
 {
     let name = string_of_name(v)?;
     must_be_short(v)?;

@@ -1,5 +1,6 @@
 //! The commit of a change that was prepared. Hook functions may have run since.
-ghost use Rattle.std.specs.Prelude.{◌≡◌, ◌⊎◌, ◌+◌, ◌≤◌, true, false, [], length, Option, Some, OnOk, OnErr, IfOk};
+ghost use Rattle.std.specs.Prelude.{◌≡◌, ◌⊎◌, ◌+◌, ◌≤◌, true, false, [], length, Option, Some};
+ghost use Rattle.std.specs.Prelude.{OnOk, OnErr, IfOk};
 ghost use Rattle.text_model.specs.Commit.{replaced};
 ghost use Rattle.editor_model.specs.Editor.{is_live, buffer_at, change_site};
 ghost use Rattle.editor_model.specs.Answers as answers;
@@ -44,7 +45,9 @@ fn put_with_point(
     requires order { from ≤ to }
     requires range { to ≤ length (buffer_at (editor_of editor.old) id).text }
     requires one { (from ≡ to) ⊎ (piece.now ≡ []) }
-    ensures ok { OnOk result (editor_of editor.new ≡ change_site id (put_site id from to piece.now all point_after false) (editor_of editor.old)) }
+    ensures ok { OnOk result (editor_of editor.new ≡
+        change_site id (put_site id from to piece.now all point_after false)
+        (editor_of editor.old)) }
     ensures err { OnErr result (editor_of editor.new ≡ editor_of editor.old) }
 {
     if point_after {
@@ -67,7 +70,8 @@ fn put_behind(
     requires order { from ≤ to }
     requires range { to ≤ length (buffer_at (editor_of editor.old) id).text }
     requires one { (from ≡ to) ⊎ (piece.now ≡ []) }
-    ensures ok { OnOk result (editor_of editor.new ≡ change_site id (put_site id from to piece.now all true false) (editor_of editor.old)) }
+    ensures ok { OnOk result (editor_of editor.new ≡
+        change_site id (put_site id from to piece.now all true false) (editor_of editor.old)) }
     ensures err { OnErr result (editor_of editor.new ≡ editor_of editor.old) }
 {
     let Some(behind) = from.checked_add(piece.len()) else {
@@ -92,7 +96,8 @@ fn put_around(
     requires order { from ≤ to }
     requires range { to ≤ length (buffer_at (editor_of editor.old) id).text }
     requires one { (from ≡ to) ⊎ (piece.now ≡ []) }
-    ensures ok { OnOk result (editor_of editor.new ≡ change_site id (put_site id from to piece.now all false false) (editor_of editor.old)) }
+    ensures ok { OnOk result (editor_of editor.new ≡
+        change_site id (put_site id from to piece.now all false false) (editor_of editor.old)) }
     ensures err { OnErr result (editor_of editor.new ≡ editor_of editor.old) }
 {
     editor.replace(id, from, to, piece, all)
@@ -112,7 +117,9 @@ fn put_widened(
     requires order { from ≤ to }
     requires range { to ≤ length (buffer_at (editor_of editor.old) id).text }
     requires one { (from ≡ to) ⊎ (piece.now ≡ []) }
-    ensures ok { OnOk result (editor_of editor.new ≡ change_site id (put_site id from to piece.now all point_after true) (editor_of editor.old)) }
+    ensures ok { OnOk result (editor_of editor.new ≡
+        change_site id (put_site id from to piece.now all point_after true)
+        (editor_of editor.old)) }
     ensures err { OnErr result (editor_of editor.new ≡ editor_of editor.old) }
 {
     let portion = editor.bounds(id);
@@ -139,7 +146,9 @@ fn put(
     requires order { from ≤ to }
     requires range { to ≤ length (buffer_at (editor_of editor.old) id).text }
     requires one { (from ≡ to) ⊎ (piece.now ≡ []) }
-    ensures ok { OnOk result (editor_of editor.new ≡ change_site id (put_site id from to piece.now manner.all manner.point_after manner.widen) (editor_of editor.old)) }
+    ensures ok { OnOk result (editor_of editor.new ≡
+        change_site id (put_site id from to piece.now manner.all manner.point_after manner.widen)
+        (editor_of editor.old)) }
     ensures err { OnErr result (editor_of editor.new ≡ editor_of editor.old) }
 {
     if manner.widen {
@@ -178,7 +187,14 @@ fn commit_put(
     manner: Manner,
     mark: Option<u32>,
 ) -> Result<Committed, Failure>
-    ensures { (reply : Meant) → Commits result (editor_of editor.old) (editor_of editor.new) (commit (editor_of editor.old) (record { buffer = id; from = from; to = to; what = answers.Put piece.now manner.all manner.point_after manner.widen mark; reply = reply })) }
+    ensures { (reply : Meant) → Commits result (editor_of editor.old) (editor_of editor.new)
+        (commit (editor_of editor.old) (record {
+          buffer = id;
+          from = from;
+          to = to;
+          what = answers.Put piece.now manner.all manner.point_after manner.widen mark;
+          reply = reply;
+        })) }
 {
     must(editor.is_live(id), Fault::BufferKilled)?;
     must_have_room(editor, id, piece.len() as u128)?;
@@ -205,7 +221,14 @@ fn commit_props(
     to: usize,
     edit: &PropEdit,
 ) -> Result<Committed, Failure>
-    ensures { (reply : Meant) → Commits result (editor_of editor.old) (editor_of editor.new) (commit (editor_of editor.old) (record { buffer = id; from = from; to = to; what = answers.Props (edit_of edit.now); reply = reply })) }
+    ensures { (reply : Meant) → Commits result (editor_of editor.old) (editor_of editor.new)
+        (commit (editor_of editor.old) (record {
+          buffer = id;
+          from = from;
+          to = to;
+          what = answers.Props (edit_of edit.now);
+          reply = reply;
+        })) }
 {
     must(editor.is_live(id), Fault::BufferKilled)?;
     if to < from || editor.size(id) < to {
@@ -227,7 +250,14 @@ fn commit_undo(
     to: usize,
     n: u32,
 ) -> Result<Committed, Failure>
-    ensures { (reply : Meant) → Commits result (editor_of editor.old) (editor_of editor.new) (commit (editor_of editor.old) (record { buffer = id; from = from; to = to; what = answers.UndoGroups n; reply = reply })) }
+    ensures { (reply : Meant) → Commits result (editor_of editor.old) (editor_of editor.new)
+        (commit (editor_of editor.old) (record {
+          buffer = id;
+          from = from;
+          to = to;
+          what = answers.UndoGroups n;
+          reply = reply;
+        })) }
 {
     must(editor.is_live(id), Fault::BufferKilled)?;
     if n == 0 {
@@ -246,7 +276,10 @@ fn commit_undo(
 
 /// Makes a change that was prepared, at its ends, as `commit_at` does.
 pub fn commit(editor: &mut Editor, change: &Change) -> Mem<Committed>
-    ensures ok { IfOk result (λ c. record { editor = editor_of editor.new; committed = committed_of c } ≡ commit (editor_of editor.old) (change_of change.now)) }
+    ensures ok { IfOk result (λ c. record {
+      editor = editor_of editor.new;
+      committed = committed_of c;
+    } ≡ commit (editor_of editor.old) (change_of change.now)) }
     ensures err { OnErr result (editor_of editor.new ≡ editor_of editor.old) }
 {
     commit_at(editor, change, change.from, change.to)
@@ -257,8 +290,13 @@ pub fn commit(editor: &mut Editor, change: &Change) -> Mem<Committed>
 /// the ends don't lie in the text in their order, where a piece is to stand in the place of a part, or where no group is to
 /// be undone: no call prepares such a change.
 pub fn commit_at(editor: &mut Editor, change: &Change, from: usize, to: usize) -> Mem<Committed>
-    ensures ok { IfOk result (λ c. record { editor = editor_of editor.new; committed = committed_of c } ≡ commit (editor_of editor.old) (record (change_of change.now) { from = from; to = to })) }
-    ensures refused { IfOk result (λ c. IsFailed (committed_of c) → editor_of editor.new ≡ editor_of editor.old) }
+    ensures ok { IfOk result (λ c. record {
+      editor = editor_of editor.new;
+      committed = committed_of c;
+    } ≡ commit (editor_of editor.old)
+        (record (change_of change.now) { from = from; to = to })) }
+    ensures refused { IfOk result (λ c. IsFailed (committed_of c) →
+        editor_of editor.new ≡ editor_of editor.old) }
     ensures err { OnErr result (editor_of editor.new ≡ editor_of editor.old) }
 {
     let id = change.buffer;

@@ -1,6 +1,7 @@
 //! The calls that insert strings ("Insertion" in the GNU Emacs Lisp Reference Manual; "Sticky Properties" there for what an
 //! insertion inherits).
-ghost use Rattle.std.specs.Prelude.{◌≡◌, ◌+◌, ◌<◌, ◌++◌, [], ◌∷◌, map, length, drop, IfOk, OnOk, if◌then◌else◌};
+ghost use Rattle.std.specs.Prelude.{◌≡◌, ◌+◌, ◌<◌, ◌++◌, [], ◌∷◌, map, length, drop, IfOk, OnOk};
+ghost use Rattle.std.specs.Prelude.{if◌then◌else◌};
 ghost use Rattle.text_model.specs.Properties.{put_all};
 ghost use Rattle.text_model.specs.Ordered.{IsProper};
 ghost use Rattle.editor_model.specs.Answers.{first_fault};
@@ -98,7 +99,9 @@ fn with_inherited(piece: Piece, set: &PropSet) -> Mem<Piece>
 
 /// The properties that an insertion at point inherits, or none.
 fn inherited_here(editor: &Editor, inherit: bool) -> Mem<PropSet>
-    ensures { IfOk result (λ set. set ≡ (if inherit then calls.inherited_at (here (editor_of editor.now)) (here (editor_of editor.now)).point else [])) }
+    ensures { IfOk result (λ set. set ≡ (if inherit then
+        calls.inherited_at (here (editor_of editor.now)) (here (editor_of editor.now)).point else
+        [])) }
 {
     if !inherit {
         return Ok(PropSet::empty(editor.allocator()));
@@ -115,7 +118,9 @@ fn inherited_here(editor: &Editor, inherit: bool) -> Mem<PropSet>
 
 /// The tests of an insertion of strings.
 fn must_fit(editor: &Editor, args: &Values) -> Result<(), Fault>
-    ensures { fault_in result ≡ first_fault (map must_be_string (map view (items_of args.now)) ++ must_have_room (editor_of editor.now) (editor_of editor.now).current (length (calls.joined (map view (items_of args.now)))) ∷ []) }
+    ensures { fault_in result ≡ first_fault (map must_be_string (map view (items_of args.now)) ++
+        must_have_room (editor_of editor.now) (editor_of editor.now).current
+        (length (calls.joined (map view (items_of args.now)))) ∷ []) }
 {
     match must_be_strings(args) {
         Ok(total) => must_have_room(editor, editor.current(), total),
@@ -126,7 +131,8 @@ fn must_fit(editor: &Editor, args: &Values) -> Result<(), Fault>
 /// Inserts strings at point of the current buffer. All markers and overlays there may advance, and the text may inherit
 /// properties of its neighbours.
 pub fn insert(editor: &Editor, all: bool, inherit: bool, args: &Values) -> Result<Prepared, Failure>
-    ensures { Prepares result (calls.insert (editor_of editor.now) all inherit (map view (items_of args.now))) }
+    ensures { Prepares result (calls.insert (editor_of editor.now) all inherit
+        (map view (items_of args.now))) }
 {
     must_fit(editor, args)?;
     let set = inherited_here(editor, inherit)?;

@@ -1,6 +1,7 @@
 //! The limits that calls keep.
 ghost use Rattle.std.specs.Prelude.{◌≡◌};
-ghost use Rattle.editor_model.specs.Arguments.{has_room, must_be_fewer, must_be_short, must_fit_a_string, must_have_room};
+ghost use Rattle.editor_model.specs.Arguments.{has_room, must_be_fewer, must_be_short};
+ghost use Rattle.editor_model.specs.Arguments.{must_fit_a_string, must_have_room};
 ghost use Rattle.ek_call.specs.Meaning.{view};
 ghost use Rattle.buffer_table.specs.Kept.{editor_of};
 ghost use Rattle.editor_prims.specs.Meaning.{fault_in};

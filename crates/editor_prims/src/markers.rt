@@ -1,5 +1,6 @@
 //! The calls on markers.
-ghost use Rattle.std.specs.Prelude.{◌≡◌, ◌-◌, ◌^◌, ◌<◌, true, length, IfOk, IfSome, OnOk, OnErr, option_map};
+ghost use Rattle.std.specs.Prelude.{◌≡◌, ◌-◌, ◌^◌, ◌<◌, true, length, IfOk, IfSome, OnOk, OnErr};
+ghost use Rattle.std.specs.Prelude.{option_map};
 ghost use Rattle.editor_model.specs.Editor.{here, is_live, with_marker, change_marker, set_marker_spot};
 ghost use Rattle.editor_model.specs.Arguments.{number, place};
 ghost use Rattle.editor_model.specs.MarkerCalls as calls;
@@ -48,7 +49,8 @@ pub fn marker_insertion_type(editor: &Editor, m: &Value) -> Result<Value, Failur
 
 /// Says whether a marker advances. One that was never made stays as it is.
 fn set_kind(editor: &mut Editor, k: u32, on: bool)
-    ensures { editor_of editor.new ≡ change_marker k (λ marker. record marker { advances = on }) (editor_of editor.old) }
+    ensures { editor_of editor.new ≡ change_marker k (λ marker. record marker { advances = on })
+        (editor_of editor.old) }
 {
     if k < editor.marks().markers.count() {
         editor.set_marker_kind(k, on);
@@ -60,7 +62,8 @@ pub fn set_marker_insertion_type(
     m: &Value,
     kind: &Value,
 ) -> Result<Value, Failure>
-    ensures { Applies result (editor_of editor.old) (editor_of editor.new) (calls.set_marker_insertion_type (editor_of editor.old) (view m.now) (view kind.now)) }
+    ensures { Applies result (editor_of editor.old) (editor_of editor.new)
+        (calls.set_marker_insertion_type (editor_of editor.old) (view m.now) (view kind.now)) }
 {
     let k = marker(m)?;
     set_kind(editor, k, flag(kind));
@@ -73,7 +76,10 @@ fn make(editor: &mut Editor, to: Option<(u32, usize)>, on: bool) -> Mem<u32>
     requires room { length (editor_of editor.old).marks.markers < 2 ^ 32 - 1 }
     requires place { IfSome to (λ p. IsPlace (editor_of editor.old) p.0 p.1) }
     ensures number { IfOk result (λ k. k ≡ length (editor_of editor.old).marks.markers) }
-    ensures ok { OnOk result (editor_of editor.new ≡ with_marker (record { spot = spot_of to; advances = on }) (editor_of editor.old)) }
+    ensures ok { OnOk result (editor_of editor.new ≡ with_marker (record {
+      spot = spot_of to;
+      advances = on;
+    }) (editor_of editor.old)) }
     ensures err { OnErr result (editor_of editor.new ≡ editor_of editor.old) }
 {
     let k = editor.make_marker()?;
@@ -85,7 +91,8 @@ fn make(editor: &mut Editor, to: Option<(u32, usize)>, on: bool) -> Mem<u32>
 /// Makes a marker at a place of a live buffer, or nowhere.
 fn new_marker(editor: &mut Editor, to: Option<(u32, usize)>, on: bool) -> Result<Value, Failure>
     requires { IfSome to (λ p. IsPlace (editor_of editor.old) p.0 p.1) }
-    ensures { Applies result (editor_of editor.old) (editor_of editor.new) (calls.new_marker (editor_of editor.old) (spot_of to) on) }
+    ensures { Applies result (editor_of editor.old) (editor_of editor.new)
+        (calls.new_marker (editor_of editor.old) (spot_of to) on) }
 {
     must_be_fewer(MOST_MARKERS, editor.marks().markers.count())?;
     let k = make(editor, to, on)?;
@@ -93,7 +100,8 @@ fn new_marker(editor: &mut Editor, to: Option<(u32, usize)>, on: bool) -> Result
 }
 
 pub fn make_marker(editor: &mut Editor) -> Result<Value, Failure>
-    ensures { Applies result (editor_of editor.old) (editor_of editor.new) (calls.make_marker (editor_of editor.old)) }
+    ensures { Applies result (editor_of editor.old) (editor_of editor.new)
+        (calls.make_marker (editor_of editor.old)) }
 {
     new_marker(editor, None, false)
 }
@@ -109,14 +117,16 @@ fn point(editor: &Editor) -> (u32, usize)
 }
 
 pub fn point_marker(editor: &mut Editor) -> Result<Value, Failure>
-    ensures { Applies result (editor_of editor.old) (editor_of editor.new) (calls.point_marker (editor_of editor.old)) }
+    ensures { Applies result (editor_of editor.old) (editor_of editor.new)
+        (calls.point_marker (editor_of editor.old)) }
 {
     let to = point(editor);
     new_marker(editor, Some(to), false)
 }
 
 pub fn copy_marker(editor: &mut Editor, x: &Value, kind: &Value) -> Result<Value, Failure>
-    ensures { Applies result (editor_of editor.old) (editor_of editor.new) (calls.copy_marker (editor_of editor.old) (view x.now) (view kind.now)) }
+    ensures { Applies result (editor_of editor.old) (editor_of editor.new)
+        (calls.copy_marker (editor_of editor.old) (view x.now) (view kind.now)) }
 {
     match x {
         Value::Nil => new_marker(editor, None, flag(kind)),
@@ -136,7 +146,8 @@ pub fn copy_marker(editor: &mut Editor, x: &Value, kind: &Value) -> Result<Value
 /// Where a marker of a live buffer is to go by a position: nowhere where this is nil, or a marker that points nowhere.
 fn target(editor: &Editor, id: u32, x: &Value) -> Option<(u32, usize)>
     requires { is_live (editor_of editor.now) id ≡ true }
-    ensures spot { spot_of result ≡ option_map (λ n. calls.spot_in (editor_of editor.now) id (place (editor_of editor.now) (view x.now))) (number (editor_of editor.now) (view x.now)) }
+    ensures spot { spot_of result ≡ option_map (λ n. calls.spot_in (editor_of editor.now) id
+        (place (editor_of editor.now) (view x.now))) (number (editor_of editor.now) (view x.now)) }
     ensures place { IfSome result (λ p. IsPlace (editor_of editor.now) p.0 p.1) }
 {
     match number(editor, x) {
@@ -156,7 +167,8 @@ pub fn put(editor: &mut Editor, k: u32, to: Option<(u32, usize)>)
 }
 
 pub fn set_marker(editor: &mut Editor, m: &Value, x: &Value, b: &Value) -> Result<Value, Failure>
-    ensures { Applies result (editor_of editor.old) (editor_of editor.new) (calls.set_marker (editor_of editor.old) (view m.now) (view x.now) (view b.now)) }
+    ensures { Applies result (editor_of editor.old) (editor_of editor.new)
+        (calls.set_marker (editor_of editor.old) (view m.now) (view x.now) (view b.now)) }
 {
     let k = marker(m)?;
     must_be_position_or_nil(x)?;

@@ -1,8 +1,11 @@
 //! The buffers that arguments give.
-ghost use Rattle.std.specs.Prelude.{◌≡◌, ◌+◌, ◌<◌, ◌≤◌, List, length, map, drop, true, Some, IfOk, IfSome};
+ghost use Rattle.std.specs.Prelude.{◌≡◌, ◌+◌, ◌<◌, ◌≤◌, List, length, map, drop, true, Some, IfOk};
+ghost use Rattle.std.specs.Prelude.{IfSome};
 ghost use Rattle.text_model.specs.Characters.{Ch as Character};
 ghost use Rattle.editor_model.specs.Editor.{Editor as Meant, find, find_from, same_name, live, is_live};
-ghost use Rattle.editor_model.specs.Arguments.{buffer_of, buffer_there, must_be_fewer, must_be_short, must_fit_a_string, must_have_room, string_of};
+ghost use Rattle.editor_model.specs.Arguments.{buffer_of, buffer_there, must_be_fewer};
+ghost use Rattle.editor_model.specs.Arguments.{must_be_short, must_fit_a_string, must_have_room};
+ghost use Rattle.editor_model.specs.Arguments.{string_of};
 ghost use Rattle.ek_call.specs.Meaning.{view};
 ghost use Rattle.text_model.specs.Properties.{same_ch};
 ghost use Rattle.ek_types.specs.Seen.{ch_of};

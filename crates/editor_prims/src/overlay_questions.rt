@@ -1,7 +1,10 @@
 //! Which overlays stand where ("Finding Overlays" in the GNU Emacs Lisp Reference Manual).
-ghost use Rattle.std.specs.Prelude.{◌≡◌, ◌≤◌, ◌+◌, nat_lt, map, option_map, filter, if◌then◌else◌, IfOk, OnOk, ◌++◌, ◌∷◌, []};
+ghost use Rattle.std.specs.Prelude.{◌≡◌, ◌≤◌, ◌+◌, nat_lt, map, option_map, filter, if◌then◌else◌};
+ghost use Rattle.std.specs.Prelude.{IfOk, OnOk, ◌++◌, ◌∷◌, []};
 ghost use Rattle.overlay_set.specs.Numbered.{numbers_of, span_of};
-ghost use Rattle.text_model.specs.OverlayQuestions.{overlays_where, span_passes, covers, lies_within, winner, ends_of_span, least, next_end, previous_end};
+ghost use Rattle.text_model.specs.OverlayQuestions.{overlays_where, span_passes, covers};
+ghost use Rattle.text_model.specs.OverlayQuestions.{lies_within, winner, ends_of_span, least};
+ghost use Rattle.text_model.specs.OverlayQuestions.{next_end, previous_end};
 ghost use Rattle.editor_model.specs.Values.{of_prop, TheOverlay, list};
 ghost use Rattle.editor_model.specs.Arguments.{position};
 ghost use Rattle.editor_model.specs.OverlayCalls as calls;
@@ -39,14 +42,18 @@ fn overlay_list(numbers: &Numbers) -> Mem<Value>
 
 /// The numbers of the overlays of a buffer that cover a place.
 fn covering_place(editor: &Editor, id: u32, place: usize) -> Mem<Numbers>
-    ensures { IfOk result (λ numbers. items_of numbers ≡ numbers_of (overlays_where id (covers (place + 1)) (editor_of editor.now).marks.overlays)) }
+    ensures { IfOk result (λ numbers. items_of numbers ≡
+        numbers_of (overlays_where id (covers (place + 1)) (editor_of editor.now).marks.overlays)) }
 {
     editor.marks().overlays.at(id, place)
 }
 
 /// The numbers of the overlays of the current buffer that cover a position.
 fn covering(editor: &Editor, p: &Value) -> Mem<Numbers>
-    ensures { IfOk result (λ numbers. items_of numbers ≡ numbers_of (overlays_where (editor_of editor.now).current (covers (position (editor_of editor.now) (view p.now))) (editor_of editor.now).marks.overlays)) }
+    ensures { IfOk result (λ numbers. items_of numbers ≡
+        numbers_of (overlays_where (editor_of editor.now).current
+        (covers (position (editor_of editor.now) (view p.now)))
+        (editor_of editor.now).marks.overlays)) }
 {
     if is_before_text(editor, p) {
         let none = Numbers::new(editor.allocator());
@@ -58,7 +65,10 @@ fn covering(editor: &Editor, p: &Value) -> Mem<Numbers>
 
 /// The overlays of the current buffer that cover a position.
 fn covering_list(editor: &Editor, p: &Value) -> Mem<Value>
-    ensures { IfOk result (λ v. view v ≡ calls.overlay_values (overlays_where (editor_of editor.now).current (covers (position (editor_of editor.now) (view p.now))) (editor_of editor.now).marks.overlays)) }
+    ensures { IfOk result (λ v. view v ≡ calls.overlay_values
+        (overlays_where (editor_of editor.now).current
+        (covers (position (editor_of editor.now) (view p.now)))
+        (editor_of editor.now).marks.overlays)) }
 {
     overlay_list(&covering(editor, p)?)
 }
@@ -73,14 +83,18 @@ pub fn overlays_at(editor: &Editor, p: &Value) -> Result<Value, Failure>
 
 /// The number of the overlay of a buffer that wins at a place, of those that have a property.
 fn winner(editor: &Editor, id: u32, place: usize, name: Sym) -> Option<u32>
-    ensures { result ≡ option_map (λ o. o.0) (winner id (place + 1) (number_of name) (editor_of editor.now).marks.overlays) }
+    ensures { result ≡ option_map (λ o. o.0) (winner id (place + 1) (number_of name)
+        (editor_of editor.now).marks.overlays) }
 {
     editor.marks().overlays.winner(id, place, name)
 }
 
 /// The value of a property at a place of the current buffer: that of the overlay that wins, or the text's.
 fn char_property(editor: &Editor, place: usize, name: Sym) -> Mem<Value>
-    ensures { IfOk result (λ v. view v ≡ of_prop (calls.char_property (winner (editor_of editor.now).current (place + 1) (number_of name) (editor_of editor.now).marks.overlays) (number_of name) (set_at (here (editor_of editor.now)) place))) }
+    ensures { IfOk result (λ v. view v ≡ of_prop
+        (calls.char_property (winner (editor_of editor.now).current (place + 1) (number_of name)
+        (editor_of editor.now).marks.overlays) (number_of name)
+        (set_at (here (editor_of editor.now)) place))) }
 {
     let id = editor.current();
     match winner(editor, id, place, name) {
@@ -90,7 +104,8 @@ fn char_property(editor: &Editor, place: usize, name: Sym) -> Mem<Value>
 }
 
 pub fn get_char_property(editor: &Editor, p: &Value, name: &Value) -> Result<Value, Failure>
-    ensures { Answers result (calls.get_char_property (editor_of editor.now) (view p.now) (view name.now)) }
+    ensures { Answers result (calls.get_char_property (editor_of editor.now) (view p.now)
+        (view name.now)) }
 {
     must_be_position(p)?;
     let name = symbol(name)?;
@@ -136,7 +151,9 @@ fn push_if(numbers: &mut Numbers, k: u32, on: bool) -> Mem<()>
 
 /// The overlays of a buffer that stand in the part from what lies before its text to a position.
 fn standing_in_front(editor: &Editor, id: u32, last: u128, end: usize) -> Mem<Numbers>
-    ensures { IfOk result (λ numbers. items_of numbers ≡ numbers_of (overlays_where id (lies_within 0 last (end + 1)) (editor_of editor.now).marks.overlays)) }
+    ensures { IfOk result (λ numbers. items_of numbers ≡
+        numbers_of (overlays_where id (lies_within 0 last (end + 1))
+        (editor_of editor.now).marks.overlays)) }
 {
     let mut numbers = Numbers::new(editor.allocator());
     for k in 0..overlay_count(editor) {
@@ -152,14 +169,20 @@ fn standing_in_front(editor: &Editor, id: u32, last: u128, end: usize) -> Mem<Nu
 /// The numbers of the overlays of a buffer that stand between two places.
 fn standing_within(editor: &Editor, id: u32, from: usize, to: usize, end: usize) -> Mem<Numbers>
     requires { from ≤ to }
-    ensures { IfOk result (λ numbers. items_of numbers ≡ numbers_of (overlays_where id (lies_within (from + 1) (to + 1) (end + 1)) (editor_of editor.now).marks.overlays)) }
+    ensures { IfOk result (λ numbers. items_of numbers ≡
+        numbers_of (overlays_where id (lies_within (from + 1) (to + 1) (end + 1))
+        (editor_of editor.now).marks.overlays)) }
 {
     editor.marks().overlays.within(id, from, to, end)
 }
 
 /// The numbers of the overlays of the current buffer that stand between two positions.
 fn standing(editor: &Editor, a: &Value, b: &Value) -> Mem<Numbers>
-    ensures { IfOk result (λ numbers. items_of numbers ≡ numbers_of (overlays_where (editor_of editor.now).current (lies_within (calls.first_position (editor_of editor.now) (view a.now) (view b.now)) (calls.last_position (editor_of editor.now) (view a.now) (view b.now)) (calls.end_position (editor_of editor.now))) (editor_of editor.now).marks.overlays)) }
+    ensures { IfOk result (λ numbers. items_of numbers ≡
+        numbers_of (overlays_where (editor_of editor.now).current
+        (lies_within (calls.first_position (editor_of editor.now) (view a.now) (view b.now))
+        (calls.last_position (editor_of editor.now) (view a.now) (view b.now))
+        (calls.end_position (editor_of editor.now))) (editor_of editor.now).marks.overlays)) }
 {
     let id = editor.current();
     let end = editor.bounds(id).end;
@@ -174,7 +197,11 @@ fn standing(editor: &Editor, a: &Value, b: &Value) -> Mem<Numbers>
 
 /// The overlays of the current buffer that stand between two positions.
 fn standing_list(editor: &Editor, a: &Value, b: &Value) -> Mem<Value>
-    ensures { IfOk result (λ v. view v ≡ calls.overlay_values (overlays_where (editor_of editor.now).current (lies_within (calls.first_position (editor_of editor.now) (view a.now) (view b.now)) (calls.last_position (editor_of editor.now) (view a.now) (view b.now)) (calls.end_position (editor_of editor.now))) (editor_of editor.now).marks.overlays)) }
+    ensures { IfOk result (λ v. view v ≡ calls.overlay_values
+        (overlays_where (editor_of editor.now).current
+        (lies_within (calls.first_position (editor_of editor.now) (view a.now) (view b.now))
+        (calls.last_position (editor_of editor.now) (view a.now) (view b.now))
+        (calls.end_position (editor_of editor.now))) (editor_of editor.now).marks.overlays)) }
 {
     overlay_list(&standing(editor, a, b)?)
 }
@@ -191,7 +218,8 @@ pub fn overlays_in(editor: &Editor, a: &Value, b: &Value) -> Result<Value, Failu
 
 /// The nearest of the places of an overlay of a buffer and another place.
 fn nearest(span: Option<(u32, usize, usize)>, id: u32, best: usize) -> usize
-    ensures { result + 1 ≡ least (best + 1) (filter (λ x. nat_lt 0 x) (ends_of_span id (span_of span))) }
+    ensures { result + 1 ≡ least (best + 1) (filter (λ x. nat_lt 0 x)
+        (ends_of_span id (span_of span))) }
 {
     match span {
         Some((buffer, from, to)) if buffer == id => best.min(from).min(to),
@@ -213,7 +241,9 @@ fn first_end(editor: &Editor, id: u32, end: usize) -> usize
 /// The next place where an overlay of the current buffer begins or ends behind a position, or the end of the accessible
 /// portion.
 fn next_place(editor: &Editor, p: &Value) -> usize
-    ensures { result + 1 ≡ next_end (editor_of editor.now).current (position (editor_of editor.now) (view p.now)) (calls.end_position (editor_of editor.now)) (editor_of editor.now).marks.overlays }
+    ensures { result + 1 ≡ next_end (editor_of editor.now).current
+        (position (editor_of editor.now) (view p.now)) (calls.end_position (editor_of editor.now))
+        (editor_of editor.now).marks.overlays }
 {
     let id = editor.current();
     let end = editor.bounds(id).end;
@@ -237,7 +267,9 @@ pub fn next_overlay_change(editor: &Editor, p: &Value) -> Result<Value, Failure>
 /// The last place where an overlay of the current buffer begins or ends before a position, or the beginning of the
 /// accessible portion.
 fn previous_place(editor: &Editor, p: &Value) -> usize
-    ensures { result + 1 ≡ previous_end (editor_of editor.now).current (position (editor_of editor.now) (view p.now)) (calls.begin_position (editor_of editor.now)) (editor_of editor.now).marks.overlays }
+    ensures { result + 1 ≡ previous_end (editor_of editor.now).current
+        (position (editor_of editor.now) (view p.now)) (calls.begin_position (editor_of editor.now))
+        (editor_of editor.now).marks.overlays }
 {
     let id = editor.current();
     let start = editor.bounds(id).start;

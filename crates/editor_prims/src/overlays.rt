@@ -1,5 +1,6 @@
 //! The calls on overlays ("Managing Overlays" and "Overlay Properties" in the GNU Emacs Lisp Reference Manual).
-ghost use Rattle.std.specs.Prelude.{◌≡◌, ◌≤◌, length, true, None, Some, IfOk, IfSome, OnOk, OnErr, option_map, unwrap_or, []};
+ghost use Rattle.std.specs.Prelude.{◌≡◌, ◌≤◌, length, true, None, Some, IfOk, IfSome, OnOk, OnErr};
+ghost use Rattle.std.specs.Prelude.{option_map, unwrap_or, []};
 ghost use Rattle.text_model.specs.Properties.{get, put as put_property};
 ghost use Rattle.editor_model.specs.Values.{of_set};
 ghost use Rattle.editor_model.specs.Editor.{overlay_of, change_overlay, is_live};
@@ -78,7 +79,8 @@ pub fn overlay_buffer(editor: &Editor, o: &Value) -> Result<Value, Failure>
 
 /// Takes an overlay out of its buffer. One that was never made stays as it is.
 fn remove(editor: &mut Editor, k: u32)
-    ensures { editor_of editor.new ≡ change_overlay k (λ old. record old { span = None }) (editor_of editor.old) }
+    ensures { editor_of editor.new ≡ change_overlay k (λ old. record old { span = None })
+        (editor_of editor.old) }
 {
     if k < editor.marks().overlays.count() {
         editor.remove_overlay(k);
@@ -86,7 +88,8 @@ fn remove(editor: &mut Editor, k: u32)
 }
 
 pub fn delete_overlay(editor: &mut Editor, o: &Value) -> Result<Value, Failure>
-    ensures { Applies result (editor_of editor.old) (editor_of editor.new) (calls.delete_overlay (editor_of editor.old) (view o.now)) }
+    ensures { Applies result (editor_of editor.old) (editor_of editor.new)
+        (calls.delete_overlay (editor_of editor.old) (view o.now)) }
 {
     let k = overlay(o)?;
     remove(editor, k);
@@ -95,7 +98,8 @@ pub fn delete_overlay(editor: &mut Editor, o: &Value) -> Result<Value, Failure>
 
 /// The value of a property of an overlay, where it has one.
 pub fn overlay_value(editor: &Editor, k: u32, name: Sym) -> Option<&PropVal>
-    ensures { option_map (λ v. prop_of v.now) result ≡ get (overlay_of (editor_of editor.now) k).props (number_of name) }
+    ensures { option_map (λ v. prop_of v.now) result ≡
+        get (overlay_of (editor_of editor.now) k).props (number_of name) }
 {
     let overlays = &editor.marks().overlays;
     if k < overlays.count() {
@@ -107,7 +111,8 @@ pub fn overlay_value(editor: &Editor, k: u32, name: Sym) -> Option<&PropVal>
 
 /// The properties of an overlay that was made.
 fn overlay_props(editor: &Editor, k: u32) -> Option<&PropSet>
-    ensures { unwrap_or (option_map (λ s. s.now) result) [] ≡ (overlay_of (editor_of editor.now) k).props }
+    ensures { unwrap_or (option_map (λ s. s.now) result) [] ≡
+        (overlay_of (editor_of editor.now) k).props }
 {
     let overlays = &editor.marks().overlays;
     if k < overlays.count() {
@@ -150,7 +155,9 @@ pub fn make_overlay(
     front: &Value,
     rear: &Value,
 ) -> Result<Value, Failure>
-    ensures { Applies result (editor_of editor.old) (editor_of editor.new) (calls.make_overlay (editor_of editor.old) (view a.now) (view b.now) (view buffer.now) (view front.now) (view rear.now)) }
+    ensures { Applies result (editor_of editor.old) (editor_of editor.new)
+        (calls.make_overlay (editor_of editor.old) (view a.now) (view b.now) (view buffer.now)
+        (view front.now) (view rear.now)) }
 {
     must_be_position(a)?;
     must_be_position(b)?;
@@ -188,7 +195,12 @@ fn evaporate(editor: &mut Editor, k: u32)
 /// Gives an overlay a property, or takes it away, and takes the overlay out where it is empty and evaporates then. A
 /// refusal leaves the editor as it was.
 fn put(editor: &mut Editor, k: u32, name: Sym, v: Option<&PropVal>) -> Mem<()>
-    ensures ok { OnOk result (editor_of editor.new ≡ change_overlay k (λ old. calls.kept (record old { props = put_property old.props (number_of name) (given_of (option_map (λ p. prop_of p.now) v.entry)) })) (editor_of editor.old)) }
+    ensures ok { OnOk result (editor_of editor.new ≡
+        change_overlay k (λ old. calls.kept
+        (record old {
+          props = put_property old.props (number_of name)
+              (given_of (option_map (λ p. prop_of p.now) v.entry));
+        })) (editor_of editor.old)) }
     ensures err { OnErr result (editor_of editor.new ≡ editor_of editor.old) }
 {
     let count = overlay_count(editor);
@@ -206,7 +218,8 @@ pub fn overlay_put(
     name: &Value,
     v: &Value,
 ) -> Result<Value, Failure>
-    ensures { Applies result (editor_of editor.old) (editor_of editor.new) (calls.overlay_put (editor_of editor.old) (view o.now) (view name.now) (view v.now)) }
+    ensures { Applies result (editor_of editor.old) (editor_of editor.new)
+        (calls.overlay_put (editor_of editor.old) (view o.now) (view name.now) (view v.now)) }
 {
     let k = overlay(o)?;
     let name = symbol(name)?;
@@ -222,7 +235,14 @@ pub fn overlay_put(
 fn shift(editor: &mut Editor, k: u32, id: u32, from: usize, to: usize) -> Mem<()>
     requires order { from ≤ to }
     requires place { IsPlace (editor_of editor.old) id to }
-    ensures ok { OnOk result (editor_of editor.new ≡ change_overlay k (λ old. calls.kept (record old { span = Some (record { buffer = id; start = from; end = to }) })) (editor_of editor.old)) }
+    ensures ok { OnOk result (editor_of editor.new ≡
+        change_overlay k (λ old. calls.kept (record old {
+          span = Some (record {
+            buffer = id;
+            start = from;
+            end = to;
+          });
+        })) (editor_of editor.old)) }
     ensures err { OnErr result (editor_of editor.new ≡ editor_of editor.old) }
 {
     let count = overlay_count(editor);
@@ -238,7 +258,8 @@ fn shift(editor: &mut Editor, k: u32, id: u32, from: usize, to: usize) -> Mem<()
 fn home(editor: &Editor, k: u32, buffer: &Value, given: u32) -> u32
     requires given { given ≡ buffer_of (editor_of editor.now) (view buffer.now) }
     requires live { is_live (editor_of editor.now) given ≡ true }
-    ensures exact { result ≡ calls.overlay_home (editor_of editor.now) (overlay_of (editor_of editor.now) k).span (view buffer.now) }
+    ensures exact { result ≡ calls.overlay_home (editor_of editor.now)
+        (overlay_of (editor_of editor.now) k).span (view buffer.now) }
     ensures live { is_live (editor_of editor.now) result ≡ true }
 {
     match span(editor, k) {
@@ -254,7 +275,9 @@ pub fn move_overlay(
     b: &Value,
     buffer: &Value,
 ) -> Result<Value, Failure>
-    ensures { Applies result (editor_of editor.old) (editor_of editor.new) (calls.move_overlay (editor_of editor.old) (view o.now) (view a.now) (view b.now) (view buffer.now)) }
+    ensures { Applies result (editor_of editor.old) (editor_of editor.new)
+        (calls.move_overlay (editor_of editor.old) (view o.now) (view a.now) (view b.now)
+        (view buffer.now)) }
 {
     let k = overlay(o)?;
     must_be_position(a)?;

@@ -2,7 +2,10 @@
 ghost use Rattle.std.specs.Prelude.{◌≡◌, ◌==◌, ◌≤◌, length, IfOk, IfSome};
 ghost use Rattle.text_model.specs.Places.{clip};
 ghost use Rattle.editor_model.specs.Editor.{marker_of, buffer_at};
-ghost use Rattle.editor_model.specs.Arguments.{number, position, place, from_of, to_of, points_somewhere, lies_in, must_point_somewhere, must_be_nil_or_somewhere, must_be_accessible, must_be_nil_or_accessible, must_lie_in};
+ghost use Rattle.editor_model.specs.Arguments.{number, position, place, from_of, to_of};
+ghost use Rattle.editor_model.specs.Arguments.{points_somewhere, lies_in, must_point_somewhere};
+ghost use Rattle.editor_model.specs.Arguments.{must_be_nil_or_somewhere, must_be_accessible};
+ghost use Rattle.editor_model.specs.Arguments.{must_be_nil_or_accessible, must_lie_in};
 ghost use Rattle.ek_call.specs.Meaning.{view};
 ghost use Rattle.marker_set.specs.Numbered.{spot_of};
 ghost use Rattle.narrow_region.specs.Positions.{place_of};
@@ -155,14 +158,16 @@ pub fn must_lie_in(low: usize, high: usize, editor: &Editor, v: &Value) -> Resul
 
 /// A position in the accessible portion of a buffer.
 pub fn must_be_accessible(id: u32, editor: &Editor, v: &Value) -> Result<(), Fault>
-    ensures { fault_in result ≡ must_be_accessible (buffer_at (editor_of editor.now) id) (editor_of editor.now) (view v.now) }
+    ensures { fault_in result ≡ must_be_accessible (buffer_at (editor_of editor.now) id)
+        (editor_of editor.now) (view v.now) }
 {
     let portion = editor.bounds(id);
     must_lie_in(portion.start, portion.end, editor, v)
 }
 
 pub fn must_be_nil_or_accessible(id: u32, editor: &Editor, v: &Value) -> Result<(), Fault>
-    ensures { fault_in result ≡ must_be_nil_or_accessible (buffer_at (editor_of editor.now) id) (editor_of editor.now) (view v.now) }
+    ensures { fault_in result ≡ must_be_nil_or_accessible (buffer_at (editor_of editor.now) id)
+        (editor_of editor.now) (view v.now) }
 {
     let portion = editor.bounds(id);
     must(

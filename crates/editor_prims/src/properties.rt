@@ -1,11 +1,13 @@
 //! The questions on text properties ("Examining Properties" and "Property Search" in the GNU Emacs Lisp Reference Manual).
 ghost use Rattle.std.specs.Prelude.{◌≡◌, ◌≤◌, length, IfOk, map, option_map, unwrap_or, [], None};
 ghost use Rattle.text_model.specs.Properties.{get, part};
-ghost use Rattle.text_model.specs.PropertyQuestions.{next_change, previous_change, first_where, has_value};
+ghost use Rattle.text_model.specs.PropertyQuestions.{next_change, previous_change, first_where};
+ghost use Rattle.text_model.specs.PropertyQuestions.{has_value};
 ghost use Rattle.editor_model.specs.Values.{of_prop, of_set, Int as integer};
 ghost use Rattle.editor_prims.specs.PropertyArguments.{wanted, changes_in, found_before, found_behind};
 ghost use Rattle.editor_model.specs.Answers.{first_fault};
-ghost use Rattle.editor_model.specs.Arguments.{number, place, symbol_of, value_of, from_of, must_be_accessible};
+ghost use Rattle.editor_model.specs.Arguments.{number, place, symbol_of, value_of, from_of};
+ghost use Rattle.editor_model.specs.Arguments.{must_be_accessible};
 ghost use Rattle.editor_model.specs.TextCalls.{region_text};
 ghost use Rattle.editor_model.specs.Editor.{here, buffer_at};
 ghost use Rattle.editor_model.specs.PropertyCalls as calls;
@@ -25,7 +27,8 @@ use ek_types::{Mem, NoMemory, PropSet, PropVal, Sym, same_option};
 
 /// The property set of the character of the accessible portion at a place, where there is one.
 pub fn set_at(editor: &Editor, id: u32, place: usize) -> Option<&PropSet>
-    ensures { unwrap_or (option_map (λ s. s.now) result) [] ≡ calls.set_at (buffer_at (editor_of editor.now) id) place }
+    ensures { unwrap_or (option_map (λ s. s.now) result) [] ≡
+        calls.set_at (buffer_at (editor_of editor.now) id) place }
 {
     let portion = editor.bounds(id);
     if place < portion.start || portion.end <= place {
@@ -36,7 +39,8 @@ pub fn set_at(editor: &Editor, id: u32, place: usize) -> Option<&PropSet>
 
 /// The value of a property of the character of the accessible portion at a place; nil where there is none.
 pub fn text_property(editor: &Editor, place: usize, name: Sym) -> Mem<Value>
-    ensures { IfOk result (λ v. view v ≡ of_prop (get (calls.set_at (here (editor_of editor.now)) place) (number_of name))) }
+    ensures { IfOk result (λ v. view v ≡ of_prop
+        (get (calls.set_at (here (editor_of editor.now)) place) (number_of name))) }
 {
     match set_at(editor, editor.current(), place) {
         Some(set) => of_prop(editor.allocator(), set.get(name)),
@@ -55,7 +59,8 @@ fn text_properties(editor: &Editor, place: usize) -> Mem<Value>
 }
 
 pub fn get_text_property(editor: &Editor, p: &Value, name: &Value) -> Result<Value, Failure>
-    ensures { Answers result (calls.get_text_property (editor_of editor.now) (view p.now) (view name.now)) }
+    ensures { Answers result (calls.get_text_property (editor_of editor.now) (view p.now)
+        (view name.now)) }
 {
     must_be_position(p)?;
     let name = symbol(name)?;
@@ -95,7 +100,8 @@ fn found_behind(start: usize, found: Option<usize>) -> Option<usize>
 /// the values of a property change.
 fn next_in(editor: &Editor, place: usize, name: Option<Sym>) -> Option<usize>
     requires { place ≤ length (here (editor_of editor.now)).text }
-    ensures { result ≡ next_change place (here (editor_of editor.now)).end (changes_in (option_map number_of name) (here (editor_of editor.now)).text) }
+    ensures { result ≡ next_change place (here (editor_of editor.now)).end
+        (changes_in (option_map number_of name) (here (editor_of editor.now)).text) }
 {
     let id = editor.current();
     found_before(editor.bounds(id).end, editor.next_change(id, place, name))
@@ -105,7 +111,8 @@ fn next_in(editor: &Editor, place: usize, name: Option<Sym>) -> Option<usize>
 /// sets or the values of a property change.
 fn previous_in(editor: &Editor, place: usize, name: Option<Sym>) -> Option<usize>
     requires { place ≤ length (here (editor_of editor.now)).text }
-    ensures { result ≡ previous_change (here (editor_of editor.now)).begin place (changes_in (option_map number_of name) (here (editor_of editor.now)).text) }
+    ensures { result ≡ previous_change (here (editor_of editor.now)).begin place
+        (changes_in (option_map number_of name) (here (editor_of editor.now)).text) }
 {
     let id = editor.current();
     found_behind(editor.bounds(id).start, editor.prev_change(id, place, name))
@@ -159,8 +166,11 @@ fn down_to(found: Option<usize>, limit: Option<i128>) -> Mem<Value>
 
 /// Where the sets change, or the values of one property, behind a position.
 fn next_after(editor: &Editor, p: &Value, name: Option<Sym>, limit: &Value) -> Mem<Value>
-    requires { must_be_accessible (here (editor_of editor.now)) (editor_of editor.now) (view p.now) ≡ None }
-    ensures { IfOk result (λ v. view v ≡ calls.next_after (editor_of editor.now) (view p.now) (view limit.now) (changes_in (option_map number_of name) (here (editor_of editor.now)).text)) }
+    requires { must_be_accessible (here (editor_of editor.now)) (editor_of editor.now)
+        (view p.now) ≡ None }
+    ensures { IfOk result (λ v. view v ≡ calls.next_after (editor_of editor.now) (view p.now)
+        (view limit.now) (changes_in (option_map number_of name)
+        (here (editor_of editor.now)).text)) }
 {
     // Read for what it ensures: the accessible portion lies in the text.
     let _portion = editor.bounds(editor.current());
@@ -172,8 +182,11 @@ fn next_after(editor: &Editor, p: &Value, name: Option<Sym>, limit: &Value) -> M
 
 /// Where the sets change, or the values of one property, in front of a position.
 fn previous_before(editor: &Editor, p: &Value, name: Option<Sym>, limit: &Value) -> Mem<Value>
-    requires { must_be_accessible (here (editor_of editor.now)) (editor_of editor.now) (view p.now) ≡ None }
-    ensures { IfOk result (λ v. view v ≡ calls.previous_before (editor_of editor.now) (view p.now) (view limit.now) (changes_in (option_map number_of name) (here (editor_of editor.now)).text)) }
+    requires { must_be_accessible (here (editor_of editor.now)) (editor_of editor.now)
+        (view p.now) ≡ None }
+    ensures { IfOk result (λ v. view v ≡ calls.previous_before (editor_of editor.now) (view p.now)
+        (view limit.now) (changes_in (option_map number_of name)
+        (here (editor_of editor.now)).text)) }
 {
     // Read for what it ensures: the accessible portion lies in the text.
     let _portion = editor.bounds(editor.current());
@@ -184,7 +197,8 @@ fn previous_before(editor: &Editor, p: &Value, name: Option<Sym>, limit: &Value)
 }
 
 pub fn next_property_change(editor: &Editor, p: &Value, limit: &Value) -> Result<Value, Failure>
-    ensures { Answers result (calls.next_property_change (editor_of editor.now) (view p.now) (view limit.now)) }
+    ensures { Answers result (calls.next_property_change (editor_of editor.now) (view p.now)
+        (view limit.now)) }
 {
     must_be_position(p)?;
     must_be_position_or_nil(limit)?;
@@ -199,7 +213,8 @@ pub fn next_single_property_change(
     name: &Value,
     limit: &Value,
 ) -> Result<Value, Failure>
-    ensures { Answers result (calls.next_single_property_change (editor_of editor.now) (view p.now) (view name.now) (view limit.now)) }
+    ensures { Answers result (calls.next_single_property_change (editor_of editor.now) (view p.now)
+        (view name.now) (view limit.now)) }
 {
     must_be_position(p)?;
     let name = symbol(name)?;
@@ -210,7 +225,8 @@ pub fn next_single_property_change(
 }
 
 pub fn previous_property_change(editor: &Editor, p: &Value, limit: &Value) -> Result<Value, Failure>
-    ensures { Answers result (calls.previous_property_change (editor_of editor.now) (view p.now) (view limit.now)) }
+    ensures { Answers result (calls.previous_property_change (editor_of editor.now) (view p.now)
+        (view limit.now)) }
 {
     must_be_position(p)?;
     must_be_position_or_nil(limit)?;
@@ -225,7 +241,8 @@ pub fn previous_single_property_change(
     name: &Value,
     limit: &Value,
 ) -> Result<Value, Failure>
-    ensures { Answers result (calls.previous_single_property_change (editor_of editor.now) (view p.now) (view name.now) (view limit.now)) }
+    ensures { Answers result (calls.previous_single_property_change (editor_of editor.now)
+        (view p.now) (view name.now) (view limit.now)) }
 {
     must_be_position(p)?;
     let name = symbol(name)?;
@@ -246,7 +263,9 @@ fn first_place(
 ) -> Option<usize>
     requires order { from ≤ to }
     requires range { to ≤ length (here (editor_of editor.now)).text }
-    ensures { result ≡ first_where (λ c. wanted has (has_value (number_of name) (option_map (λ v. prop_of v.now) value.entry) c)) from (part from to (here (editor_of editor.now)).text) }
+    ensures { result ≡ first_where (λ c. wanted has
+        (has_value (number_of name) (option_map (λ v. prop_of v.now) value.entry) c)) from
+        (part from to (here (editor_of editor.now)).text) }
 {
     let id = editor.current();
     for i in from..to {
@@ -282,10 +301,14 @@ pub fn must_be_value_in_region(
     name: &Value,
     v: &Value,
 ) -> Result<Sym, Fault>
-    ensures test { fault_in result ≡ first_fault (calls.property_tests (editor_of editor.now) (view a.now) (view b.now) (view name.now) (view v.now)) }
+    ensures test { fault_in result ≡ first_fault
+        (calls.property_tests (editor_of editor.now) (view a.now) (view b.now) (view name.now)
+        (view v.now)) }
     ensures content { IfOk result (λ s. number_of s ≡ symbol_of (view name.now)) }
-    ensures from { IfOk result (λ _. must_be_accessible (here (editor_of editor.now)) (editor_of editor.now) (view a.now) ≡ None) }
-    ensures to { IfOk result (λ _. must_be_accessible (here (editor_of editor.now)) (editor_of editor.now) (view b.now) ≡ None) }
+    ensures from { IfOk result (λ _. must_be_accessible (here (editor_of editor.now))
+        (editor_of editor.now) (view a.now) ≡ None) }
+    ensures to { IfOk result (λ _. must_be_accessible (here (editor_of editor.now))
+        (editor_of editor.now) (view b.now) ≡ None) }
 {
     must_be_position(a)?;
     must_be_position(b)?;
@@ -305,9 +328,14 @@ fn first_in_region(
     v: &Value,
     has: bool,
 ) -> Mem<Value>
-    requires from { must_be_accessible (here (editor_of editor.now)) (editor_of editor.now) (view a.now) ≡ None }
-    requires to { must_be_accessible (here (editor_of editor.now)) (editor_of editor.now) (view b.now) ≡ None }
-    ensures { IfOk result (λ w. view w ≡ calls.place_value (first_where (λ c. wanted has (has_value (number_of name) (value_of (view v.now)) c)) (from_of (editor_of editor.now) (view a.now) (view b.now)) (region_text (editor_of editor.now) (view a.now) (view b.now)))) }
+    requires from { must_be_accessible (here (editor_of editor.now)) (editor_of editor.now)
+        (view a.now) ≡ None }
+    requires to { must_be_accessible (here (editor_of editor.now)) (editor_of editor.now)
+        (view b.now) ≡ None }
+    ensures { IfOk result (λ w. view w ≡ calls.place_value
+        (first_where (λ c. wanted has (has_value (number_of name) (value_of (view v.now)) c))
+        (from_of (editor_of editor.now) (view a.now) (view b.now))
+        (region_text (editor_of editor.now) (view a.now) (view b.now)))) }
 {
     // Read for what it ensures: the accessible portion lies in the text.
     let _portion = editor.bounds(editor.current());
@@ -324,7 +352,8 @@ pub fn text_property_any(
     name: &Value,
     v: &Value,
 ) -> Result<Value, Failure>
-    ensures { Answers result (calls.text_property_any (editor_of editor.now) (view a.now) (view b.now) (view name.now) (view v.now)) }
+    ensures { Answers result (calls.text_property_any (editor_of editor.now) (view a.now)
+        (view b.now) (view name.now) (view v.now)) }
 {
     let name = must_be_value_in_region(editor, a, b, name, v)?;
     Ok(first_in_region(editor, a, b, name, v, true)?)
@@ -337,7 +366,8 @@ pub fn text_property_not_all(
     name: &Value,
     v: &Value,
 ) -> Result<Value, Failure>
-    ensures { Answers result (calls.text_property_not_all (editor_of editor.now) (view a.now) (view b.now) (view name.now) (view v.now)) }
+    ensures { Answers result (calls.text_property_not_all (editor_of editor.now) (view a.now)
+        (view b.now) (view name.now) (view v.now)) }
 {
     let name = must_be_value_in_region(editor, a, b, name, v)?;
     Ok(first_in_region(editor, a, b, name, v, false)?)

@@ -29,9 +29,13 @@ use std::alloc::Global;
 
 /// The change of the properties of a region; where it would change nothing, there is none.
 fn change(editor: &Editor, a: &Value, b: &Value, edit: PropEdit, changed: Value) -> Mem<Prepared>
-    requires from { must_be_accessible (here (editor_of editor.now)) (editor_of editor.now) (view a.now) ≡ None }
-    requires to { must_be_accessible (here (editor_of editor.now)) (editor_of editor.now) (view b.now) ≡ None }
-    ensures { IfOk result (λ p. prepared_of p ≡ calls.property_change (editor_of editor.now) (view a.now) (view b.now) (edit_of edit) (view changed)) }
+    requires from { must_be_accessible (here (editor_of editor.now)) (editor_of editor.now)
+        (view a.now) ≡ None }
+    requires to { must_be_accessible (here (editor_of editor.now)) (editor_of editor.now)
+        (view b.now) ≡ None }
+    ensures { IfOk result (λ p. prepared_of p ≡
+        calls.property_change (editor_of editor.now) (view a.now) (view b.now) (edit_of edit)
+        (view changed)) }
 {
     let buffer = editor.current();
     // Read for what it ensures: the accessible portion lies in the text.
@@ -52,7 +56,8 @@ fn change(editor: &Editor, a: &Value, b: &Value, edit: PropEdit, changed: Value)
 
 /// The change that gives a property a value, or takes it away.
 fn put_edit(alloc: Global, name: Sym, value: Option<PropVal>) -> Mem<PropEdit>
-    ensures { IfOk result (λ edit. edit_of edit ≡ calls.put_edit (number_of name) (given_of (option_map prop_of value))) }
+    ensures { IfOk result (λ edit. edit_of edit ≡
+        calls.put_edit (number_of name) (given_of (option_map prop_of value))) }
 {
     let mut gone = SymList::new(alloc);
     match value {
@@ -74,7 +79,8 @@ pub fn put_text_property(
     name: &Value,
     v: &Value,
 ) -> Result<Prepared, Failure>
-    ensures { Prepares result (calls.put_text_property (editor_of editor.now) (view a.now) (view b.now) (view name.now) (view v.now)) }
+    ensures { Prepares result (calls.put_text_property (editor_of editor.now) (view a.now)
+        (view b.now) (view name.now) (view v.now)) }
 {
     let name = must_be_value_in_region(editor, a, b, name, v)?;
     let edit = put_edit(editor.allocator(), name, property_value(v)?)?;
@@ -83,7 +89,9 @@ pub fn put_text_property(
 
 /// The change that gives the properties of a list their values.
 fn adding(alloc: Global, list: &Pairs) -> Mem<PropEdit>
-    ensures { IfOk result (λ edit. edit_of edit ≡ Add (calls.set_of_pairs (backwards (items_of list.now))) (calls.nil_names (backwards (items_of list.now)))) }
+    ensures { IfOk result (λ edit. edit_of edit ≡
+        Add (calls.set_of_pairs (backwards (items_of list.now)))
+        (calls.nil_names (backwards (items_of list.now)))) }
 {
     let set = set_of_pairs(alloc, list)?;
     let gone = nil_names(alloc, list)?;
@@ -92,14 +100,16 @@ fn adding(alloc: Global, list: &Pairs) -> Mem<PropEdit>
 
 /// The change that takes the properties of a list away.
 fn removing(alloc: Global, list: &Pairs) -> Mem<PropEdit>
-    ensures { IfOk result (λ edit. edit_of edit ≡ Remove (calls.names_of_pairs (backwards (items_of list.now)))) }
+    ensures { IfOk result (λ edit. edit_of edit ≡
+        Remove (calls.names_of_pairs (backwards (items_of list.now)))) }
 {
     Ok(PropEdit::Remove(names_of_pairs(alloc, list)?))
 }
 
 /// The change that puts the properties of a list in the place of all others.
 fn replacing(alloc: Global, list: &Pairs) -> Mem<PropEdit>
-    ensures { IfOk result (λ edit. edit_of edit ≡ Replace (calls.set_of_pairs (backwards (items_of list.now)))) }
+    ensures { IfOk result (λ edit. edit_of edit ≡
+        Replace (calls.set_of_pairs (backwards (items_of list.now)))) }
 {
     Ok(PropEdit::Replace(set_of_pairs(alloc, list)?))
 }
@@ -110,7 +120,8 @@ pub fn add_text_properties(
     b: &Value,
     properties: &Value,
 ) -> Result<Prepared, Failure>
-    ensures { Prepares result (calls.add_text_properties (editor_of editor.now) (view a.now) (view b.now) (view properties.now)) }
+    ensures { Prepares result (calls.add_text_properties (editor_of editor.now) (view a.now)
+        (view b.now) (view properties.now)) }
 {
     must_be_position(a)?;
     must_be_position(b)?;
@@ -127,7 +138,8 @@ pub fn remove_text_properties(
     b: &Value,
     properties: &Value,
 ) -> Result<Prepared, Failure>
-    ensures { Prepares result (calls.remove_text_properties (editor_of editor.now) (view a.now) (view b.now) (view properties.now)) }
+    ensures { Prepares result (calls.remove_text_properties (editor_of editor.now) (view a.now)
+        (view b.now) (view properties.now)) }
 {
     must_be_position(a)?;
     must_be_position(b)?;
@@ -144,7 +156,8 @@ pub fn set_text_properties(
     b: &Value,
     properties: &Value,
 ) -> Result<Prepared, Failure>
-    ensures { Prepares result (calls.set_text_properties (editor_of editor.now) (view a.now) (view b.now) (view properties.now)) }
+    ensures { Prepares result (calls.set_text_properties (editor_of editor.now) (view a.now)
+        (view b.now) (view properties.now)) }
 {
     must_be_position(a)?;
     must_be_position(b)?;

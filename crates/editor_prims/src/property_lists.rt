@@ -1,5 +1,6 @@
 //! Arguments that are property lists: names and values in turn, no name twice.
-ghost use Rattle.std.specs.Prelude.{◌≡◌, ◌==◌, ◌||◌, map, IfOk, OnOk, is_some, ◌++◌, option_map, Some, [], ◌∷◌};
+ghost use Rattle.std.specs.Prelude.{◌≡◌, ◌==◌, ◌||◌, map, IfOk, OnOk, is_some, ◌++◌, option_map};
+ghost use Rattle.std.specs.Prelude.{Some, [], ◌∷◌};
 ghost use Rattle.text_model.specs.Properties.{put};
 ghost use Rattle.std.specs.List.{list_any};
 ghost use Rattle.editor_model.specs.Values.{as_pairs, as_prop, pairs_of, with_pair, items, values};
@@ -53,7 +54,8 @@ fn has_name(list: &Pairs, name: Sym) -> bool
 
 /// The pairs of a list with a name and a value in front, where these can stand there.
 fn with_named(list: Pairs, name: Sym, value: &Value) -> Mem<Option<Pairs>>
-    ensures { IfOk result (λ l. option_map (λ ps. backwards (items_of ps)) l ≡ with_pair (number_of name) (as_prop (view value.now)) (Some (backwards (items_of list)))) }
+    ensures { IfOk result (λ l. option_map (λ ps. backwards (items_of ps)) l ≡
+        with_pair (number_of name) (as_prop (view value.now)) (Some (backwards (items_of list)))) }
 {
     if !is_property_value(value) {
         return Ok(None);
@@ -69,7 +71,8 @@ fn with_named(list: Pairs, name: Sym, value: &Value) -> Mem<Option<Pairs>>
 
 /// The same with a name that need be none.
 fn with_pair(list: Pairs, name: &Value, value: &Value) -> Mem<Option<Pairs>>
-    ensures { IfOk result (λ l. option_map (λ ps. backwards (items_of ps)) l ≡ paired (view name.now) (view value.now) (Some (backwards (items_of list)))) }
+    ensures { IfOk result (λ l. option_map (λ ps. backwards (items_of ps)) l ≡
+        paired (view name.now) (view value.now) (Some (backwards (items_of list)))) }
 {
     match name {
         Value::Sym(name) => with_named(list, *name, value),
@@ -79,7 +82,8 @@ fn with_pair(list: Pairs, name: &Value, value: &Value) -> Mem<Option<Pairs>>
 
 /// The same where there may be no list.
 fn with_pair_in_front(list: Option<Pairs>, name: &Value, value: &Value) -> Mem<Option<Pairs>>
-    ensures { IfOk result (λ l. option_map (λ ps. backwards (items_of ps)) l ≡ paired (view name.now) (view value.now) (option_map (λ ps. backwards (items_of ps)) list)) }
+    ensures { IfOk result (λ l. option_map (λ ps. backwards (items_of ps)) l ≡
+        paired (view name.now) (view value.now) (option_map (λ ps. backwards (items_of ps)) list)) }
 {
     match list {
         Some(list) => with_pair(list, name, value),
@@ -89,7 +93,8 @@ fn with_pair_in_front(list: Option<Pairs>, name: &Value, value: &Value) -> Mem<O
 
 /// The pairs of some values, where they are a property list.
 fn pairs_in(words: &Values) -> Mem<Option<Pairs>>
-    ensures { IfOk result (λ l. option_map (λ ps. backwards (items_of ps)) l ≡ pairs_of (items (values (map view (items_of words.now))))) }
+    ensures { IfOk result (λ l. option_map (λ ps. backwards (items_of ps)) l ≡
+        pairs_of (items (values (map view (items_of words.now))))) }
 {
     if words.len() % 2 == 1 {
         return Ok(None);
@@ -148,7 +153,8 @@ pub fn set_of_pairs(alloc: Global, list: &Pairs) -> Mem<PropSet>
 
 /// The names of all pairs.
 pub fn names_of_pairs(alloc: Global, list: &Pairs) -> Mem<SymList>
-    ensures { IfOk result (λ names. map number_of (items_of names) ≡ names_of_pairs (backwards (items_of list.now))) }
+    ensures { IfOk result (λ names. map number_of (items_of names) ≡
+        names_of_pairs (backwards (items_of list.now))) }
 {
     let mut names = SymList::new(alloc);
     let mut i = list.len();
@@ -161,7 +167,8 @@ pub fn names_of_pairs(alloc: Global, list: &Pairs) -> Mem<SymList>
 
 /// Puts the name of a pair behind others, if it has no value.
 fn push_if_nil(names: &mut SymList, pair: &Pair) -> Mem<()>
-    ensures { OnOk result (map number_of (items_of names.new) ≡ map number_of (items_of names.old) ++ nil_names (pair_of pair.now ∷ [])) }
+    ensures { OnOk result (map number_of (items_of names.new) ≡
+        map number_of (items_of names.old) ++ nil_names (pair_of pair.now ∷ [])) }
 {
     let is_nil = match &pair.value {
         Some(value) => value.is_nil(),
@@ -176,7 +183,8 @@ fn push_if_nil(names: &mut SymList, pair: &Pair) -> Mem<()>
 
 /// The names of the pairs without a value.
 pub fn nil_names(alloc: Global, list: &Pairs) -> Mem<SymList>
-    ensures { IfOk result (λ names. map number_of (items_of names) ≡ nil_names (backwards (items_of list.now))) }
+    ensures { IfOk result (λ names. map number_of (items_of names) ≡
+        nil_names (backwards (items_of list.now))) }
 {
     let mut names = SymList::new(alloc);
     let mut i = list.len();

@@ -1,5 +1,6 @@
 //! Arguments that give values of properties.
-ghost use Rattle.std.specs.Prelude.{◌≡◌, map, ◌++◌, IfOk, OnOk, is_some, unwrap_or, option_map, true, []};
+ghost use Rattle.std.specs.Prelude.{◌≡◌, map, ◌++◌, IfOk, OnOk, is_some, unwrap_or, option_map};
+ghost use Rattle.std.specs.Prelude.{true, []};
 ghost use Rattle.editor_model.specs.Values.{Items, as_prop, symbol_names, values};
 ghost use Rattle.editor_prims.specs.PropertyArguments.{symbols_of};
 ghost use Rattle.editor_model.specs.Arguments.{is_symbol, must_be_property_value, value_of};
@@ -33,7 +34,8 @@ fn are_symbols(items: &Values) -> bool
 
 /// Puts a value behind some symbols, if it is one. A refusal leaves these as they were.
 fn push_symbol(names: &mut SymList, v: &Value) -> Mem<()>
-    ensures { OnOk result (map number_of (items_of names.new) ≡ map number_of (items_of names.old) ++ symbols_of (view v.now)) }
+    ensures { OnOk result (map number_of (items_of names.new) ≡
+        map number_of (items_of names.old) ++ symbols_of (view v.now)) }
 {
     match v {
         Value::Sym(name) => names.push(*name),
@@ -44,7 +46,8 @@ fn push_symbol(names: &mut SymList, v: &Value) -> Mem<()>
 /// The symbols of a list of symbols.
 fn symbols(items: &Values) -> Mem<SymList>
     requires { is_some (symbol_names (values (map view (items_of items.now)))) ≡ true }
-    ensures { IfOk result (λ names. map number_of (items_of names) ≡ unwrap_or (symbol_names (values (map view (items_of items.now)))) []) }
+    ensures { IfOk result (λ names. map number_of (items_of names) ≡
+        unwrap_or (symbol_names (values (map view (items_of items.now)))) []) }
 {
     let mut names = SymList::new(items.allocator());
     for i in 0..items.len() {
@@ -88,8 +91,10 @@ pub fn property_value(v: &Value) -> Mem<Option<PropVal>>
 /// The property's value that a list gives.
 #[tactic(auto, using(crate::proofs::Symbols::listed, crate::proofs::Symbols::not_listed, crate::proofs::Symbols::none_listed))]
 fn symbols_value(items: &Values) -> Mem<Option<PropVal>>
-    ensures value { IfOk result (λ p. option_map prop_of p ≡ value_of (Items (values (map view (items_of items.now))))) }
-    ensures given { IfOk result (λ p. given_of (option_map prop_of p) ≡ value_of (Items (values (map view (items_of items.now))))) }
+    ensures value { IfOk result (λ p. option_map prop_of p ≡
+        value_of (Items (values (map view (items_of items.now))))) }
+    ensures given { IfOk result (λ p. given_of (option_map prop_of p) ≡
+        value_of (Items (values (map view (items_of items.now))))) }
 {
     if items.len() == 0 {
         return Ok(None);

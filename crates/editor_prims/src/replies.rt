@@ -4,7 +4,8 @@ ghost use Rattle.editor_model.specs.Values.{Reply as Meant};
 ghost use Rattle.editor_model.specs.Answers as answers;
 ghost use Rattle.editor_model.specs.Editor as model;
 ghost use Rattle.ek_call.specs.Meaning.{reply_of};
-ghost use Rattle.editor_prims.specs.Meaning.{Answers, Applies, Prepares, Commits, prepared_of, committed_of};
+ghost use Rattle.editor_prims.specs.Meaning.{Answers, Applies, Prepares, Commits, prepared_of};
+ghost use Rattle.editor_prims.specs.Meaning.{committed_of};
 
 use crate::change::{Committed, Prepared};
 use crate::failure::Failure;
@@ -14,8 +15,13 @@ use ek_types::{Mem, NoMemory};
 /// The reply of a call.
 pub fn reply(answer: Result<Value, Failure>) -> Mem<Reply>
     ensures asks { (call : Meant) → Answers answer call → IfOk result (λ r. reply_of r ≡ call) }
-    ensures applies { (old new : model.Editor) (call : answers.Applied) → Applies answer old new call → IfOk result (λ r. record { editor = new; reply = reply_of r } ≡ call) }
-    ensures err { (old new : model.Editor) (call : answers.Applied) → Applies answer old new call → OnErr result (new ≡ old) }
+    ensures applies { (old new : model.Editor) (call : answers.Applied) →
+        Applies answer old new call → IfOk result (λ r. record {
+          editor = new;
+          reply = reply_of r;
+        } ≡ call) }
+    ensures err { (old new : model.Editor) (call : answers.Applied) → Applies answer old new call →
+        OnErr result (new ≡ old) }
 {
     match answer {
         Ok(value) => Ok(Reply::Value(value)),
@@ -26,7 +32,8 @@ pub fn reply(answer: Result<Value, Failure>) -> Mem<Reply>
 
 /// What a call that changes a text comes to before anything is changed.
 pub fn prepared(call: Result<Prepared, Failure>) -> Mem<Prepared>
-    ensures { (meant : answers.Prepared) → Prepares call meant → IfOk result (λ p. prepared_of p ≡ meant) }
+    ensures { (meant : answers.Prepared) → Prepares call meant →
+        IfOk result (λ p. prepared_of p ≡ meant) }
 {
     match call {
         Ok(prepared) => Ok(prepared),
@@ -37,8 +44,10 @@ pub fn prepared(call: Result<Prepared, Failure>) -> Mem<Prepared>
 
 /// What a commit comes to.
 pub fn committed(call: Result<Committed, Failure>) -> Mem<Committed>
-    ensures ok { (old new : model.Editor) (meant : answers.Commit) → Commits call old new meant → IfOk result (λ c. record { editor = new; committed = committed_of c } ≡ meant) }
-    ensures err { (old new : model.Editor) (meant : answers.Commit) → Commits call old new meant → OnErr result (new ≡ old) }
+    ensures ok { (old new : model.Editor) (meant : answers.Commit) → Commits call old new meant →
+        IfOk result (λ c. record { editor = new; committed = committed_of c } ≡ meant) }
+    ensures err { (old new : model.Editor) (meant : answers.Commit) → Commits call old new meant →
+        OnErr result (new ≡ old) }
 {
     match call {
         Ok(committed) => Ok(committed),

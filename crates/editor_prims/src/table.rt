@@ -8,7 +8,12 @@ ghost use Rattle.ek_call.specs.Meaning.{view, reply_of};
 ghost use Rattle.ek_call.specs.Primitives.{prim_of};
 ghost use Rattle.buffer_table.specs.Kept.{editor_of};
 ghost use Rattle.editor_prims.specs.Meaning.{prepared_of};
-ghost use Rattle.editor_prims.specs.Subjects.{Asks, Sets, Plans, asks_of_buffers, asks_of_texts, asks_of_markers, asks_of_properties, asks_of_overlays, asks_of_undo, sets_in_buffers, sets_in_texts, sets_in_markers, sets_in_overlays, sets_in_undo, changes_of_texts, changes_of_properties, changes_of_undo};
+ghost use Rattle.editor_prims.specs.Subjects.{Asks, Sets, Plans, asks_of_buffers, asks_of_texts};
+ghost use Rattle.editor_prims.specs.Subjects.{asks_of_markers, asks_of_properties};
+ghost use Rattle.editor_prims.specs.Subjects.{asks_of_overlays, asks_of_undo, sets_in_buffers};
+ghost use Rattle.editor_prims.specs.Subjects.{sets_in_texts, sets_in_markers, sets_in_overlays};
+ghost use Rattle.editor_prims.specs.Subjects.{sets_in_undo, changes_of_texts};
+ghost use Rattle.editor_prims.specs.Subjects.{changes_of_properties, changes_of_undo};
 
 use crate::change::Prepared;
 use crate::failure::Failure;
@@ -43,7 +48,8 @@ pub fn nil() -> Value
 
 /// What a call on buffers answers that only asks; `None` for any other call.
 fn ask_buffers(editor: &Editor, prim: Prim, args: &Values) -> Option<Result<Value, Failure>>
-    ensures { Asks result (asks_of_buffers (prim_of prim)) (query (editor_of editor.now) (prim_of prim) (map view (items_of args.now))) }
+    ensures { Asks result (asks_of_buffers (prim_of prim))
+        (query (editor_of editor.now) (prim_of prim) (map view (items_of args.now))) }
 {
     let nil = nil();
     let a = arg(args, 0, &nil);
@@ -60,7 +66,8 @@ fn ask_buffers(editor: &Editor, prim: Prim, args: &Values) -> Option<Result<Valu
 
 /// What a call on texts answers that only asks; `None` for any other call.
 fn ask_texts(editor: &Editor, prim: Prim, args: &Values) -> Option<Result<Value, Failure>>
-    ensures { Asks result (asks_of_texts (prim_of prim)) (query (editor_of editor.now) (prim_of prim) (map view (items_of args.now))) }
+    ensures { Asks result (asks_of_texts (prim_of prim))
+        (query (editor_of editor.now) (prim_of prim) (map view (items_of args.now))) }
 {
     let nil = nil();
     let a = arg(args, 0, &nil);
@@ -83,7 +90,8 @@ fn ask_texts(editor: &Editor, prim: Prim, args: &Values) -> Option<Result<Value,
 
 /// What a call on markers answers that only asks; `None` for any other call.
 fn ask_markers(editor: &Editor, prim: Prim, args: &Values) -> Option<Result<Value, Failure>>
-    ensures { Asks result (asks_of_markers (prim_of prim)) (query (editor_of editor.now) (prim_of prim) (map view (items_of args.now))) }
+    ensures { Asks result (asks_of_markers (prim_of prim))
+        (query (editor_of editor.now) (prim_of prim) (map view (items_of args.now))) }
 {
     let nil = nil();
     let a = arg(args, 0, &nil);
@@ -97,7 +105,8 @@ fn ask_markers(editor: &Editor, prim: Prim, args: &Values) -> Option<Result<Valu
 
 /// What a call on text properties answers that only asks; `None` for any other call.
 fn ask_properties(editor: &Editor, prim: Prim, args: &Values) -> Option<Result<Value, Failure>>
-    ensures { Asks result (asks_of_properties (prim_of prim)) (query (editor_of editor.now) (prim_of prim) (map view (items_of args.now))) }
+    ensures { Asks result (asks_of_properties (prim_of prim))
+        (query (editor_of editor.now) (prim_of prim) (map view (items_of args.now))) }
 {
     let nil = nil();
     let a = arg(args, 0, &nil);
@@ -123,7 +132,8 @@ fn ask_properties(editor: &Editor, prim: Prim, args: &Values) -> Option<Result<V
 
 /// What a call on overlays answers that only asks; `None` for any other call.
 fn ask_overlays(editor: &Editor, prim: Prim, args: &Values) -> Option<Result<Value, Failure>>
-    ensures { Asks result (asks_of_overlays (prim_of prim)) (query (editor_of editor.now) (prim_of prim) (map view (items_of args.now))) }
+    ensures { Asks result (asks_of_overlays (prim_of prim))
+        (query (editor_of editor.now) (prim_of prim) (map view (items_of args.now))) }
 {
     let nil = nil();
     let a = arg(args, 0, &nil);
@@ -145,7 +155,8 @@ fn ask_overlays(editor: &Editor, prim: Prim, args: &Values) -> Option<Result<Val
 
 /// What a call on undo answers that only asks; `None` for any other call.
 fn ask_undo(editor: &Editor, prim: Prim) -> Option<Result<Value, Failure>>
-    ensures { (xs : List Meant) → Asks result (asks_of_undo (prim_of prim)) (query (editor_of editor.now) (prim_of prim) xs) }
+    ensures { (xs : List Meant) → Asks result (asks_of_undo (prim_of prim))
+        (query (editor_of editor.now) (prim_of prim) xs) }
 {
     match prim {
         Prim::BufferUndoList => Some(undo_records::buffer_undo_list(editor)),
@@ -155,7 +166,8 @@ fn ask_undo(editor: &Editor, prim: Prim) -> Option<Result<Value, Failure>>
 
 /// What a call answers that only asks. Any other call is refused as a wrong type.
 pub fn query(editor: &Editor, prim: Prim, args: &Values) -> Mem<Reply>
-    ensures { IfOk result (λ r. reply_of r ≡ query (editor_of editor.now) (prim_of prim) (map view (items_of args.now))) }
+    ensures { IfOk result (λ r. reply_of r ≡ query (editor_of editor.now) (prim_of prim)
+        (map view (items_of args.now))) }
 {
     if let Some(answer) = ask_buffers(editor, prim, args) {
         return reply(answer);
@@ -182,7 +194,9 @@ pub fn query(editor: &Editor, prim: Prim, args: &Values) -> Mem<Reply>
 
 /// Does a call on buffers that sets state and is heard by no hook; does nothing, and gives `None`, for any other call.
 fn set_buffers(editor: &mut Editor, prim: Prim, args: &Values) -> Option<Result<Value, Failure>>
-    ensures { Sets result (sets_in_buffers (prim_of prim)) (editor_of editor.old) (editor_of editor.new) (apply (editor_of editor.old) (prim_of prim) (map view (items_of args.now))) }
+    ensures { Sets result (sets_in_buffers (prim_of prim)) (editor_of editor.old)
+        (editor_of editor.new) (apply (editor_of editor.old) (prim_of prim)
+        (map view (items_of args.now))) }
 {
     let nil = nil();
     let a = arg(args, 0, &nil);
@@ -198,7 +212,9 @@ fn set_buffers(editor: &mut Editor, prim: Prim, args: &Values) -> Option<Result<
 
 /// Does a call on texts that sets state and is heard by no hook; does nothing, and gives `None`, for any other call.
 fn set_texts(editor: &mut Editor, prim: Prim, args: &Values) -> Option<Result<Value, Failure>>
-    ensures { Sets result (sets_in_texts (prim_of prim)) (editor_of editor.old) (editor_of editor.new) (apply (editor_of editor.old) (prim_of prim) (map view (items_of args.now))) }
+    ensures { Sets result (sets_in_texts (prim_of prim)) (editor_of editor.old)
+        (editor_of editor.new) (apply (editor_of editor.old) (prim_of prim)
+        (map view (items_of args.now))) }
 {
     let nil = nil();
     let a = arg(args, 0, &nil);
@@ -213,7 +229,9 @@ fn set_texts(editor: &mut Editor, prim: Prim, args: &Values) -> Option<Result<Va
 
 /// Does a call on markers that sets state and is heard by no hook; does nothing, and gives `None`, for any other call.
 fn set_markers(editor: &mut Editor, prim: Prim, args: &Values) -> Option<Result<Value, Failure>>
-    ensures { Sets result (sets_in_markers (prim_of prim)) (editor_of editor.old) (editor_of editor.new) (apply (editor_of editor.old) (prim_of prim) (map view (items_of args.now))) }
+    ensures { Sets result (sets_in_markers (prim_of prim)) (editor_of editor.old)
+        (editor_of editor.new) (apply (editor_of editor.old) (prim_of prim)
+        (map view (items_of args.now))) }
 {
     let nil = nil();
     let a = arg(args, 0, &nil);
@@ -231,7 +249,9 @@ fn set_markers(editor: &mut Editor, prim: Prim, args: &Values) -> Option<Result<
 
 /// Does a call on overlays that sets state and is heard by no hook; does nothing, and gives `None`, for any other call.
 fn set_overlays(editor: &mut Editor, prim: Prim, args: &Values) -> Option<Result<Value, Failure>>
-    ensures { Sets result (sets_in_overlays (prim_of prim)) (editor_of editor.old) (editor_of editor.new) (apply (editor_of editor.old) (prim_of prim) (map view (items_of args.now))) }
+    ensures { Sets result (sets_in_overlays (prim_of prim)) (editor_of editor.old)
+        (editor_of editor.new) (apply (editor_of editor.old) (prim_of prim)
+        (map view (items_of args.now))) }
 {
     let nil = nil();
     let a = arg(args, 0, &nil);
@@ -250,7 +270,8 @@ fn set_overlays(editor: &mut Editor, prim: Prim, args: &Values) -> Option<Result
 
 /// Does a call on undo that sets state and is heard by no hook; does nothing, and gives `None`, for any other call.
 fn set_undo(editor: &mut Editor, prim: Prim) -> Option<Result<Value, Failure>>
-    ensures { (xs : List Meant) → Sets result (sets_in_undo (prim_of prim)) (editor_of editor.old) (editor_of editor.new) (apply (editor_of editor.old) (prim_of prim) xs) }
+    ensures { (xs : List Meant) → Sets result (sets_in_undo (prim_of prim)) (editor_of editor.old)
+        (editor_of editor.new) (apply (editor_of editor.old) (prim_of prim) xs) }
 {
     match prim {
         Prim::UndoBoundary => Some(undo::undo_boundary(editor)),
@@ -264,7 +285,11 @@ fn set_undo(editor: &mut Editor, prim: Prim) -> Option<Result<Value, Failure>>
 /// Does a call that sets state and is heard by no hook. A refused call changes nothing, nor does one that memory was wanting
 /// for. Any other call is refused as a wrong type.
 pub fn apply(editor: &mut Editor, prim: Prim, args: &Values) -> Mem<Reply>
-    ensures ok { IfOk result (λ r. record { editor = editor_of editor.new; reply = reply_of r } ≡ apply (editor_of editor.old) (prim_of prim) (map view (items_of args.now))) }
+    ensures ok { IfOk result (λ r. record {
+      editor = editor_of editor.new;
+      reply = reply_of r;
+    } ≡ apply (editor_of editor.old) (prim_of prim)
+        (map view (items_of args.now))) }
     ensures err { OnErr result (editor_of editor.new ≡ editor_of editor.old) }
 {
     if let Some(answer) = set_buffers(editor, prim, args) {
@@ -289,7 +314,8 @@ pub fn apply(editor: &mut Editor, prim: Prim, args: &Values) -> Mem<Reply>
 
 /// Prepares a call on texts that changes a text; `None` for any other call.
 fn prepare_texts(editor: &Editor, prim: Prim, args: &Values) -> Option<Result<Prepared, Failure>>
-    ensures { Plans result (changes_of_texts (prim_of prim)) (prepare (editor_of editor.now) (prim_of prim) (map view (items_of args.now))) }
+    ensures { Plans result (changes_of_texts (prim_of prim))
+        (prepare (editor_of editor.now) (prim_of prim) (map view (items_of args.now))) }
 {
     let nil = nil();
     let a = arg(args, 0, &nil);
@@ -314,7 +340,8 @@ fn prepare_properties(
     prim: Prim,
     args: &Values,
 ) -> Option<Result<Prepared, Failure>>
-    ensures { Plans result (changes_of_properties (prim_of prim)) (prepare (editor_of editor.now) (prim_of prim) (map view (items_of args.now))) }
+    ensures { Plans result (changes_of_properties (prim_of prim))
+        (prepare (editor_of editor.now) (prim_of prim) (map view (items_of args.now))) }
 {
     let nil = nil();
     let a = arg(args, 0, &nil);
@@ -334,7 +361,8 @@ fn prepare_properties(
 
 /// Prepares a call on undo that changes a text; `None` for any other call.
 fn prepare_undo(editor: &Editor, prim: Prim, args: &Values) -> Option<Result<Prepared, Failure>>
-    ensures { Plans result (changes_of_undo (prim_of prim)) (prepare (editor_of editor.now) (prim_of prim) (map view (items_of args.now))) }
+    ensures { Plans result (changes_of_undo (prim_of prim))
+        (prepare (editor_of editor.now) (prim_of prim) (map view (items_of args.now))) }
 {
     let nil = nil();
     let a = arg(args, 0, &nil);
@@ -347,7 +375,8 @@ fn prepare_undo(editor: &Editor, prim: Prim, args: &Values) -> Option<Result<Pre
 /// Prepares a call that changes a text, and changes nothing yet. Any other call is refused as a wrong type.
 #[tactic(auto, using(crate::proofs::Others::nobody_changes))]
 pub fn prepare(editor: &Editor, prim: Prim, args: &Values) -> Mem<Prepared>
-    ensures { IfOk result (λ p. prepared_of p ≡ prepare (editor_of editor.now) (prim_of prim) (map view (items_of args.now))) }
+    ensures { IfOk result (λ p. prepared_of p ≡
+        prepare (editor_of editor.now) (prim_of prim) (map view (items_of args.now))) }
 {
     if let Some(change) = prepare_texts(editor, prim, args) {
         return prepared(change);

@@ -65,7 +65,8 @@ pub fn buffer_size(editor: &Editor, b: &Value) -> Result<Value, Failure>
 
 /// The code of the character of the accessible portion at a place, or nil.
 fn code_at(editor: &Editor, id: u32, place: usize) -> Value
-    ensures { view result ≡ calls.code_value (calls.char_at (buffer_at (editor_of editor.now) id) place) }
+    ensures { view result ≡ calls.code_value (calls.char_at (buffer_at (editor_of editor.now) id)
+        place) }
 {
     let portion = editor.bounds(id);
     if place < portion.start || portion.end <= place {
@@ -113,7 +114,8 @@ pub fn buffer_string(editor: &Editor) -> Result<Value, Failure>
 
 /// A region in the accessible portion of the current buffer.
 fn must_be_a_region(editor: &Editor, a: &Value, b: &Value) -> Result<(), Fault>
-    ensures { fault_in result ≡ first_fault (calls.must_be_a_region (editor_of editor.now) (view a.now) (view b.now) []) }
+    ensures { fault_in result ≡ first_fault (calls.must_be_a_region (editor_of editor.now)
+        (view a.now) (view b.now) []) }
 {
     must_be_position(a)?;
     must_be_position(b)?;
@@ -123,7 +125,8 @@ fn must_be_a_region(editor: &Editor, a: &Value, b: &Value) -> Result<(), Fault>
 
 /// A region whose text fits in a string.
 fn must_fit_a_region(editor: &Editor, a: &Value, b: &Value) -> Result<(), Fault>
-    ensures { fault_in result ≡ first_fault (calls.must_fit_a_region (editor_of editor.now) (view a.now) (view b.now)) }
+    ensures { fault_in result ≡ first_fault (calls.must_fit_a_region (editor_of editor.now)
+        (view a.now) (view b.now)) }
 {
     must_be_position(a)?;
     must_be_position(b)?;
@@ -134,8 +137,10 @@ fn must_fit_a_region(editor: &Editor, a: &Value, b: &Value) -> Result<(), Fault>
 
 /// The text of a region.
 fn region_text(editor: &Editor, a: &Value, b: &Value) -> Mem<Piece>
-    requires { first_fault (calls.must_fit_a_region (editor_of editor.now) (view a.now) (view b.now)) ≡ None }
-    ensures { IfOk result (λ piece. piece ≡ calls.region_text (editor_of editor.now) (view a.now) (view b.now)) }
+    requires { first_fault (calls.must_fit_a_region (editor_of editor.now) (view a.now)
+        (view b.now)) ≡ None }
+    ensures { IfOk result (λ piece. piece ≡ calls.region_text (editor_of editor.now) (view a.now)
+        (view b.now)) }
 {
     // Read for what it ensures: the accessible portion lies in the text.
     let _portion = editor.bounds(editor.current());
@@ -159,7 +164,8 @@ pub fn buffer_substring_no_properties(
     a: &Value,
     b: &Value,
 ) -> Result<Value, Failure>
-    ensures { Answers result (calls.buffer_substring_no_properties (editor_of editor.now) (view a.now) (view b.now)) }
+    ensures { Answers result (calls.buffer_substring_no_properties (editor_of editor.now)
+        (view a.now) (view b.now)) }
 {
     must_fit_a_region(editor, a, b)?;
     let text = region_text(editor, a, b)?;
@@ -167,7 +173,8 @@ pub fn buffer_substring_no_properties(
 }
 
 pub fn delete_and_extract_region(editor: &Editor, a: &Value, b: &Value) -> Result<Prepared, Failure>
-    ensures { Prepares result (calls.delete_and_extract_region (editor_of editor.now) (view a.now) (view b.now)) }
+    ensures { Prepares result (calls.delete_and_extract_region (editor_of editor.now) (view a.now)
+        (view b.now)) }
 {
     must_fit_a_region(editor, a, b)?;
     let text = Value::Str(region_text(editor, a, b)?);
@@ -233,14 +240,16 @@ pub fn erase_buffer(editor: &Editor) -> Result<Prepared, Failure>
 
 /// Point of the current buffer goes to a position, or to the nearer end of the accessible portion.
 fn go_to(editor: &mut Editor, position: i64)
-    ensures { editor_of editor.new ≡ change_buffer (editor_of editor.old).current (calls.point_at (place_of position)) (editor_of editor.old) }
+    ensures { editor_of editor.new ≡ change_buffer (editor_of editor.old).current
+        (calls.point_at (place_of position)) (editor_of editor.old) }
 {
     let id = editor.current();
     editor.goto(id, position);
 }
 
 pub fn goto_char(editor: &mut Editor, p: &Value) -> Result<Value, Failure>
-    ensures { Applies result (editor_of editor.old) (editor_of editor.new) (calls.goto_char (editor_of editor.old) (view p.now)) }
+    ensures { Applies result (editor_of editor.old) (editor_of editor.new)
+        (calls.goto_char (editor_of editor.old) (view p.now)) }
 {
     must_be_position(p)?;
     must_point_somewhere(editor, p)?;
@@ -254,14 +263,16 @@ pub fn goto_char(editor: &mut Editor, p: &Value) -> Result<Value, Failure>
 fn narrow(editor: &mut Editor, from: usize, to: usize)
     requires order { from ≤ to }
     requires range { to ≤ length (here (editor_of editor.old)).text }
-    ensures { editor_of editor.new ≡ change_buffer (editor_of editor.old).current (calls.narrowed from to) (editor_of editor.old) }
+    ensures { editor_of editor.new ≡ change_buffer (editor_of editor.old).current
+        (calls.narrowed from to) (editor_of editor.old) }
 {
     let id = editor.current();
     editor.narrow(id, from, to);
 }
 
 pub fn narrow_to_region(editor: &mut Editor, a: &Value, b: &Value) -> Result<Value, Failure>
-    ensures { Applies result (editor_of editor.old) (editor_of editor.new) (calls.narrow_to_region (editor_of editor.old) (view a.now) (view b.now)) }
+    ensures { Applies result (editor_of editor.old) (editor_of editor.new)
+        (calls.narrow_to_region (editor_of editor.old) (view a.now) (view b.now)) }
 {
     let size = editor.size(editor.current());
     must_be_position(a)?;
@@ -275,7 +286,8 @@ pub fn narrow_to_region(editor: &mut Editor, a: &Value, b: &Value) -> Result<Val
 }
 
 pub fn widen(editor: &mut Editor) -> Result<Value, Failure>
-    ensures { Applies result (editor_of editor.old) (editor_of editor.new) (calls.widen (editor_of editor.old)) }
+    ensures { Applies result (editor_of editor.old) (editor_of editor.new)
+        (calls.widen (editor_of editor.old)) }
 {
     let id = editor.current();
     editor.widen(id);
@@ -321,7 +333,8 @@ pub fn insert_buffer_substring(
     a: &Value,
     b: &Value,
 ) -> Result<Prepared, Failure>
-    ensures { Prepares result (calls.insert_buffer_substring (editor_of editor.now) (view buffer.now) (view a.now) (view b.now)) }
+    ensures { Prepares result (calls.insert_buffer_substring (editor_of editor.now)
+        (view buffer.now) (view a.now) (view b.now)) }
 {
     must_be_buffer(buffer)?;
     must_be_position_or_nil(a)?;
@@ -343,7 +356,8 @@ pub fn insert_buffer_substring(
 
 /// The place of a mark in a buffer; one that isn't there counts as the end of the accessible portion.
 fn place_in(editor: &Editor, id: u32, mark: u32) -> usize
-    ensures { result ≡ calls.place_in id (buffer_at (editor_of editor.now) id) (marker_of (editor_of editor.now) mark).spot }
+    ensures { result ≡ calls.place_in id (buffer_at (editor_of editor.now) id)
+        (marker_of (editor_of editor.now) mark).spot }
 {
     match spot(editor, mark) {
         Some((buffer, place)) if buffer == id => place,

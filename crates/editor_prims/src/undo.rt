@@ -14,7 +14,8 @@ use ek_types::Mem;
 
 /// Ends the newest group of records of the current buffer. A refusal leaves the editor as it was.
 fn end_group(editor: &mut Editor) -> Mem<()>
-    ensures ok { OnOk result (editor_of editor.new ≡ calls.with_undo with_boundary (editor_of editor.old)) }
+    ensures ok { OnOk result (editor_of editor.new ≡
+        calls.with_undo with_boundary (editor_of editor.old)) }
     ensures err { OnErr result (editor_of editor.new ≡ editor_of editor.old) }
 {
     let id = editor.current();
@@ -22,7 +23,8 @@ fn end_group(editor: &mut Editor) -> Mem<()>
 }
 
 pub fn undo_boundary(editor: &mut Editor) -> Result<Value, Failure>
-    ensures { Applies result (editor_of editor.old) (editor_of editor.new) (calls.undo_boundary (editor_of editor.old)) }
+    ensures { Applies result (editor_of editor.old) (editor_of editor.new)
+        (calls.undo_boundary (editor_of editor.old)) }
 {
     end_group(editor)?;
     Ok(Value::Nil)
@@ -45,14 +47,16 @@ fn disable(editor: &mut Editor)
 }
 
 pub fn buffer_enable_undo(editor: &mut Editor) -> Result<Value, Failure>
-    ensures { Applies result (editor_of editor.old) (editor_of editor.new) (calls.buffer_enable_undo (editor_of editor.old)) }
+    ensures { Applies result (editor_of editor.old) (editor_of editor.new)
+        (calls.buffer_enable_undo (editor_of editor.old)) }
 {
     enable(editor);
     Ok(Value::Nil)
 }
 
 pub fn buffer_disable_undo(editor: &mut Editor) -> Result<Value, Failure>
-    ensures { Applies result (editor_of editor.old) (editor_of editor.new) (calls.buffer_disable_undo (editor_of editor.old)) }
+    ensures { Applies result (editor_of editor.old) (editor_of editor.new)
+        (calls.buffer_disable_undo (editor_of editor.old)) }
 {
     disable(editor);
     Ok(Value::Nil)
@@ -70,7 +74,8 @@ fn start(editor: &mut Editor)
 /// All records of the current buffer become pending, where it records. It is refused where it doesn't.
 #[tactic(auto, using(crate::proofs::Changing::test_passed))]
 pub fn undo_start(editor: &mut Editor) -> Result<Value, Failure>
-    ensures { Applies result (editor_of editor.old) (editor_of editor.new) (calls.undo_start (editor_of editor.old)) }
+    ensures { Applies result (editor_of editor.old) (editor_of editor.new)
+        (calls.undo_start (editor_of editor.old)) }
 {
     let id = editor.current();
     must(editor.is_recording(id), Fault::UndoDisabled)?;

@@ -37,7 +37,8 @@ fn integer(v: &Value) -> Result<i64, Fault>
 
 /// How many groups an integer gives.
 fn groups(i: i64) -> Result<u32, Fault>
-    ensures test { fault_in result ≡ refuse ArgsOutOfRange (nat_le 1 (count_of (number i)) && nat_le (count_of (number i)) most_groups) }
+    ensures test { fault_in result ≡ refuse ArgsOutOfRange
+        (nat_le 1 (count_of (number i)) && nat_le (count_of (number i)) most_groups) }
     ensures content { IfOk result (λ n. (n ≡ count_of (number i)) × (1 ≤ n)) }
 {
     if i < 1 || i > MOST_GROUPS {

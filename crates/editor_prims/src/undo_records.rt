@@ -36,7 +36,8 @@ fn property_record(
     from: usize,
     to: usize,
 ) -> Mem<Value>
-    ensures { IfOk result (λ v. view v ≡ calls.record_value (Prop (number_of name) (option_map (λ p. prop_of p.now) old.entry) from to)) }
+    ensures { IfOk result (λ v. view v ≡ calls.record_value
+        (Prop (number_of name) (option_map (λ p. prop_of p.now) old.entry) from to)) }
 {
     let mut items = Values::new(alloc);
     items.push(Value::Nil)?;
@@ -63,7 +64,8 @@ fn record_value(alloc: Global, rec: &Rec) -> Mem<Value>
 
 /// The records of the current buffer as values, the newest first.
 fn record_values(editor: &Editor) -> Mem<Values>
-    ensures { IfOk result (λ values. map view (items_of values) ≡ map (λ e. calls.record_value e.what) (here (editor_of editor.now)).undo.entries) }
+    ensures { IfOk result (λ values. map view (items_of values) ≡
+        map (λ e. calls.record_value e.what) (here (editor_of editor.now)).undo.entries) }
 {
     let alloc = editor.allocator();
     let id = editor.current();

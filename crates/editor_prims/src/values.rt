@@ -1,6 +1,8 @@
 //! Values that calls answer.
 ghost use Rattle.std.specs.Prelude.{◌≡◌, pos, [], ◌∷◌, ◌++◌, map, IfOk, OnOk, Some, option_map};
-ghost use Rattle.editor_model.specs.Values.{Int as number, Sym as symbol, Dotted, TheBuffer, TheOverlay, at_place, list, values, plain, truth, of_prop, of_set, set_words};
+ghost use Rattle.editor_model.specs.Values.{Int as number, Sym as symbol, Dotted, TheBuffer};
+ghost use Rattle.editor_model.specs.Values.{TheOverlay, at_place, list, values, plain, truth};
+ghost use Rattle.editor_model.specs.Values.{of_prop, of_set, set_words};
 ghost use Rattle.ek_types.specs.Listing.{items_of};
 ghost use Rattle.ek_types.specs.Property.{number_of, prop_of};
 ghost use Rattle.ek_call.specs.Meaning.{view};
@@ -76,7 +78,8 @@ pub fn overlay(k: u32) -> Value
 
 /// Symbols as values.
 fn symbols(names: &SymList) -> Mem<Values>
-    ensures { IfOk result (λ values. map view (items_of values) ≡ map symbol (map number_of (items_of names.now))) }
+    ensures { IfOk result (λ values. map view (items_of values) ≡
+        map symbol (map number_of (items_of names.now))) }
 {
     let mut values = Values::new(names.allocator());
     for i in 0..names.len() {
@@ -101,7 +104,8 @@ pub fn of_prop(alloc: Global, v: Option<&PropVal>) -> Mem<Value>
 
 /// Puts a property's name and value behind other values. A refusal may leave the name there.
 fn push_pair(alloc: Global, values: &mut Values, name: Sym, v: &PropVal) -> Mem<()>
-    ensures { OnOk result (map view (items_of values.new) ≡ map view (items_of values.old) ++ symbol (number_of name) ∷ of_prop (Some (prop_of v.now)) ∷ []) }
+    ensures { OnOk result (map view (items_of values.new) ≡ map view (items_of values.old) ++
+        symbol (number_of name) ∷ of_prop (Some (prop_of v.now)) ∷ []) }
 {
     values.push(symbol(name))?;
     values.push(of_prop(alloc, Some(v))?)

@@ -1,5 +1,6 @@
 //! Characters: Unicode scalar values, and raw bytes that are part of none.
-ghost use Rattle.std.specs.Prelude.{◌≡◌, ◌≤◌, option_map, nat_le, take, drop, if◌then◌else◌, Some, None};
+ghost use Rattle.std.specs.Prelude.{◌≡◌, ◌≤◌, option_map, nat_le, take, drop, if◌then◌else◌, Some};
+ghost use Rattle.std.specs.Prelude.{None};
 ghost use Rattle.text_model.specs.Characters.{code, from_code, encoded, Raw};
 ghost use Rattle.ek_types.specs.Seen.{ch_of};
 

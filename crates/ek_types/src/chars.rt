@@ -1,5 +1,6 @@
 //! A list of characters with a spare.
-ghost use Rattle.std.specs.Prelude.{◌≡◌, ◌+◌, ◌<◌, ◌≤◌, length, [], ◌∷◌, ◌++◌, OnOk, OnErr, IfOk, IsOk, slice_get, Some, ◌==◌};
+ghost use Rattle.std.specs.Prelude.{◌≡◌, ◌+◌, ◌<◌, ◌≤◌, length, [], ◌∷◌, ◌++◌, OnOk, OnErr, IfOk};
+ghost use Rattle.std.specs.Prelude.{IsOk, slice_get, Some, ◌==◌};
 ghost use Rattle.text_model.specs.Characters.{IsCharacter};
 ghost use Rattle.ek_types.specs.Seen.{ch_of};
 
@@ -24,7 +25,10 @@ impl Model for Chars {
 
     ghost use Rattle.ek_types.specs.Seen.{ch_of, AreCharacters};
 
-    ghost view = { λ c. record { items = map ch_of c.items.items; spare = vec_capacity c.items - vec_len c.items } };
+    ghost view = { λ c. record {
+      items = map ch_of c.items.items;
+      spare = vec_capacity c.items - vec_len c.items;
+    } };
 
     ghost invariant = { λ c. AreCharacters (map ch_of c.items.items) };
 }

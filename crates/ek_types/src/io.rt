@@ -1,6 +1,7 @@
 //! Where bytes come from and where they go.
 ghost use Rattle.std.specs.Prelude.{◌≡◌, ◌<◌, ◌≤◌, length, IsTrue};
-ghost use Rattle.ek_types.specs.Io.{SourceState, SinkState, HasCause, Takes, Puts, StaysUnfailing, StaysRoomy};
+ghost use Rattle.ek_types.specs.Io.{SourceState, SinkState, HasCause, Takes, Puts, StaysUnfailing};
+ghost use Rattle.ek_types.specs.Io.{StaysRoomy};
 
 /// What a read took.
 #[derive(Clone, Copy, Debug, PartialEq, Eq)]
@@ -37,8 +38,10 @@ pub trait Source {
     fn read(&mut self, into: &mut [u8]) -> Took
         requires { 0 < length into.old }
         ensures bytes { Takes (state self.old).left (state self.new).left into.new result }
-        ensures cause { HasCause (state self.old).faults (state self.new).faults (result ≡ Took.Failed) }
-        ensures unfailing { IsTrue (state self.old).unfailing → StaysUnfailing (state self.old) (state self.new) result };
+        ensures cause { HasCause (state self.old).faults (state self.new).faults
+            (result ≡ Took.Failed) }
+        ensures unfailing { IsTrue (state self.old).unfailing →
+            StaysUnfailing (state self.old) (state self.new) result };
 }
 
 /// Where bytes go. A sink means the bytes that it holds, where it tells, and a count of faults that never falls and
@@ -51,6 +54,8 @@ pub trait Sink {
     fn write(&mut self, from: &[u8]) -> Wrote
         requires { 0 < length from.now }
         ensures bytes { Puts (state self.old).held (state self.new).held from.now result }
-        ensures cause { HasCause (state self.old).faults (state self.new).faults (result ≡ Wrote.Failed) }
-        ensures roomy { length from.now ≤ (state self.old).room → StaysRoomy (state self.old) (state self.new) result };
+        ensures cause { HasCause (state self.old).faults (state self.new).faults
+            (result ≡ Wrote.Failed) }
+        ensures roomy { length from.now ≤ (state self.old).room →
+            StaysRoomy (state self.old) (state self.new) result };
 }

@@ -1,5 +1,6 @@
 //! A list with a spare: how many more items fit with no memory taken.
-ghost use Rattle.std.specs.Prelude.{◌≡◌, ℕ, ◌+◌, ◌<◌, ◌≤◌, [], ◌∷◌, ◌++◌, length, IfOk, IsOk, OnOk, OnErr, slice_get, Some, List, map};
+ghost use Rattle.std.specs.Prelude.{◌≡◌, ℕ, ◌+◌, ◌<◌, ◌≤◌, [], ◌∷◌, ◌++◌, length, IfOk, IsOk, OnOk};
+ghost use Rattle.std.specs.Prelude.{OnErr, slice_get, Some, List, map};
 ghost use Rattle.std.specs.Fn.{CalledAt};
 ghost use Rattle.std.specs.List.Retain.{IsFiltered};
 ghost use Rattle.ek_types.specs.Listing.{items_of, spare_of};

@@ -1,7 +1,10 @@
 //! A source and a sink in memory. Both tell what they hold.
-ghost use Rattle.std.specs.Prelude.{◌≡◌, ◌≤◌, ◌<◌, length, vec_len, vec_capacity, IfOk, [], drop, IsTrue};
+ghost use Rattle.std.specs.Prelude.{◌≡◌, ◌≤◌, ◌<◌, length, vec_len, vec_capacity, IfOk, [], drop};
+ghost use Rattle.std.specs.Prelude.{IsTrue};
 ghost use Rattle.ek_types.specs.Io.{HasCause, Takes, Puts, StaysUnfailing, StaysRoomy};
-ghost use Rattle.ek_types.specs.MemoryIo.{MemorySourceState, MemorySinkState, fails_at, source_state, sink_state, read_answer, after_read, room_after_read, write_answer, after_write};
+ghost use Rattle.ek_types.specs.MemoryIo.{MemorySourceState, MemorySinkState, fails_at};
+ghost use Rattle.ek_types.specs.MemoryIo.{source_state, sink_state, read_answer, after_read};
+ghost use Rattle.ek_types.specs.MemoryIo.{room_after_read, write_answer, after_write};
 
 use crate::io::{Sink, Source, Took, Wrote};
 use crate::memory::Mem;
@@ -22,7 +25,13 @@ pub struct MemorySource {
 impl Model for MemorySource {
     ghost Value = { MemorySourceState };
 
-    ghost view = { λ s. record { left = drop s.at s.bytes.items; piece = s.piece; fails = s.fails.items; calls = s.calls; faults = s.faults } };
+    ghost view = { λ s. record {
+      left = drop s.at s.bytes.items;
+      piece = s.piece;
+      fails = s.fails.items;
+      calls = s.calls;
+      faults = s.faults;
+    } };
 
     ghost invariant = { λ s. (s.at ≤ vec_len s.bytes) × (0 < s.piece) };
 }
@@ -32,7 +41,13 @@ impl MemorySource {
     /// from 0, stand in `fails`.
     pub fn new(bytes: Vec<u8>, piece: usize, fails: Vec<u32>) -> MemorySource
         requires { 0 < piece }
-        ensures { result ≡ record { left = bytes.items; piece = piece; fails = fails.items; calls = 0; faults = 0 } }
+        ensures { result ≡ record {
+          left = bytes.items;
+          piece = piece;
+          fails = fails.items;
+          calls = 0;
+          faults = 0;
+        } }
     {
         MemorySource {
             bytes,
@@ -58,9 +73,12 @@ impl Source for MemorySource {
     /// Answers exactly by the calls that fail, the piece, what is left and the room given.
     fn read(&mut self, into: &mut [u8]) -> Took
         requires { 0 < length into.old }
-        ensures bytes { Takes (source_state self.old).left (source_state self.new).left into.new result }
-        ensures cause { HasCause (source_state self.old).faults (source_state self.new).faults (result ≡ Took.Failed) }
-        ensures unfailing { IsTrue (source_state self.old).unfailing → StaysUnfailing (source_state self.old) (source_state self.new) result }
+        ensures bytes { Takes (source_state self.old).left (source_state self.new).left into.new
+            result }
+        ensures cause { HasCause (source_state self.old).faults (source_state self.new).faults
+            (result ≡ Took.Failed) }
+        ensures unfailing { IsTrue (source_state self.old).unfailing →
+            StaysUnfailing (source_state self.old) (source_state self.new) result }
 
         ensures answer { result ≡ read_answer self.old (length into.old) }
         ensures after { self.new ≡ after_read self.old (length into.old) }
@@ -97,9 +115,17 @@ pub struct MemorySink {
 impl Model for MemorySink {
     ghost Value = { MemorySinkState };
 
-    ghost view = { λ s. record { held = s.bytes.items; limit = s.room; piece = s.piece; fails = s.fails.items; calls = s.calls; faults = s.faults } };
+    ghost view = { λ s. record {
+      held = s.bytes.items;
+      limit = s.room;
+      piece = s.piece;
+      fails = s.fails.items;
+      calls = s.calls;
+      faults = s.faults;
+    } };
 
-    ghost invariant = { λ s. (0 < s.piece) × (vec_len s.bytes ≤ s.room) × (s.room ≤ vec_capacity s.bytes) };
+    ghost invariant = { λ s. (0 < s.piece) × (vec_len s.bytes ≤ s.room) ×
+        (s.room ≤ vec_capacity s.bytes) };
 }
 
 impl MemorySink {
@@ -107,7 +133,14 @@ impl MemorySink {
     /// is full and at the calls whose numbers, from 0, stand in `fails`. All memory is taken here.
     pub fn new(alloc: Global, room: usize, piece: usize, fails: Vec<u32>) -> Mem<MemorySink>
         requires { 0 < piece }
-        ensures { IfOk result (λ s. s ≡ record { held = []; limit = room; piece = piece; fails = fails.items; calls = 0; faults = 0 }) }
+        ensures { IfOk result (λ s. s ≡ record {
+          held = [];
+          limit = room;
+          piece = piece;
+          fails = fails.items;
+          calls = 0;
+          faults = 0;
+        }) }
     {
         Ok(MemorySink {
             bytes: Vec::with_capacity(alloc, room)?,
@@ -134,8 +167,10 @@ impl Sink for MemorySink {
     fn write(&mut self, from: &[u8]) -> Wrote
         requires { 0 < length from.now }
         ensures bytes { Puts (sink_state self.old).held (sink_state self.new).held from.now result }
-        ensures cause { HasCause (sink_state self.old).faults (sink_state self.new).faults (result ≡ Wrote.Failed) }
-        ensures roomy { length from.now ≤ (sink_state self.old).room → StaysRoomy (sink_state self.old) (sink_state self.new) result }
+        ensures cause { HasCause (sink_state self.old).faults (sink_state self.new).faults
+            (result ≡ Wrote.Failed) }
+        ensures roomy { length from.now ≤ (sink_state self.old).room →
+            StaysRoomy (sink_state self.old) (sink_state self.new) result }
 
         ensures answer { result ≡ write_answer self.old (length from.now) }
         ensures after { self.new ≡ after_write self.old from.now }

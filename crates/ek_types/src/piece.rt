@@ -1,5 +1,6 @@
 //! Pieces of text: characters with their properties.
-ghost use Rattle.std.specs.Prelude.{◌≡◌, ℕ, ◌+◌, ◌<◌, ◌≤◌, length, map, [], ◌++◌, IfOk, OnOk, OnErr, slice_get, Some, option_map, ◌==◌};
+ghost use Rattle.std.specs.Prelude.{◌≡◌, ℕ, ◌+◌, ◌<◌, ◌≤◌, length, map, [], ◌++◌, IfOk, OnOk};
+ghost use Rattle.std.specs.Prelude.{OnErr, slice_get, Some, option_map, ◌==◌};
 ghost use Rattle.std.specs.List.{prefix_len};
 ghost use Rattle.text_model.specs.Properties.{bare, with_sets, edited, Replace};
 ghost use Rattle.text_model.specs.Characters.{IsCharacter};
@@ -203,7 +204,9 @@ impl Piece {
         requires { i < length self.now }
         ensures behind { i < result }
         ensures within { result ≤ length self.now }
-        ensures same { (j : ℕ) → i ≤ j → j < result → option_map (λ c. c.1) (slice_get self.now j) ≡ option_map (λ c. c.1) (slice_get self.now i) }
+        ensures same { (j : ℕ) → i ≤ j → j < result →
+            option_map (λ c. c.1) (slice_get self.now j) ≡
+            option_map (λ c. c.1) (slice_get self.now i) }
     {
         match self.runs.get(ending_by(&self.runs, i)) {
             Some(run) => run.end,

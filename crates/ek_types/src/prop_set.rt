@@ -1,5 +1,6 @@
 //! Property sets.
-ghost use Rattle.std.specs.Prelude.{◌≡◌, [], ◌++◌, IfOk, OnOk, option_map, length, map, drop, slice_get, Some, ◌<◌, ◌≤◌};
+ghost use Rattle.std.specs.Prelude.{◌≡◌, [], ◌++◌, IfOk, OnOk, option_map, length, map, drop};
+ghost use Rattle.std.specs.Prelude.{slice_get, Some, ◌<◌, ◌≤◌};
 ghost use Rattle.std.specs.List.{prefix_len};
 ghost use Rattle.text_model.specs.Properties.{get, put, with_value, without, given};
 ghost use Rattle.text_model.specs.Ordered.{IsProper};
@@ -37,7 +38,8 @@ impl Model for PropSet {
 
 /// Puts copies of some pairs behind others.
 fn add_copies(pairs: &mut Vec<Pair>, from: &[Pair]) -> Mem<()>
-    ensures { OnOk result (map pair_of pairs.new.items ≡ map pair_of pairs.old.items ++ map pair_of from.now) }
+    ensures { OnOk result (map pair_of pairs.new.items ≡ map pair_of pairs.old.items ++
+        map pair_of from.now) }
 {
     for (name, value) in from {
         pairs.push((*name, value.copy()?))?;
@@ -56,7 +58,8 @@ fn place(pairs: &[Pair], name: Sym) -> usize
 /// The place behind the property, where it stands at `at`, and else `at` itself.
 fn behind(pairs: &[Pair], at: usize, name: Sym) -> usize
     requires { at ≤ length pairs.now }
-    ensures exact { drop result (map pair_of pairs.now) ≡ without_first name.0 (drop at (map pair_of pairs.now)) }
+    ensures exact { drop result (map pair_of pairs.now) ≡
+        without_first name.0 (drop at (map pair_of pairs.now)) }
     ensures within { result ≤ length pairs.now }
 {
     if at < pairs.len() && pairs[at].0.0 == name.0 {
@@ -69,7 +72,8 @@ fn behind(pairs: &[Pair], at: usize, name: Sym) -> usize
 /// The pairs with one given anew.
 fn pairs_with(alloc: Global, pairs: &[Pair], name: Sym, value: &PropVal) -> Mem<Vec<Pair>>
     requires { IsProper (map pair_of pairs.now) }
-    ensures { IfOk result (λ v. map pair_of v.items ≡ with_value (map pair_of pairs.now) name.0 (prop_of value.now)) }
+    ensures { IfOk result (λ v. map pair_of v.items ≡
+        with_value (map pair_of pairs.now) name.0 (prop_of value.now)) }
 {
     let at = place(pairs, name);
     let rest = behind(pairs, at, name);

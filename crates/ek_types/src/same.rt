@@ -42,7 +42,8 @@ impl Chars {
 }
 
 fn same_names(a: &SymList, b: &SymList) -> bool
-    ensures { result ≡ same_list (λ x y. x == y) (map number_of (items_of a.now)) (map number_of (items_of b.now)) }
+    ensures { result ≡ same_list (λ x y. x == y) (map number_of (items_of a.now))
+        (map number_of (items_of b.now)) }
 {
     if a.len() != b.len() {
         return false;
@@ -73,7 +74,8 @@ impl PropVal {
 
 /// Whether two values are the same, where nil is `None`.
 pub fn same_option(a: Option<&PropVal>, b: Option<&PropVal>) -> bool
-    ensures { result ≡ same_option same_value (option_map (λ v. prop_of v.now) a.entry) (option_map (λ v. prop_of v.now) b.entry) }
+    ensures { result ≡ same_option same_value (option_map (λ v. prop_of v.now) a.entry)
+        (option_map (λ v. prop_of v.now) b.entry) }
 {
     match (a, b) {
         (None, None) => true,

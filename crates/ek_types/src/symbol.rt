@@ -1,5 +1,6 @@
 //! Names and their numbers.
-ghost use Rattle.std.specs.Prelude.{◌≡◌, ℕ, ◌+◌, ◌<◌, ◌^◌, length, List, [], ◌∷◌, ◌++◌, map, Some, None, IfOk, OnOk, OnErr, slice_get, string_bytes};
+ghost use Rattle.std.specs.Prelude.{◌≡◌, ℕ, ◌+◌, ◌<◌, ◌^◌, length, List, [], ◌∷◌, ◌++◌, map, Some};
+ghost use Rattle.std.specs.Prelude.{None, IfOk, OnOk, OnErr, slice_get, string_bytes};
 ghost use Rattle.std.specs.Option.{option_map};
 ghost use Rattle.text_model.specs.Names.{first_symbols, with_name};
 ghost use Rattle.ek_types.specs.Property.{number_of};
@@ -28,7 +29,8 @@ impl Model for Symbols {
 
     ghost view = { λ s. map string_bytes s.names.keys };
 
-    ghost invariant = { λ s. AreNumbered (map string_bytes s.names.keys) × (length s.names.keys < 2 ^ 32) };
+    ghost invariant = { λ s. AreNumbered (map string_bytes s.names.keys) ×
+        (length s.names.keys < 2 ^ 32) };
 }
 
 impl Symbols {

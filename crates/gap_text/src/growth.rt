@@ -1,5 +1,6 @@
 //! More blocks for a row.
-ghost use Rattle.std.specs.Prelude.{◌≡◌, ◌+◌, ◌*◌, ◌^◌, ◌<◌, ◌≤◌, length, take, ◌-◌, IfOk, OnOk, vec_len, vec_capacity};
+ghost use Rattle.std.specs.Prelude.{◌≡◌, ◌+◌, ◌*◌, ◌^◌, ◌<◌, ◌≤◌, length, take, ◌-◌, IfOk, OnOk};
+ghost use Rattle.std.specs.Prelude.{vec_len, vec_capacity};
 ghost use Rattle.gap_text.specs.Blocks.{AllLive, Distinct};
 ghost use Rattle.gap_text.specs.Growth.{Grown, Appended, Inserted, brought};
 

@@ -1,6 +1,7 @@
 //! The cells of a list of blocks as one row, counted from 0, and the gap in it.
 ghost use lib.Seq.{paste};
-ghost use Rattle.std.specs.Prelude.{◌≡◌, ℕ, ◌+◌, ◌*◌, ◌%◌, ◌<◌, ◌≤◌, ◌++◌, length, take, drop, map, slice_index, slice_set};
+ghost use Rattle.std.specs.Prelude.{◌≡◌, ℕ, ◌+◌, ◌*◌, ◌%◌, ◌<◌, ◌≤◌, ◌++◌, length, take, drop, map};
+ghost use Rattle.std.specs.Prelude.{slice_index, slice_set};
 ghost use Rattle.text_model.specs.Characters.{code};
 ghost use Rattle.ek_types.specs.Seen.{AreCharacters};
 ghost use Rattle.gap_text.specs.Blocks.{cells_of, IsRow, AllLive, ChangesCellsOf};
@@ -22,7 +23,8 @@ pub(crate) fn cell_at(blocks: &[Block], pool: &Pool, place: usize) -> u32
 pub(crate) fn set_cell_at(blocks: &[Block], pool: &mut Pool, place: usize, value: u32)
     requires row { IsRow pool.old blocks.now }
     requires range { place < 256 * length blocks.now }
-    ensures cells { cells_of pool.new blocks.now ≡ slice_set (cells_of pool.old blocks.now) place value }
+    ensures cells { cells_of pool.new blocks.now ≡
+        slice_set (cells_of pool.old blocks.now) place value }
     ensures row { IsRow pool.new blocks.now }
     ensures pool { ChangesCellsOf blocks.now pool.old pool.new }
 {
@@ -37,7 +39,8 @@ fn copy_within_blocks(blocks: &[Block], pool: &mut Pool, from: usize, to: usize,
     requires source_range { from + count ≤ 256 * length blocks.now }
     requires target { to % 256 + count ≤ 256 }
     requires target_range { to + count ≤ 256 * length blocks.now }
-    ensures cells { let old = cells_of pool.old blocks.now in cells_of pool.new blocks.now ≡ paste old to (drop from old) count }
+    ensures cells { let old = cells_of pool.old blocks.now in cells_of pool.new blocks.now ≡
+        paste old to (drop from old) count }
     ensures row { IsRow pool.new blocks.now }
     ensures pool { ChangesCellsOf blocks.now pool.old pool.new }
 {
@@ -51,7 +54,8 @@ fn move_left(blocks: &[Block], pool: &mut Pool, gap: usize, spare: usize, to: us
     requires row { IsRow pool.old blocks.now }
     requires left { to ≤ gap }
     requires fits { gap + spare ≤ 256 * length blocks.now }
-    ensures kept { without_gap to spare (cells_of pool.new blocks.now) ≡ without_gap gap spare (cells_of pool.old blocks.now) }
+    ensures kept { without_gap to spare (cells_of pool.new blocks.now) ≡
+        without_gap gap spare (cells_of pool.old blocks.now) }
     ensures row { IsRow pool.new blocks.now }
     ensures pool { ChangesCellsOf blocks.now pool.old pool.new }
 {
@@ -71,7 +75,8 @@ fn move_right(blocks: &[Block], pool: &mut Pool, gap: usize, spare: usize, to: u
     requires row { IsRow pool.old blocks.now }
     requires right { gap ≤ to }
     requires fits { to + spare ≤ 256 * length blocks.now }
-    ensures kept { without_gap to spare (cells_of pool.new blocks.now) ≡ without_gap gap spare (cells_of pool.old blocks.now) }
+    ensures kept { without_gap to spare (cells_of pool.new blocks.now) ≡
+        without_gap gap spare (cells_of pool.old blocks.now) }
     ensures row { IsRow pool.new blocks.now }
     ensures pool { ChangesCellsOf blocks.now pool.old pool.new }
 {
@@ -92,7 +97,8 @@ pub(crate) fn move_gap(blocks: &[Block], pool: &mut Pool, gap: usize, spare: usi
     requires row { IsRow pool.old blocks.now }
     requires from_fits { gap + spare ≤ 256 * length blocks.now }
     requires to_fits { to + spare ≤ 256 * length blocks.now }
-    ensures kept { without_gap to spare (cells_of pool.new blocks.now) ≡ without_gap gap spare (cells_of pool.old blocks.now) }
+    ensures kept { without_gap to spare (cells_of pool.new blocks.now) ≡
+        without_gap gap spare (cells_of pool.old blocks.now) }
     ensures row { IsRow pool.new blocks.now }
     ensures pool { ChangesCellsOf blocks.now pool.old pool.new }
 {
@@ -107,8 +113,10 @@ pub(crate) fn move_gap(blocks: &[Block], pool: &mut Pool, gap: usize, spare: usi
 pub(crate) fn write(blocks: &[Block], pool: &mut Pool, place: usize, text: &Chars)
     requires row { IsRow pool.old blocks.now }
     requires fits { place + length text.now.items ≤ 256 * length blocks.now }
-    ensures written { take (place + length text.now.items) (cells_of pool.new blocks.now) ≡ take place (cells_of pool.old blocks.now) ++ map code text.now.items }
-    ensures behind { (k : ℕ) → place + length text.now.items ≤ k → drop k (cells_of pool.new blocks.now) ≡ drop k (cells_of pool.old blocks.now) }
+    ensures written { take (place + length text.now.items) (cells_of pool.new blocks.now) ≡
+        take place (cells_of pool.old blocks.now) ++ map code text.now.items }
+    ensures behind { (k : ℕ) → place + length text.now.items ≤ k →
+        drop k (cells_of pool.new blocks.now) ≡ drop k (cells_of pool.old blocks.now) }
     ensures characters { AreCharacters text.now.items }
     ensures row { IsRow pool.new blocks.now }
     ensures pool { ChangesCellsOf blocks.now pool.old pool.new }

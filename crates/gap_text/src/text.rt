@@ -1,9 +1,11 @@
 //! A text, and its calls.
-ghost use Rattle.std.specs.Prelude.{◌≡◌, ◌+◌, ◌*◌, ◌<◌, ◌≤◌, [], ◌++◌, length, take, drop, IfOk, OnOk, OnErr, IsOk, slice_index, slice_get, Some, None};
+ghost use Rattle.std.specs.Prelude.{◌≡◌, ◌+◌, ◌*◌, ◌<◌, ◌≤◌, [], ◌++◌, length, take, drop, IfOk};
+ghost use Rattle.std.specs.Prelude.{OnOk, OnErr, IsOk, slice_index, slice_get, Some, None};
 ghost use Rattle.text_model.specs.Characters.{IsCharacter, code};
 ghost use Rattle.ek_types.specs.Seen.{ch_of};
 ghost use Rattle.text_pool.specs.Pool.{Pooled, live};
-ghost use Rattle.gap_text.specs.Blocks.{cells_of, Apart, AllGone, IsRow, SameOutside, OnlyFresh, ChangesCellsOf};
+ghost use Rattle.gap_text.specs.Blocks.{cells_of, Apart, AllGone, IsRow, SameOutside, OnlyFresh};
+ghost use Rattle.gap_text.specs.Blocks.{ChangesCellsOf};
 ghost use Rattle.gap_text.specs.Text.{Gapped, codes, characters, LiesIn};
 
 use crate::growth::{blocks_wanted, insert_blocks, make_room};
@@ -31,7 +33,11 @@ impl Model for Text {
 
     ghost view = { λ text. record { blocks = text.blocks.items; gap = text.gap; spare = text.spare } };
 
-    ghost invariant = { λ text. IsGapped (record { blocks = text.blocks.items; gap = text.gap; spare = text.spare }) };
+    ghost invariant = { λ text. IsGapped (record {
+      blocks = text.blocks.items;
+      gap = text.gap;
+      spare = text.spare;
+    }) };
 }
 
 impl Text {
@@ -51,7 +57,8 @@ impl Text {
 
     /// How many characters the text has.
     pub fn len(&self) -> usize
-        ensures characters { (pool : Pooled) → LiesIn pool self.now → result ≡ length (characters pool self.now) }
+        ensures characters { (pool : Pooled) → LiesIn pool self.now →
+            result ≡ length (characters pool self.now) }
         ensures cells { result + self.now.spare ≡ 256 * length self.now.blocks }
     {
         self.blocks.len() * CELLS - self.spare
@@ -95,7 +102,8 @@ impl Text {
         requires lies { LiesIn pool.now self.now }
         requires order { from ≤ to }
         requires range { to ≤ length (characters pool.now self.now) }
-        ensures { IfOk result (λ text. text.items ≡ drop from (take to (characters pool.now self.now))) }
+        ensures { IfOk result (λ text. text.items ≡
+            drop from (take to (characters pool.now self.now))) }
     {
         let mut text = Chars::new(*self.blocks.allocator());
         text.reserve(to - from)?;
@@ -166,8 +174,10 @@ impl Text {
 
         ensures fresh { OnlyFresh pool.old self.old.blocks self.new.blocks }
         ensures others { SameOutside self.new.blocks pool.old pool.new }
-        ensures count { live pool.new + length self.old.blocks ≡ live pool.old + length self.new.blocks }
-        ensures pool_spare { pool.old.spare + length self.old.blocks ≤ pool.new.spare + length self.new.blocks }
+        ensures count { live pool.new + length self.old.blocks ≡
+            live pool.old + length self.new.blocks }
+        ensures pool_spare { pool.old.spare + length self.old.blocks ≤ pool.new.spare + length
+            self.new.blocks }
     {
         if n <= self.spare {
             return Ok(());
@@ -225,7 +235,8 @@ impl Text {
         requires row { IsRow pool.old blocks.now }
         requires apart { Apart self.now.blocks blocks.now }
         requires room { length (codes pool.old self.now) ≤ 256 * length blocks.now }
-        ensures written { let old = codes pool.old self.now in take (length old) (cells_of pool.new blocks.now) ≡ old }
+        ensures written { let old = codes pool.old self.now in take (length old)
+            (cells_of pool.new blocks.now) ≡ old }
         ensures row { IsRow pool.new blocks.now }
         ensures pool { ChangesCellsOf blocks.now pool.old pool.new }
     {
@@ -257,13 +268,15 @@ impl Text {
     pub fn copy(&self, pool: &mut Pool) -> Mem<Text>
         requires { LiesIn pool.old self.now }
         ensures lies { IfOk result (λ text. LiesIn pool.new text) }
-        ensures characters { IfOk result (λ text. characters pool.new text ≡ characters pool.old self.now) }
+        ensures characters { IfOk result (λ text. characters pool.new text ≡
+            characters pool.old self.now) }
         ensures own_blocks { IfOk result (λ text. OnlyFresh pool.old [] text.blocks) }
         ensures others { IfOk result (λ text. SameOutside text.blocks pool.old pool.new) }
         ensures count { IfOk result (λ text. live pool.new ≡ live pool.old + length text.blocks) }
         ensures source { LiesIn pool.new self.now }
         ensures source_characters { characters pool.new self.now ≡ characters pool.old self.now }
-        ensures pool_spare { IfOk result (λ text. pool.old.spare ≤ pool.new.spare + length text.blocks) }
+        ensures pool_spare { IfOk result (λ text. pool.old.spare ≤ pool.new.spare + length
+            text.blocks) }
         ensures refused { OnErr result (pool.new.slots ≡ pool.old.slots) }
         ensures spare_after_refusal { OnErr result (pool.old.spare ≤ pool.new.spare) }
     {

@@ -46,7 +46,8 @@ pub fn ask_with_three(
     second: Value,
     third: Value,
 ) -> Mem<Next>
-    ensures { IfOk result (λ next. asked_of next ≡ Some (prim_of prim, view first ∷ view second ∷ view third ∷ [])) }
+    ensures { IfOk result (λ next. asked_of next ≡
+        Some (prim_of prim, view first ∷ view second ∷ view third ∷ [])) }
 {
     let mut args = ListOf::new(alloc);
     args.push(first)?;

@@ -36,7 +36,8 @@ fn name_of(handler: &Box<dyn Handler>) -> &str
 
 /// What a handler in its box does next.
 fn next_of(handler: &Box<dyn Handler>, args: &Values, past: &Replies) -> Mem<Next>
-    ensures { IfOk result (λ next. asked_of next ≡ does handler.now (map view (items_of args.now)) (map reply_of (items_of past.now))) }
+    ensures { IfOk result (λ next. asked_of next ≡
+        does handler.now (map view (items_of args.now)) (map reply_of (items_of past.now))) }
 {
     handler.next(args, past)
 }

@@ -22,5 +22,6 @@ pub trait Handler: Drop {
 
     /// What the handler does next.
     fn next(&self, args: &Values, past: &Replies) -> Mem<Next>
-        ensures { IfOk result (λ next. asked_of next ≡ does self.now (map view (items_of args.now)) (map reply_of (items_of past.now))) };
+        ensures { IfOk result (λ next. asked_of next ≡
+            does self.now (map view (items_of args.now)) (map reply_of (items_of past.now))) };
 }

@@ -65,7 +65,8 @@ impl Handler for InsertFilter {
 /// The call that comes next where each reply is as wanted.
 fn next_call(args: &Values, past: &Replies) -> Mem<Next>
     requires { are_kept (map reply_of (items_of past.now)) insert_wanted ≡ true }
-    ensures { IfOk result (λ next. asked_of next ≡ insert_filter (map view (items_of args.now)) (map reply_of (items_of past.now))) }
+    ensures { IfOk result (λ next. asked_of next ≡
+        insert_filter (map view (items_of args.now)) (map reply_of (items_of past.now))) }
 {
     let alloc = args.allocator();
     match past.len() {
@@ -84,7 +85,12 @@ fn next_call(args: &Values, past: &Replies) -> Mem<Next>
 
 /// The process's mark is set behind the text.
 fn set_mark(alloc: Global, past: &Replies) -> Mem<Next>
-    ensures { IfOk result (λ next. asked_of next ≡ Some (SetMarker, arg (answers_of past.now) 3 ∷ arg (answers_of past.now) 7 ∷ arg (answers_of past.now) 0 ∷ [])) }
+    ensures { IfOk result (λ next. asked_of next ≡
+        Some (
+          SetMarker,
+          arg (answers_of past.now) 3 ∷ arg (answers_of past.now) 7 ∷
+              arg (answers_of past.now) 0 ∷ [],
+        )) }
 {
     let mark = copied(answer(past, 3))?;
     let place = copied(answer(past, 7))?;

@@ -59,7 +59,8 @@ impl Handler for NoteSentinel {
 /// The call that comes next where each reply is as wanted.
 fn next_call(args: &Values, past: &Replies) -> Mem<Next>
     requires { are_kept (map reply_of (items_of past.now)) note_wanted ≡ true }
-    ensures { IfOk result (λ next. asked_of next ≡ note_sentinel (map view (items_of args.now)) (map reply_of (items_of past.now))) }
+    ensures { IfOk result (λ next. asked_of next ≡
+        note_sentinel (map view (items_of args.now)) (map reply_of (items_of past.now))) }
 {
     let alloc = args.allocator();
     match past.len() {

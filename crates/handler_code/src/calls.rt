@@ -17,7 +17,8 @@ use ek_types::Mem;
 /// wrong, or where an argument is or contains a buffer, marker, overlay, process or symbol that was never made. Such a
 /// call is refused as one of a wrong type, before anything else is tested. `made` has the counts of the run as it stands.
 pub fn allowed(made: &Made, asked: &NativeCall) -> Mem<Option<NativeCall>>
-    ensures { IfOk result (λ call. (program : Program) (s : State) → AreMade made.now program s → option_map call_asked call ≡ may program s (call_asked asked.now)) }
+    ensures { IfOk result (λ call. (program : Program) (s : State) → AreMade made.now program s →
+        option_map call_asked call ≡ may program s (call_asked asked.now)) }
 {
     if !may_take(asked.prim, asked.args.len()) {
         return Ok(None);

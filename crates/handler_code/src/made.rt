@@ -102,7 +102,8 @@ pub fn is_made(value: &Value, made: &Made) -> bool
 /// Whether all symbols and objects in some values were made.
 #[cycle(made)]
 pub fn are_made(values: &Values, made: &Made) -> bool
-    ensures { result ≡ list_all (was_made (program_with made.now) (state_with made.now)) (map view (items_of values.now)) }
+    ensures { result ≡ list_all (was_made (program_with made.now) (state_with made.now))
+        (map view (items_of values.now)) }
 {
     for i in 0..values.len() {
         if !is_made(values.at(i), made) {

@@ -20,7 +20,8 @@ pub enum Next {
 
 /// A list of natives, each seen as its name and a function of its arguments and of the replies to its calls so far.
 pub trait Natives {
-    ghost use Rattle.std.specs.Prelude.{◌≡◌, ◌≤◌, ℕ, List, [], Option, map, length, slice_get, unwrap_or, IfOk};
+    ghost use Rattle.std.specs.Prelude.{◌≡◌, ◌≤◌, ℕ, List, [], Option, map, length, slice_get};
+    ghost use Rattle.std.specs.Prelude.{unwrap_or, IfOk};
     ghost use Rattle.editor_model.specs.Values.{Value, Reply, Prim};
     ghost use Rattle.ek_types.specs.Listing.{items_of};
     ghost use Rattle.ek_call.specs.Meaning.{view, reply_of};
@@ -42,5 +43,6 @@ pub trait Natives {
 
     /// What native `i`, counted from 0, does next.
     fn next(&self, i: u32, args: &Values, past: &Replies) -> Mem<Next>
-        ensures { IfOk result (λ next. asked_of next ≡ does self.now i (map view (items_of args.now)) (map reply_of (items_of past.now))) };
+        ensures { IfOk result (λ next. asked_of next ≡
+            does self.now i (map view (items_of args.now)) (map reply_of (items_of past.now))) };
 }

@@ -1,9 +1,9 @@
 -- One question to a child and its answer, on the host and in the machine.
 use Rattle.std.specs.Prelude.{◌≡◌, ℕ, true, false, List, slice_set, ◌⊎◌, Some}
 use Rattle.plain_machine.specs.Exchanges.{Ask, Answer, Read, AskEnd, Kill}
-use Rattle.plain_machine.specs.State.{State, Process, process}
+use Rattle.plain_machine.specs.State.{State, Process, Signalled, process}
 use Rattle.plain_machine.specs.Arguments.{child_of, runs}
-use Rattle.process_table.specs.Table.{StandsFor, with_table, changed}
+use Rattle.process_table.specs.Table.{StandsFor, with_table, with_status, changed}
 use Rattle.host_link.specs.Hosts.{HostState, Exchanged, ended_answer, kill_answer}
 use Rattle.host_link.specs.declared.host.Ended.{Ended}
 use Rattle.host_link.specs.declared.host.KillAnswer.{KillAnswer}
@@ -51,5 +51,5 @@ pub record Kills {H : Type 0} (state : H → HostState) (made : H → H → Ask 
   pub how : KillAnswer
   pub called : made host host' (Kill (child_of (with_table old) p)) 0 (kill_answer how)
   pub exchanged : Exchanged (state host) (state host') (slice_set (state host).kills (child_of (with_table old) p) true) (Kill (child_of (with_table old) p)) (kill_answer how)
-  pub touches : TouchesIf p old new
+  pub table : new ≡ changed p (with_status Signalled) old
   pub machine : (s : State) (x : Process) → StandsFor old s.processes → process s p ≡ Some x → Deletes s p x new entry

@@ -1,11 +1,13 @@
 //! What an answer changes in the table, and what is entered for it.
-ghost use Rattle.std.specs.Prelude.{◌≡◌, ◌+◌, ◌<◌, ◌≤◌, ◌++◌, ◌↔◌, List, [], length, map, false, Some, None, option_map};
+ghost use Rattle.std.specs.Prelude.{◌≡◌, ◌+◌, ◌<◌, ◌≤◌, ◌++◌, ◌↔◌, List, [], length, map, false};
+ghost use Rattle.std.specs.Prelude.{Some, None, option_map};
 ghost use Rattle.text_model.specs.Characters.{Ch as Character};
 ghost use Rattle.plain_machine.specs.State.{State, Process as Meant, process};
 ghost use Rattle.process_table.specs.Meaning.{status_of};
 ghost use Rattle.process_table.specs.Table.{StandsFor, held_by};
 ghost use Rattle.host_link.specs.Hosts.{got_answer};
-ghost use Rattle.handler_run.specs.Answers.{Deletes, Ends, IsRead, Reads, Takes, after_end, after_read, came_to, heard_of};
+ghost use Rattle.handler_run.specs.Answers.{Deletes, Ends, IsRead, Reads, Takes, after_end};
+ghost use Rattle.handler_run.specs.Answers.{after_read, came_to, heard_of};
 
 use crate::entry::{Entry, arguments, filter_entry};
 use crate::slot::Slot;
@@ -24,7 +26,9 @@ pub fn enter(table: &mut Processes, p: u32, slot: Slot, got: &Got, bytes: &[u8])
     ensures count { length table.new ≡ length table.old }
     ensures table { table.new ≡ after_read p got.now bytes.now table.old }
     ensures none { (result ≡ Entry.None) ↔ (heard_of got.now bytes.now (held_by table.old p) ≡ []) }
-    ensures machine { (s : State) (x : Meant) → StandsFor table.old s.processes → process s p ≡ Some x → x.drained ≡ false → Reads s p x (got_answer bytes.now got.now) table.new result }
+    ensures machine { (s : State) (x : Meant) → StandsFor table.old s.processes →
+        process s p ≡ Some x → x.drained ≡ false →
+        Reads s p x (got_answer bytes.now got.now) table.new result }
 {
     let Slot { text, args } = slot;
     let mut text = text;
@@ -42,7 +46,9 @@ fn decode(table: &mut Processes, p: u32, got: &Got, bytes: &[u8], out: &mut Char
     ensures count { length table.new ≡ length table.old }
     ensures table { table.new ≡ after_read p got.now bytes.now table.old }
     ensures items { out.new.items ≡ out.old.items ++ heard_of got.now bytes.now (held_by table.old p) }
-    ensures machine { out.old.items ≡ [] → (s : State) (x : Meant) → StandsFor table.old s.processes → process s p ≡ Some x → x.drained ≡ false → Takes s p x (got_answer bytes.now got.now) table.new out.new.items }
+    ensures machine { out.old.items ≡ [] → (s : State) (x : Meant) →
+        StandsFor table.old s.processes → process s p ≡ Some x → x.drained ≡ false →
+        Takes s p x (got_answer bytes.now got.now) table.new out.new.items }
 {
     // Read for what it ensures: at most 3 bytes are held.
     let _held = table.get(p).held();
@@ -62,8 +68,10 @@ pub fn ended(table: &mut Processes, p: u32, slot: Slot, how: &Ended) -> Entry
     ensures count { length table.new ≡ length table.old }
     ensures table { table.new ≡ after_end p how.now table.old }
     ensures none { (result ≡ Entry.None) ↔ (how.now ≡ Ended.Running) }
-    ensures machine { (s : State) (x : Meant) → StandsFor table.old s.processes → process s p ≡ Some x → Ends s p x how.now table.new result }
-    ensures deleted { (s : State) (x : Meant) → how.now ≡ Ended.Signal → StandsFor table.old s.processes → process s p ≡ Some x → Deletes s p x table.new result }
+    ensures machine { (s : State) (x : Meant) → StandsFor table.old s.processes →
+        process s p ≡ Some x → Ends s p x how.now table.new result }
+    ensures deleted { (s : State) (x : Meant) → how.now ≡ Ended.Signal →
+        StandsFor table.old s.processes → process s p ≡ Some x → Deletes s p x table.new result }
 {
     let Some(status) = status(how) else {
         return Entry::None;

@@ -1,5 +1,6 @@
 //! Asking a child: the question, its answer, and what is entered for it.
-ghost use Rattle.std.specs.Prelude.{◌≡◌, ◌<◌, ◌≤◌, ℕ, List, length, false, Some, IfOk, OnErr, slice_get};
+ghost use Rattle.std.specs.Prelude.{◌≡◌, ◌<◌, ◌≤◌, ℕ, List, length, false, Some, IfOk, OnErr};
+ghost use Rattle.std.specs.Prelude.{slice_get};
 ghost use Rattle.plain_machine.specs.Arguments.{child_of};
 ghost use Rattle.process_table.specs.Table.{with_table};
 ghost use Rattle.host_link.specs.Hosts.{Fits, got_answer};
@@ -101,7 +102,8 @@ fn hear_end<H: Host>(table: &mut Processes, host: &mut H, p: u32, slot: Slot) ->
 /// where it is wanting, nothing is asked and nothing changes.
 pub fn kill<H: Host>(alloc: Global, table: &mut Processes, host: &mut H, p: u32) -> Mem<Entry>
     requires made { p < length table.old }
-    requires lives { slice_get (H.state host.old).kills (child_of (with_table table.old) p) ≡ Some false }
+    requires lives { slice_get (H.state host.old).kills (child_of (with_table table.old) p) ≡
+        Some false }
     ensures ok { IfOk result (Kills H.state H.made host.old host.new table.old table.new p) }
     ensures table { OnErr result (table.new ≡ table.old) }
     ensures host { OnErr result (host.new ≡ host.old) }

@@ -53,7 +53,8 @@ pub(crate) fn filter_entry(filter: Filter, p: u32, text: Chars, room: Values) ->
     requires empty { items_of room ≡ [] }
     requires room { 2 ≤ spare_of room }
     ensures none { (result ≡ Entry.None) ↔ (text.items ≡ []) }
-    ensures machine { (s : State) (x : Meant) (rest : List Item) → x.filter ≡ filter_of filter → entry_of s p x text.items rest ≡ entering p result rest }
+    ensures machine { (s : State) (x : Meant) (rest : List Item) → x.filter ≡ filter_of filter →
+        entry_of s p x text.items rest ≡ entering p result rest }
 {
     if text.is_empty() {
         return Entry::None;

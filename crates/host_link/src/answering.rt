@@ -2,7 +2,8 @@
 ghost use Rattle.std.specs.Prelude.{◌≡◌, ◌≤◌, [], length};
 ghost use Rattle.ek_types.specs.Listing.{items_of, spare_of};
 ghost use Rattle.host_link.specs.Meaning.{answer_of};
-ghost use Rattle.host_link.specs.Hosts.{Fits, spawned_answer, got_answer, ended_answer, send_answer, kill_answer};
+ghost use Rattle.host_link.specs.Hosts.{Fits, spawned_answer, got_answer, ended_answer};
+ghost use Rattle.host_link.specs.Hosts.{send_answer, kill_answer};
 
 use crate::asking::{Answer, ByteList, fill, list_of};
 use crate::host::{Ended, Got, KillAnswer, SendAnswer, Spawned};

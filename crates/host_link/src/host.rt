@@ -1,9 +1,13 @@
 //! The trait of a host: what the kernel asks of the outside.
-ghost use Rattle.std.specs.Prelude.{◌≡◌, ℕ, ◌-◌, ◌<◌, ◌^◌, length, map, false, true, Some, IfOk, OnOk, OnErr, slice_get, slice_set, string_bytes};
+ghost use Rattle.std.specs.Prelude.{◌≡◌, ℕ, ◌-◌, ◌<◌, ◌^◌, length, map, false, true, Some, IfOk};
+ghost use Rattle.std.specs.Prelude.{OnOk, OnErr, slice_get, slice_set, string_bytes};
 ghost use Rattle.std.specs.Option.{option_map};
-ghost use Rattle.plain_machine.specs.Exchanges.{Ask, Answer, Spawn, Read, AskEnd, Send, Close, Kill, Closed};
+ghost use Rattle.plain_machine.specs.Exchanges.{Ask, Answer, Spawn, Read, AskEnd, Send, Close};
+ghost use Rattle.plain_machine.specs.Exchanges.{Kill, Closed};
 ghost use Rattle.host_link.specs.Meaning.{exchanges_of};
-ghost use Rattle.host_link.specs.Hosts.{HostState, Asked, Exchanged, Fits, IsNumbered, after_spawn, spawned_answer, got_answer, ended_answer, send_answer, kill_answer};
+ghost use Rattle.host_link.specs.Hosts.{HostState, Asked, Exchanged, Fits, IsNumbered, after_spawn};
+ghost use Rattle.host_link.specs.Hosts.{spawned_answer, got_answer, ended_answer, send_answer};
+ghost use Rattle.host_link.specs.Hosts.{kill_answer};
 
 use crate::asking::Exchanges;
 use ek_types::Mem;
@@ -70,7 +74,8 @@ pub trait Host {
         ensures asked { Asked (state self.old) (state self.new) (after_spawn (state self.old).kills)
             (Spawn program.now (map string_bytes args.now)) spawned_answer result }
         ensures number { IfOk result (IsNumbered (length (state self.old).kills)) }
-        ensures made { IfOk result (λ s. made self.old self.new (Spawn program.now (map string_bytes args.now)) 0 (spawned_answer s)) }
+        ensures made { IfOk result (λ s. made self.old self.new
+            (Spawn program.now (map string_bytes args.now)) 0 (spawned_answer s)) }
         ensures unchanged { OnErr result (self.new ≡ self.old) };
 
     /// Takes bytes of a child's output to the front of `into`, which isn't empty. `NoMemory` leaves `into` as it was.
@@ -80,7 +85,8 @@ pub trait Host {
         ensures asked { Asked (state self.old) (state self.new) (λ _. (state self.old).kills)
             (Read child) (got_answer into.new) result }
         ensures fits { IfOk result (Fits (length into.new)) }
-        ensures made { IfOk result (λ got. made self.old self.new (Read child) (length into.old) (got_answer into.new got)) }
+        ensures made { IfOk result (λ got. made self.old self.new (Read child) (length into.old)
+            (got_answer into.new got)) }
         ensures room_kept { OnErr result (into.new ≡ into.old) }
         ensures unchanged { OnErr result (self.new ≡ self.old) };
 
@@ -89,7 +95,8 @@ pub trait Host {
         requires { child < length (state self.old).kills }
         ensures asked { Asked (state self.old) (state self.new) (λ _. (state self.old).kills) (AskEnd child)
             ended_answer result }
-        ensures made { IfOk result (λ ended. made self.old self.new (AskEnd child) 0 (ended_answer ended)) }
+        ensures made { IfOk result (λ ended. made self.old self.new (AskEnd child) 0
+            (ended_answer ended)) }
         ensures unchanged { OnErr result (self.new ≡ self.old) };
 
     /// Sends bytes to a child's input.
@@ -97,7 +104,8 @@ pub trait Host {
         requires { child < length (state self.old).kills }
         ensures asked { Asked (state self.old) (state self.new) (λ _. (state self.old).kills)
             (Send child bytes.now) send_answer result }
-        ensures made { IfOk result (λ sent. made self.old self.new (Send child bytes.now) 0 (send_answer sent)) }
+        ensures made { IfOk result (λ sent. made self.old self.new (Send child bytes.now) 0
+            (send_answer sent)) }
         ensures unchanged { OnErr result (self.new ≡ self.old) };
 
     /// Closes a child's input.

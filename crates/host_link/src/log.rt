@@ -24,7 +24,11 @@ impl Model for Log {
 
     ghost Value = { Logged };
 
-    ghost view = { λ l. record { told = exchanges_of l.list; due = l.due; places = spare_of l.list - l.due } };
+    ghost view = { λ l. record {
+      told = exchanges_of l.list;
+      due = l.due;
+      places = spare_of l.list - l.due;
+    } };
 
     ghost invariant = { λ l. l.due ≤ spare_of l.list };
 }
@@ -65,7 +69,10 @@ impl Log {
     /// Notes an exchange at its place.
     pub fn put(&mut self, ask: Ask, answer: Answer)
         requires { 0 < self.old.places }
-        ensures told { self.new.told ≡ self.old.told ++ record { ask = ask_of ask; answer = answer_of answer } ∷ [] }
+        ensures told { self.new.told ≡ self.old.told ++ record {
+          ask = ask_of ask;
+          answer = answer_of answer;
+        } ∷ [] }
         ensures due { self.new.due ≡ self.old.due }
         ensures places { self.new.places + 1 ≡ self.old.places }
     {
@@ -75,7 +82,10 @@ impl Log {
     /// Notes a spawn, and keeps a place for the kill of the child that it started.
     pub fn put_spawn(&mut self, ask: Ask, answer: Answer, spawned: Spawned)
         requires { 2 ≤ self.old.places }
-        ensures told { self.new.told ≡ self.old.told ++ record { ask = ask_of ask; answer = answer_of answer } ∷ [] }
+        ensures told { self.new.told ≡ self.old.told ++ record {
+          ask = ask_of ask;
+          answer = answer_of answer;
+        } ∷ [] }
         ensures due { self.new.due ≡ self.old.due + due_by spawned }
     {
         self.put(ask, answer);
@@ -88,7 +98,10 @@ impl Log {
     /// Notes a kill at the place that was kept for it.
     pub fn put_kill(&mut self, ask: Ask, answer: Answer)
         requires { 0 < self.old.due }
-        ensures told { self.new.told ≡ self.old.told ++ record { ask = ask_of ask; answer = answer_of answer } ∷ [] }
+        ensures told { self.new.told ≡ self.old.told ++ record {
+          ask = ask_of ask;
+          answer = answer_of answer;
+        } ∷ [] }
         ensures due { self.new.due + 1 ≡ self.old.due }
     {
         self.due -= 1;

@@ -1,11 +1,17 @@
 //! A host in memory, which plays its children from lists and tells its exchanges.
-ghost use Rattle.std.specs.Prelude.{◌≡◌, ◌+◌, ◌-◌, ◌<◌, ◌≤◌, ◌^◌, length, map, [], ◌++◌, false, true, Some, IfOk, OnOk, OnErr, if◌then◌else◌, nat_lt, drop, slice_get, slice_set, string_bytes, vec_len, vec_capacity};
-ghost use Rattle.plain_machine.specs.Exchanges.{Spawn, Read, AskEnd, Send, Close, Kill, Closed, Started, Refused, Failed, Broken, Sent, Killed};
+ghost use Rattle.std.specs.Prelude.{◌≡◌, ◌+◌, ◌-◌, ◌<◌, ◌≤◌, ◌^◌, length, map, [], ◌++◌, false};
+ghost use Rattle.std.specs.Prelude.{true, Some, IfOk, OnOk, OnErr, if◌then◌else◌, nat_lt, drop};
+ghost use Rattle.std.specs.Prelude.{slice_get, slice_set, string_bytes, vec_len, vec_capacity};
+ghost use Rattle.plain_machine.specs.Exchanges.{Spawn, Read, AskEnd, Send, Close, Kill, Closed};
+ghost use Rattle.plain_machine.specs.Exchanges.{Started, Refused, Failed, Broken, Sent, Killed};
 ghost use Rattle.ek_types.specs.Io.{next_count};
 ghost use Rattle.ek_types.specs.MemoryIo.{fails_at};
 ghost use Rattle.host_link.specs.Meaning.{answer_of};
-ghost use Rattle.host_link.specs.Hosts.{Asked, Exchanged, Fits, IsNumbered, after_spawn, is_fault, spawned_answer, got_answer, ended_answer, send_answer, kill_answer};
-ghost use Rattle.host_link.specs.Played.{Plays, host_state, next_read, after_read, room_after, next_end, reply_to};
+ghost use Rattle.host_link.specs.Hosts.{Asked, Exchanged, Fits, IsNumbered, after_spawn, is_fault};
+ghost use Rattle.host_link.specs.Hosts.{spawned_answer, got_answer, ended_answer, send_answer};
+ghost use Rattle.host_link.specs.Hosts.{kill_answer};
+ghost use Rattle.host_link.specs.Played.{Plays, host_state, next_read, after_read, room_after};
+ghost use Rattle.host_link.specs.Played.{next_end, reply_to};
 ghost use Rattle.host_link.specs.Logged.{due_by};
 ghost use Rattle.host_link.specs.Cursors.{cursors_by, rest_of, whole_play};
 
@@ -39,9 +45,17 @@ impl Model for MemoryHost {
 
     ghost Value = { MemoryHostState };
 
-    ghost view = { λ h. record { plays = rests h.plays.items h.cursors.items; kills = h.kills.items; fails = h.fails.items; calls = h.calls; faults = h.faults; told = h.log.told } };
+    ghost view = { λ h. record {
+      plays = rests h.plays.items h.cursors.items;
+      kills = h.kills.items;
+      fails = h.fails.items;
+      calls = h.calls;
+      faults = h.faults;
+      told = h.log.told;
+    } };
 
-    ghost invariant = { λ h. (vec_len h.cursors ≡ vec_len h.kills) × (vec_len h.cursors ≤ vec_len h.plays) × (h.log.due ≡ kills_due h.kills.items) };
+    ghost invariant = { λ h. (vec_len h.cursors ≡ vec_len h.kills) ×
+        (vec_len h.cursors ≤ vec_len h.plays) × (h.log.due ≡ kills_due h.kills.items) };
 }
 
 impl MemoryHost {
@@ -49,7 +63,14 @@ impl MemoryHost {
     /// all calls but `told`, stand in `fails` answer `Refused`, `Failed` or `Broken` by their kind and use up no answer of
     /// a play; a call of `close` can't fail. A call that answers `NoMemory` isn't counted.
     pub fn new(plays: Vec<Play>, fails: Vec<u32>) -> MemoryHost
-        ensures { result ≡ record { plays = map whole_play plays.items; kills = []; fails = fails.items; calls = 0; faults = 0; told = [] } }
+        ensures { result ≡ record {
+          plays = map whole_play plays.items;
+          kills = [];
+          fails = fails.items;
+          calls = 0;
+          faults = 0;
+          told = [];
+        } }
     {
         let alloc = *plays.allocator();
         MemoryHost {
@@ -191,7 +212,8 @@ impl Host for MemoryHost {
         ensures asked { Asked (host_state self.old) (host_state self.new) (after_spawn self.old.kills)
             (Spawn program.now (map string_bytes args.now)) spawned_answer result }
         ensures number { IfOk result (IsNumbered (length self.old.kills)) }
-        ensures made { IfOk result (λ s. Plays self.old self.new (Spawn program.now (map string_bytes args.now)) 0 (spawned_answer s)) }
+        ensures made { IfOk result (λ s. Plays self.old self.new
+            (Spawn program.now (map string_bytes args.now)) 0 (spawned_answer s)) }
         ensures unchanged { OnErr result (self.new ≡ self.old) }
     {
         let alloc = self.log.allocator();
@@ -216,8 +238,10 @@ impl Host for MemoryHost {
         ensures asked { Asked (host_state self.old) (host_state self.new) (λ _. self.old.kills)
             (Read child) (got_answer into.new) result }
         ensures fits { IfOk result (Fits (length into.new)) }
-        ensures made { IfOk result (λ got. Plays self.old self.new (Read child) (length into.old) (got_answer into.new got)) }
-        ensures room { OnOk result (into.new ≡ room_after into.old (reply_to self.old (Read child) (length into.old))) }
+        ensures made { IfOk result (λ got. Plays self.old self.new (Read child) (length into.old)
+            (got_answer into.new got)) }
+        ensures room { OnOk result (into.new ≡ room_after into.old
+            (reply_to self.old (Read child) (length into.old))) }
         ensures unchanged { OnErr result (self.new ≡ self.old) }
         ensures room_kept { OnErr result (into.new ≡ into.old) }
     {
@@ -243,7 +267,8 @@ impl Host for MemoryHost {
         requires { child < length self.old.kills }
         ensures asked { Asked (host_state self.old) (host_state self.new) (λ _. self.old.kills)
             (AskEnd child) ended_answer result }
-        ensures made { IfOk result (λ ended. Plays self.old self.new (AskEnd child) 0 (ended_answer ended)) }
+        ensures made { IfOk result (λ ended. Plays self.old self.new (AskEnd child) 0
+            (ended_answer ended)) }
         ensures unchanged { OnErr result (self.new ≡ self.old) }
     {
         let number = child as usize;
@@ -261,7 +286,8 @@ impl Host for MemoryHost {
         requires { child < length self.old.kills }
         ensures asked { Asked (host_state self.old) (host_state self.new) (λ _. self.old.kills)
             (Send child bytes.now) send_answer result }
-        ensures made { IfOk result (λ sent. Plays self.old self.new (Send child bytes.now) 0 (send_answer sent)) }
+        ensures made { IfOk result (λ sent. Plays self.old self.new (Send child bytes.now) 0
+            (send_answer sent)) }
         ensures unchanged { OnErr result (self.new ≡ self.old) }
     {
         let sent_bytes = list_of(self.log.allocator(), bytes)?;

@@ -1,5 +1,6 @@
 //! What a child of a host in memory answers, and how far it has come.
-ghost use Rattle.std.specs.Prelude.{◌≡◌, ◌+◌, ◌-◌, ◌^◌, ◌<◌, [], ◌∷◌, length, drop, true, IfOk, OnErr, if◌then◌else◌};
+ghost use Rattle.std.specs.Prelude.{◌≡◌, ◌+◌, ◌-◌, ◌^◌, ◌<◌, [], ◌∷◌, length, drop, true, IfOk};
+ghost use Rattle.std.specs.Prelude.{OnErr, if◌then◌else◌};
 ghost use Rattle.host_link.specs.Hosts.{Fits, got_answer, ended_answer};
 ghost use Rattle.plain_machine.specs.Exchanges.{Bytes};
 ghost use Rattle.host_link.specs.Meaning.{answer_of};
@@ -79,7 +80,8 @@ fn read_bytes(alloc: Global, bytes: &[u8], given: usize, into: &mut [u8]) -> Mem
 /// Reads an answer of which so many bytes were given.
 fn read_answer(alloc: Global, answer: &Answer, given: usize, into: &mut [u8]) -> Mem<ReadTurn>
     requires { 0 < length into.old }
-    ensures turn { IfOk result (IsReadTurn (less given (answer_of answer.now)) (length into.old) into.new) }
+    ensures turn { IfOk result (IsReadTurn (less given (answer_of answer.now)) (length into.old)
+        into.new) }
     ensures left { IfOk result
         (λ t. left_of (length into.old) (less given (answer_of answer.now)) ≡ (if t.used then [] else less t.given (answer_of answer.now) ∷ [])) }
     ensures room { IfOk result (λ t. into.new ≡ room_after into.old (answer_of t.answer)) }
@@ -167,7 +169,8 @@ pub(crate) fn read_play(
 pub(crate) fn end_play(play: &Play, cursor: Cursor) -> Turn<Ended>
     ensures told { ended_answer result.reply ≡ next_end (rest_of play.now cursor).ends }
     ensures same { answer_of result.answer ≡ ended_answer result.reply }
-    ensures rest { rest_of play.now result.cursor ≡ record (rest_of play.now cursor) { ends = drop 1 (rest_of play.now cursor).ends } }
+    ensures rest { rest_of play.now result.cursor ≡
+        record (rest_of play.now cursor) { ends = drop 1 (rest_of play.now cursor).ends } }
 {
     if cursor.ends >= play.ends.len() {
         return Turn {

@@ -1,7 +1,10 @@
 //! A recorder: a host that hands each call to another host and keeps the exchanges.
-ghost use Rattle.std.specs.Prelude.{◌≡◌, ◌-◌, ◌<◌, ◌^◌, length, map, [], false, true, Some, IfOk, OnOk, OnErr, slice_get, slice_set, string_bytes};
+ghost use Rattle.std.specs.Prelude.{◌≡◌, ◌-◌, ◌<◌, ◌^◌, length, map, [], false, true, Some, IfOk};
+ghost use Rattle.std.specs.Prelude.{OnOk, OnErr, slice_get, slice_set, string_bytes};
 ghost use Rattle.plain_machine.specs.Exchanges.{Spawn, Read, AskEnd, Send, Close, Kill, Closed};
-ghost use Rattle.host_link.specs.Hosts.{Asked, Exchanged, Fits, IsNumbered, after_spawn, spawned_answer, got_answer, ended_answer, send_answer, kill_answer};
+ghost use Rattle.host_link.specs.Hosts.{Asked, Exchanged, Fits, IsNumbered, after_spawn};
+ghost use Rattle.host_link.specs.Hosts.{spawned_answer, got_answer, ended_answer, send_answer};
+ghost use Rattle.host_link.specs.Hosts.{kill_answer};
 ghost use Rattle.host_link.specs.Recorded.{recorded_state, Records, RecordsOnce};
 
 use crate::answering::{

@@ -73,7 +73,7 @@ impl<R: Processes> Drop for RealHost<'_, R> {
     }
 }
 
-/// Ends a child that may still run. One that was waited for already is left alone.
+/// Ends a child that may still run, and closes its output. One that was waited for already is left alone.
 fn kill_and_reap<P: OpenProcess>(child: &mut Child<P>) -> io::Result<()>
     ensures reaped { OnOk result (IsSome (child_status child.new)) }
     ensures again { IfSome (child_status child.old) (λ s. child_status child.new ≡ Some s) }
@@ -81,6 +81,7 @@ fn kill_and_reap<P: OpenProcess>(child: &mut Child<P>) -> io::Result<()>
 {
     child.kill()?;
     child.wait()?;
+    child.stdout = None;
     Ok(())
 }
 
@@ -126,7 +127,7 @@ fn is_sent<W: Write>(input: &mut Option<W>, bytes: &[u8]) -> bool
     }
 }
 
-/// Closes a child's input and waits for its end, which reaps it.
+/// Closes a child's input, waits for its end, which reaps it, and closes its output.
 fn waited_for<P: OpenProcess>(child: &mut Child<P>) -> io::Result<Ended>
     ensures ended { IfOk result (λ ended. EndsAs (child_status child.new) (ended_answer ended)) }
     ensures no_fault { IfOk result (λ ended. is_fault (ended_answer ended) ≡ false) }
@@ -134,7 +135,9 @@ fn waited_for<P: OpenProcess>(child: &mut Child<P>) -> io::Result<Ended>
     ensures again { IfSome (child_status child.old) (λ s. child_status child.new ≡ Some s) }
     ensures closed { child.new.stdin ≡ None }
 {
-    match child.wait()?.code() {
+    let status = child.wait()?;
+    child.stdout = None;
+    match status.code() {
         Some(code) => Ok(Ended::Code(code)),
         None => Ok(Ended::Signal),
     }

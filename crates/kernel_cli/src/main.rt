@@ -1,5 +1,7 @@
-//! Runs the script on standard input, and writes its lines to standard output.
+//! Runs the script on standard input, or a drill, and writes what comes of it to standard output.
 #![tactic(auto)]
+
+ghost use Rattle.std.specs.Prelude.{◌^◌, ◌≤◌, length};
 
 mod children;
 mod failure;
@@ -8,7 +10,8 @@ mod standard;
 
 use children::RealHost;
 use failure::{Failure, result_of};
-use host_link::Recorder;
+use host_link::{Host, Recorder};
+use kernel_top::{drill, drill_of};
 use shipped::run_shipped;
 use standard::{ReaderSource, WriterSink};
 use std::env;
@@ -25,24 +28,35 @@ fn words(rt: &HostRuntime) -> Result<Vec<String>, Failure> {
         .map_err(|_| Failure::Memory)
 }
 
-fn work(rt: &HostRuntime) -> Result<(), Failure> {
-    let words = words(rt)?;
+/// Runs with standard input and output, over a host. Children that the host still has are dropped with it.
+fn work_over<H: Host + Drop>(rt: &HostRuntime, words: &[String], mut host: H) -> Result<(), Failure>
+    requires { length (H.state host).kills ≤ 2 ^ 31 }
+{
     let mut source = ReaderSource::new(rt.reader());
     let lines = LineWriter::new(rt.alloc(), io::writer(rt)).map_err(|_| Failure::Memory)?;
     let mut sink = WriterSink::new(lines);
-    let mut host = Recorder::new(rt.alloc(), RealHost::new(rt.alloc(), rt));
-    let status = run_shipped(
-        rt.alloc(),
-        words.as_slice(),
-        &mut source,
-        &mut sink,
-        &mut host,
-    )
-    .map_err(|_| Failure::Memory)?;
+    let status = run_shipped(rt.alloc(), words, &mut source, &mut sink, &mut host).map_err(
+        |_| Failure::Memory,
+    )?;
     drop(host);
     let finished = sink.finish();
     result_of(status)?;
     finished.map_err(|_| Failure::Write)
+}
+
+/// A drill is run over its own host, and all else over real children.
+fn work(rt: &HostRuntime) -> Result<(), Failure> {
+    let words = words(rt)?;
+    match drill_of(words.as_slice()) {
+        Some(lines) => {
+            let (_, host) = drill(rt.alloc(), lines).map_err(|_| Failure::Memory)?;
+            work_over(rt, words.as_slice(), host)
+        }
+        None => {
+            let host = Recorder::new(rt.alloc(), RealHost::new(rt.alloc(), rt));
+            work_over(rt, words.as_slice(), host)
+        }
+    }
 }
 
 fn main(rt: HostRuntime) -> ExitCode {

@@ -25,7 +25,7 @@ use Rattle.wait_loop.specs.declared.rounds.Step.TheVariants as turn
 use Rattle.host_link.specs.Hosts.{HostState, Exchanged, ended_answer, kill_answer as told_kill}
 use Rattle.host_link.specs.declared.host.KillAnswer.{KillAnswer}
 use Rattle.handler_run.specs.Answers.{Deletes}
-use Rattle.handler_run.specs.Asking.{TouchesIf, HearsOutput, HearsEnd, Hears}
+use Rattle.handler_run.specs.Asking.{TouchesIf, HearsOutput, HearsEnd, Hears, Kills}
 use Rattle.handler_run.specs.Entries.{entering}
 use Rattle.handler_run.specs.declared.entry.Entry.{Entry}
 use Rattle.handler_run.specs.declared.asking.Heard.{Heard}
@@ -36,26 +36,13 @@ use Rattle.kernel_steps.specs.Worlds.{World, Stands, kept_state, Hosted, Keeps}
 use Rattle.kernel_steps.specs.Work.{working, at_item, GoesTo}
 use Rattle.kernel_steps.proofs.Finishing.{hosted_below, answered_kill}
 use Rattle.kernel_steps.proofs.HostCalls.{adds_call}
+use Rattle.kernel_steps.proofs.Hosting.{hosted_set}
 use Rattle.kernel_steps.proofs.Journeys.{AddsOne, asked, goes_silently, goes_then}
 use Rattle.kernel_steps.proofs.KeptProcesses.{running_kept_at}
 use Rattle.kernel_steps.proofs.Passing.{child_found}
 use Rattle.kernel_steps.proofs.Works.{Went, went_silently}
 
 -- CHILDREN
-hosted_set : (xs : List Process) (p : ℕ) (x y : Process) (kills : List Bool) → slice_get xs p ≡ Some x → y.child ≡ x.child → (runs y.status ≡ true → runs x.status ≡ true) → Hosted xs kills → Hosted (slice_set xs p y) kills
-hosted_set [] p x y kills e child still h = tt
-hosted_set (z ∷ xs) zero x y kills e child still (small, lives, later, rest) =
-    let same : z ≡ x = let s : Some z ≡ Some x = e in cc in
-    let number : y.child ≡ z.child = child ∙ ap (λ (v : Process). v.child) (sym same) in (
-      subst (λ n. n < length kills) (sym number) small,
-      λ r. subst (λ n. slice_get kills n ≡ Some false) (sym number) (lives (ap (λ (v : Process). runs v.status) same ∙ still r)),
-      subst (λ n. All (λ (v : Process). n < v.child) xs) (sym number) later,
-      rest,
-    )
-hosted_set (z ∷ xs) (suc p) x y kills e child still (small, lives, later, rest) =
-    let one = All-slice_get (λ (v : Process). z.child < v.child) xs p x later e in
-    (small, lives, All-set (λ (v : Process). z.child < v.child) xs p y (subst (λ n. z.child < n) (sym child) one) later, hosted_set xs p x y kills e child still rest)
-
 set_before : (xs : List Bool) (i j : ℕ) (x : Bool) → j < i → slice_get (slice_set xs i x) j ≡ slice_get xs j
 set_before [] i j x h = refl
 set_before (z ∷ xs) zero j x h = absurd (omega (arith, h))
@@ -251,12 +238,31 @@ runs_not s p x status found is never = running_found s p x found ∙ ap runs (sy
 pub past_runs : (s : State) (p n : ℕ) → n ≡ length s.processes → n ≤ p → nat_lt p n ≡ is_running s p
 past_runs s p n is past = le-ltb p n past ∙ sym (ap (λ o. elim o [ None ↦ false | Some x ↦ runs x.status ]) (slice_get_past s.processes p (omega (arith, is, past))))
 
-pub lives_at : (xs : List Process) (kills : List Bool) (p : ℕ) (x : Process) → Hosted xs kills → slice_get xs p ≡ Some x → runs x.status ≡ true → slice_get kills x.child ≡ Some false
+lives_at : (xs : List Process) (kills : List Bool) (p : ℕ) (x : Process) → Hosted xs kills → slice_get xs p ≡ Some x → runs x.status ≡ true → slice_get kills x.child ≡ Some false
 lives_at [] kills p x h e r = absurd (let n : None ≡ Some x = e in cc)
 lives_at (y ∷ xs) kills zero x h e r =
     let same : y ≡ x = (let n : Some y ≡ Some x = e in cc) in
     subst (λ (z : Process). slice_get kills z.child ≡ Some false) same (h.1 (ap (λ (z : Process). runs z.status) same ∙ r))
 lives_at (y ∷ xs) kills (suc p) x h e r = lives_at xs kills p x h.3 e r
+
+-- a process that runs was made
+record IsRunning (s : State) (p : ℕ) : Type 0 where
+  pub one : Process
+  pub found : slice_get s.processes p ≡ Some one
+  pub runs : runs one.status ≡ true
+
+one_running : (s : State) (p : ℕ) → is_running s p ≡ true → IsRunning s p
+one_running s p running = by (slice_get s.processes p) refl running
+  where
+    by : (o : Option Process) → slice_get s.processes p ≡ o → (elim o [ None ↦ false | Some x ↦ runs x.status ]) ≡ true → IsRunning s p
+    by None e h = absurd (false≢true h)
+    by (Some x) e h = record { one = x; found = e; runs = h }
+
+-- and its child lives
+pub child_lives : (s : State) (kills : List Bool) (p : ℕ) → Hosted s.processes kills → is_running s p ≡ true → slice_get kills (child_of (with_table s.processes) p) ≡ Some false
+child_lives s kills p hosted running =
+    let r = one_running s p running in
+    subst (λ c. slice_get kills c ≡ Some false) (sym (child_found (with_table s.processes) p r.one r.found)) (lives_at s.processes kills p r.one hosted r.found r.runs)
 
 module _ {H : Type 0} (state : H → HostState) (made : H → H → Ask → ℕ → Answer → Type 0) (start host host2 : H) (program : Program) (known : State) (sink : SinkState) (table : List Process) (p : ℕ) where
   abbrev pub alive : World
@@ -265,9 +271,33 @@ module _ {H : Type 0} (state : H → HostState) (made : H → H → Ask → ℕ 
   abbrev pub dead : World
   dead = record { state = killed_state known table; kills = (state host2).kills; outside = outside sink (CallsSince state made start host2) }
 
-  module _ (one : Process) (found : slice_get known.processes p ≡ Some one) (how : KillAnswer) (exchanged : Exchanged (state host) (state host2) (slice_set (state host).kills one.child true) (Kill one.child) (told_kill how)) where
-    pub kill_keeps : table ≡ changed p (with_status Signalled) known.processes → Hosted known.processes (state host).kills → Keeps alive dead
-    kill_keeps same hosted = record {
+  module _ (entry : Entry) (runs_now : is_running known p ≡ true) (k : Kills state made host host2 known.processes table p entry) where
+    which : IsRunning known p
+    which = one_running known p runs_now
+
+    abbrev one : Process
+    one = which.one
+
+    found : slice_get known.processes p ≡ Some one
+    found = which.found
+
+    abbrev how : KillAnswer
+    how = k.how
+
+    is_child : child_of (with_table known.processes) p ≡ one.child
+    is_child = child_found (with_table known.processes) p one found
+
+    exchanged : Exchanged (state host) (state host2) (slice_set (state host).kills one.child true) (Kill one.child) (told_kill how)
+    exchanged = subst (λ c. Exchanged (state host) (state host2) (slice_set (state host).kills c true) (Kill c) (told_kill how)) is_child k.exchanged
+
+    called : made host host2 (Kill one.child) 0 (told_kill how)
+    called = subst (λ c. made host host2 (Kill c) 0 (told_kill how)) is_child k.called
+
+    same : table ≡ changed p (with_status Signalled) known.processes
+    same = k.table
+
+    pub kill_keeps : Hosted known.processes (state host).kills → Keeps alive dead
+    kill_keeps hosted = record {
       hosted = subst (λ k. Hosted table k) (sym exchanged.kills) (subst (λ l. Hosted l (slice_set (state host).kills one.child true)) (sym same) (by (slice_get known.processes p) found));
       count = omega (arith, ap length exchanged.kills, length-set (state host).kills one.child true, ap length same, changed_size (with_status Signalled) known.processes p);
       depth = refl;
@@ -282,13 +312,12 @@ module _ {H : Type 0} (state : H → HostState) (made : H → H → Ask → ℕ 
             subst (λ (z : Process). Hosted (slice_set known.processes p (with_status Signalled z)) (slice_set (state host).kills one.child true)) (sym same) (hosted_killed known.processes p one (state host).kills found hosted)
 
     -- the sentinel of one that runs is entered, whatever the host answers
-    pub kill_went : (entry : Entry) (more : List Item → List Item) → ((rest : List Item) → more rest ≡ entering p entry rest) → runs one.status ≡ true → made host host2 (Kill one.child) 0 (told_kill how) → ((s : State) (x : Process) → StandsFor known.processes s.processes → process s p ≡ Some x → Deletes s p x table entry) →
-        Went program alive dead (at_item (Delete p)) (λ s rest. working s (more rest))
-    kill_went entry more is runs_now called machine = record {
+    pub kill_went : (more : List Item → List Item) → ((rest : List Item) → more rest ≡ entering p entry rest) → Went program alive dead (at_item (Delete p)) (λ s rest. working s (more rest))
+    kill_went more is = record {
       comes = λ s rest stands behind.
           let y = stood known s p one stands found in
-          let d = machine s y.x (ap (λ (t : State). t.processes) stands) y.found in
-          let runs_so : runs y.x.status ≡ true = ap (λ (z : Process). runs z.status) (sym y.same) ∙ runs_now in
+          let d = k.machine s y.x (ap (λ (t : State). t.processes) stands) y.found in
+          let runs_so : runs y.x.status ≡ true = ap (λ (z : Process). runs z.status) (sym y.same) ∙ which.runs in
           record {
             state = d.now;
             stands = killed_stands known s d.now table stands d.stands d.apart;

@@ -5,7 +5,9 @@ use Rattle.editor_model.specs.Values.{Script}
 use Rattle.plain_machine.specs.State.{Program}
 use Rattle.plain_machine.specs.Items.{Said}
 use Rattle.plain_machine.specs.Run.{start, stays}
+use Rattle.machine_laws.specs.UndoneRuns.{UndoReturns}
 use Rattle.ek_types.specs.Io.{SinkState}
+use Rattle.kernel_steps.specs.Outside.{deepest}
 use Rattle.kernel_steps.specs.Ending.{IsAnsweredKill}
 use Rattle.kernel_steps.specs.Outcomes.{StoppedScript}
 use Rattle.kernel_steps.specs.declared.stop.Stop.TheVariants as stop
@@ -14,8 +16,8 @@ nothing_said : (before after : List Said) (x : Said) → [] ≡ before ++ x ∷ 
 nothing_said [] after x e = cc
 nothing_said (y ∷ before) after x e = cc
 
-pub unbegun : (program : Program) (script : Script) (sink : SinkState) → StoppedScript stop.NoMemory program script [] [] sink sink
-unbegun program script sink = record {
+pub unbegun : (program : Program) (script : Script) (sink : SinkState) → UndoReturns program deepest (start script) → StoppedScript stop.NoMemory program script [] [] sink sink
+unbegun program script sink law = record {
   broken = record {
     made = [];
     kills = [];
@@ -31,5 +33,6 @@ unbegun program script sink = record {
   came = refl;
   entries = λ p child e. absurd (let never = e in cc);
   sentinels = λ before after x p e entry. absurd (nothing_said before after x e);
+  undo = λ first second later _. law first second;
   roomy = λ few. refl;
 }

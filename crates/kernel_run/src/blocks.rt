@@ -26,7 +26,8 @@ fn ends(bounds: Bounds, size: usize) -> Option<(usize, usize)>
 
 /// Keeps the current buffer and point in it. A refusal leaves all as it was.
 fn keep_excursion(kernel: &mut Kernel) -> Mem<()>
-    ensures ok { OnOk result (state_of kernel.new ≡ opened (block_of Block.Excursion) (state_of kernel.old)) }
+    ensures ok { OnOk result (state_of kernel.new ≡
+        opened (block_of Block.Excursion) (state_of kernel.old)) }
     ensures err { OnErr result (state_of kernel.new ≡ state_of kernel.old) }
 {
     let buffer = kernel.editor.current();
@@ -36,7 +37,8 @@ fn keep_excursion(kernel: &mut Kernel) -> Mem<()>
 
 /// Keeps the current buffer and its accessible portion. A refusal leaves all as it was.
 fn keep_restriction(kernel: &mut Kernel) -> Mem<()>
-    ensures ok { OnOk result (state_of kernel.new ≡ opened (block_of Block.Restriction) (state_of kernel.old)) }
+    ensures ok { OnOk result (state_of kernel.new ≡
+        opened (block_of Block.Restriction) (state_of kernel.old)) }
     ensures err { OnErr result (state_of kernel.new ≡ state_of kernel.old) }
 {
     let buffer = kernel.editor.current();
@@ -66,7 +68,8 @@ pub fn open(kernel: &mut Kernel, block: Block) -> Mem<Kept>
 
 /// Makes a buffer current, if it lives.
 pub fn make_current(kernel: &mut Kernel, buffer: u32)
-    ensures { state_of kernel.new ≡ if_live (state_of kernel.old) buffer (current buffer (state_of kernel.old)) }
+    ensures { state_of kernel.new ≡ if_live (state_of kernel.old) buffer
+        (current buffer (state_of kernel.old)) }
 {
     if kernel.editor.is_live(buffer) {
         kernel.editor.set_current(buffer);
@@ -94,7 +97,8 @@ fn put_whole(kernel: &mut Kernel, buffer: u32)
 
 /// Makes a part of the text of a buffer accessible that lives.
 fn put_portion(kernel: &mut Kernel, buffer: u32, start: usize, end: usize)
-    requires place { IsKeptIn (editor_of kernel.old.editor) (marks.Restriction buffer (Some (start, end))) }
+    requires place { IsKeptIn (editor_of kernel.old.editor)
+        (marks.Restriction buffer (Some (start, end))) }
     requires ordered { start ≤ end }
     ensures { state_of kernel.new ≡
         put_back (marks.Restriction buffer (Some (start, end))) (state_of kernel.old) }

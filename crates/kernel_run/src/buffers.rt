@@ -88,7 +88,8 @@ fn kill_one(kernel: &mut Kernel, buffer: u32) -> Mem<Reply>
 /// Kills a buffer that lives, unless it is the last and none can be made in its place.
 fn kill_if_replaceable(kernel: &mut Kernel, buffer: u32) -> Mem<Reply>
     requires live { is_live (state_of kernel.old).editor buffer ≡ true }
-    ensures reply { IfOk result (λ r. reply_of r ≡ (killed_by (state_of kernel.old).editor buffer).reply) }
+    ensures reply { IfOk result (λ r. reply_of r ≡
+        (killed_by (state_of kernel.old).editor buffer).reply) }
     ensures ok { OnOk result (state_of kernel.new ≡
         record (state_of kernel.old) { editor = (killed_by (state_of kernel.old).editor buffer).editor }) }
     ensures err { OnErr result (state_of kernel.new ≡ state_of kernel.old) }
@@ -101,7 +102,8 @@ fn kill_if_replaceable(kernel: &mut Kernel, buffer: u32) -> Mem<Reply>
 
 /// Kills a buffer, if it lives. A refusal leaves all as it was.
 pub fn kill_live(kernel: &mut Kernel, buffer: u32) -> Mem<Reply>
-    ensures reply { IfOk result (λ r. reply_of r ≡ (killed_by (state_of kernel.old).editor buffer).reply) }
+    ensures reply { IfOk result (λ r. reply_of r ≡
+        (killed_by (state_of kernel.old).editor buffer).reply) }
     ensures ok { OnOk result (state_of kernel.new ≡
         record (state_of kernel.old) { editor = (killed_by (state_of kernel.old).editor buffer).editor }) }
     ensures err { OnErr result (state_of kernel.new ≡ state_of kernel.old) }

@@ -31,7 +31,8 @@ fn fits(kernel: &Kernel, change: &Change) -> bool
 /// Keeps the ends of a change, which move with the text. A refusal leaves all as it was; it is answered, too, where the ends
 /// don't lie in the text: no call prepares such a change.
 pub fn keep_ends(kernel: &mut Kernel, change: &Change) -> Mem<()>
-    ensures ok { OnOk result (state_of kernel.new ≡ begun (change_of change.now) (state_of kernel.old)) }
+    ensures ok { OnOk result (state_of kernel.new ≡
+        begun (change_of change.now) (state_of kernel.old)) }
     ensures err { OnErr result (state_of kernel.new ≡ state_of kernel.old) }
 {
     if !fits(kernel, change) {

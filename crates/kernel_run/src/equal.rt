@@ -34,7 +34,8 @@ pub fn are_equal(a: &Value, b: &Value) -> bool
 /// Whether two lists are as long, and equal one by one.
 #[cycle(equal)]
 fn each_equal(a: &Values, b: &Values) -> bool
-    ensures { result ≡ equal_each (values (map view (items_of a.now))) (values (map view (items_of b.now))) }
+    ensures { result ≡ equal_each (values (map view (items_of a.now)))
+        (values (map view (items_of b.now))) }
 {
     if a.len() != b.len() {
         return false;

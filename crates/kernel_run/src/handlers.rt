@@ -5,7 +5,8 @@ ghost use Rattle.plain_machine.specs.State.{change_process};
 ghost use Rattle.plain_machine.specs.Lines.{OfFilter};
 ghost use Rattle.plain_machine.specs.Forms.{if_live};
 ghost use Rattle.plain_machine.specs.Hooks.{set_hook_list};
-ghost use Rattle.plain_machine.specs.Handling.{bound_params, in_scope, left_state, plain_text, process_buffer_of, second, sentinel_words, unlisted};
+ghost use Rattle.plain_machine.specs.Handling.{bound_params, in_scope, left_state, plain_text};
+ghost use Rattle.plain_machine.specs.Handling.{process_buffer_of, second, sentinel_words, unlisted};
 ghost use Rattle.change_hooks.specs.Hooked.{hook};
 ghost use Rattle.ek_types.specs.Listing.{items_of};
 ghost use Rattle.ek_types.specs.Property.{number_of};
@@ -13,7 +14,8 @@ ghost use Rattle.ek_call.specs.Meaning.{view};
 ghost use Rattle.editor_prims.specs.Meaning.{prepared_of};
 ghost use Rattle.handler_code.specs.Calls.{allowed as may, call_asked};
 ghost use Rattle.handler_code.specs.Counts.{AreMade};
-ghost use Rattle.kernel_steps.specs.Handlers.{default_prepared, default_state, ended_state, hook_names, kind_of};
+ghost use Rattle.kernel_steps.specs.Handlers.{default_prepared, default_state, ended_state};
+ghost use Rattle.kernel_steps.specs.Handlers.{hook_names, kind_of};
 ghost use Rattle.kernel_run.specs.Defaults.{name_at, text_prepared};
 ghost use Rattle.kernel_run.specs.Meaning.{state_of};
 
@@ -84,7 +86,8 @@ pub fn end_handler(kernel: &mut Kernel, kind: Kind, faulted: bool)
 
 /// The hook functions of a kind, in a list of their own.
 pub fn hooks(kernel: &Kernel, kind: Kind) -> Mem<SymList>
-    ensures { IfOk result (λ names. map number_of (items_of names) ≡ hook_names (kind_of kind) (state_of kernel.now)) }
+    ensures { IfOk result (λ names. map number_of (items_of names) ≡
+        hook_names (kind_of kind) (state_of kernel.now)) }
 {
     match kind {
         Kind::Before(buffer) => kernel.hooks.names(buffer, true),
@@ -217,7 +220,8 @@ fn prepare_text(kernel: &mut Kernel, p: u32, text: Piece) -> Prepared
 pub fn prepare_default(kernel: &mut Kernel, kind: Kind, args: &Values) -> Mem<Prepared>
     ensures prepared { IfOk result (λ p. prepared_of p ≡
         default_prepared (kind_of kind) (map view (items_of args.now)) (state_of kernel.old)) }
-    ensures ok { OnOk result (state_of kernel.new ≡ default_state (kind_of kind) (state_of kernel.old)) }
+    ensures ok { OnOk result (state_of kernel.new ≡
+        default_state (kind_of kind) (state_of kernel.old)) }
     ensures err { OnErr result (state_of kernel.new ≡ state_of kernel.old) }
 {
     match kind {

@@ -10,8 +10,8 @@ ghost use Rattle.kernel_steps.specs.Waits.{Hears, IsAsked, IsHeardIf, Kills, ent
 ghost use Rattle.kernel_run.specs.Meaning.{state_of};
 
 use crate::kernel::Kernel;
-use handler_run::{Entry as Entered, ended, ready};
-use host_link::{Ended, Host};
+use handler_run::Entry as Entered;
+use host_link::Host;
 use kernel_steps::{Entry, Heard, Kind, Program, Stop};
 use process_table::Status;
 
@@ -84,9 +84,6 @@ pub fn kill<P: Program, H: Host>(
     if !is_running(kernel, p) {
         return Ok(None);
     }
-    let process = kernel.processes.get(p);
-    let slot = ready(kernel.alloc, process)?;
-    host.kill(process.child());
-    let entered = ended(&mut kernel.processes, p, slot, &Ended::Signal);
+    let entered = handler_run::kill(kernel.alloc, &mut kernel.processes, host, p)?;
     Ok(entry_of(p, entered))
 }

@@ -1,12 +1,24 @@
 //! What the calls on hooks and processes refuse, and in which order: void names, types, what is absent or dead, ranges,
 //! states, limits, depth, exchanges.
-ghost use Rattle.std.specs.Prelude.{◌≡◌, ◌+◌, ◌&&◌, ◌∷◌, [], not, map, drop, length, nat_le, option_map};
-ghost use Rattle.editor_model.specs.Values.{Prim, WrongType, ArgsOutOfRange, ProcessEnded, TooMany, AddHook, RemoveHook, KillBuffer, StartProcess, SetProcessFilter, SetProcessSentinel, SetProcessBuffer, ProcessSendString, ProcessSendEof, DeleteProcess, AcceptProcessOutput};
+ghost use Rattle.std.specs.Prelude.{◌≡◌, ◌+◌, ◌&&◌, ◌∷◌, [], not, map, drop, length, nat_le};
+ghost use Rattle.std.specs.Prelude.{option_map};
+ghost use Rattle.editor_model.specs.Values.{Prim, WrongType, ArgsOutOfRange, ProcessEnded, TooMany};
+ghost use Rattle.editor_model.specs.Values.{AddHook, RemoveHook, KillBuffer, StartProcess};
+ghost use Rattle.editor_model.specs.Values.{SetProcessFilter, SetProcessSentinel, SetProcessBuffer};
+ghost use Rattle.editor_model.specs.Values.{ProcessSendString, ProcessSendEof, DeleteProcess};
+ghost use Rattle.editor_model.specs.Values.{AcceptProcessOutput};
 ghost use Rattle.editor_model.specs.Answers.{first_fault, refuse};
 ghost use Rattle.editor_model.specs.Limits.{most_buffers, most_markers};
-ghost use Rattle.editor_model.specs.Arguments.{buffer_there, must_be_fewer, must_be_name, must_be_short};
-ghost use Rattle.plain_machine.specs.Refusals.{is_rounds, may_ask, most_processes, most_rounds, most_sent, must_ask, must_be_handler, must_be_process, must_be_process_or_nil, must_be_word, must_live_or_be_named, must_nest, only_where, process_there, rounds_of};
-ghost use Rattle.plain_machine.specs.Arguments.{encoded, is_closed, is_filter_place, is_handler_place, is_new_name, is_process_buffer, is_running};
+ghost use Rattle.editor_model.specs.Arguments.{buffer_there, must_be_fewer, must_be_name};
+ghost use Rattle.editor_model.specs.Arguments.{must_be_short};
+ghost use Rattle.plain_machine.specs.Refusals.{is_rounds, may_ask, most_processes, most_rounds};
+ghost use Rattle.plain_machine.specs.Refusals.{most_sent, must_ask, must_be_handler};
+ghost use Rattle.plain_machine.specs.Refusals.{must_be_process, must_be_process_or_nil};
+ghost use Rattle.plain_machine.specs.Refusals.{must_be_word, must_live_or_be_named, must_nest};
+ghost use Rattle.plain_machine.specs.Refusals.{only_where, process_there, rounds_of};
+ghost use Rattle.plain_machine.specs.Arguments.{encoded, is_closed, is_filter_place};
+ghost use Rattle.plain_machine.specs.Arguments.{is_handler_place, is_new_name, is_process_buffer};
+ghost use Rattle.plain_machine.specs.Arguments.{is_running};
 ghost use Rattle.plain_machine.specs.Hooks.{hook_added, is_hook};
 ghost use Rattle.plain_machine.specs.State.{State, Program as Plain};
 ghost use Rattle.ek_types.specs.Listing.{items_of};
@@ -262,7 +274,8 @@ fn test_remove_hook<P: Program>(program: &P, hook: &Value, function: &Value) -> 
 // BUFFERS
 
 fn test_kill_buffer(kernel: &Kernel, b: &Value) -> Result<(), Fault>
-    ensures { (machine : Plain) → fault_in result ≡ refusal_of machine (state_of kernel.now) KillBuffer (view b.now ∷ []) }
+    ensures { (machine : Plain) → fault_in result ≡
+        refusal_of machine (state_of kernel.now) KillBuffer (view b.now ∷ []) }
 {
     must_be_buffer_or_nil(b)?;
     buffer_there(&kernel.editor, b)?;

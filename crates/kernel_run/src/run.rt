@@ -23,8 +23,8 @@ impl Kernel {
     /// dump. The natives are handlers under their names, where the script has none of that name.
     ///
     /// Where it succeeds the lines are those of the plain machine's whole run. A run that was broken off says how far the
-    /// machine came; no child lives then. Filters are entered with just what was read, and sentinels come last. The
-    /// exchanges are the calls on the host.
+    /// machine came; no child lives then. Filters are entered with just what was read, sentinels come last, and undoing back
+    /// to a kept boundary gives its text back. The exchanges are the calls on the host.
     pub fn run_script<K: Sink, H: Host, N: Natives>(
         &mut self,
         script: &Script,
@@ -38,13 +38,16 @@ impl Kernel {
             Appends (K.state sink.old).held (K.state sink.new).held written
             × CallsSince H.state H.made host.old host.new exchanges
             × EndsAs result (program_with N.names N.does (script_of script.now) natives.now) (script_of script.now)
-            exchanges written (K.state sink.old) (K.state sink.new) }
+            exchanges written (K.state sink.old) (K.state sink.new) (state_of self.new).editor }
         ensures cause { HasCause (K.state sink.old).faults (K.state sink.new).faults (result ≡
             Err Stop.WriteFault) }
     {
         match RunProgram::new(self.alloc, script, natives) {
             Ok(program) => run_script(self, &program, script, host, sink),
-            Err(_) => Err(Stop::NoMemory),
+            Err(_) => {
+                machine_laws::undo_returns();
+                Err(Stop::NoMemory)
+            }
         }
     }
 }

@@ -1,5 +1,6 @@
 //! The parameters of the handlers that are running.
-ghost use Rattle.std.specs.Prelude.{◌≡◌, ◌==◌, ℕ, [], ◌∷◌, true, map, drop, is_some, option_map, IfOk, OnOk, OnErr};
+ghost use Rattle.std.specs.Prelude.{◌≡◌, ◌==◌, ℕ, [], ◌∷◌, true, map, drop, is_some, option_map};
+ghost use Rattle.std.specs.Prelude.{IfOk, OnOk, OnErr};
 ghost use Rattle.std.specs.List.{position};
 ghost use Rattle.editor_model.specs.Arguments.{arg};
 ghost use Rattle.editor_model.specs.Editor.{register, with_register};
@@ -91,7 +92,8 @@ impl Scopes {
 
     /// The value of a parameter of the innermost handler, if it has one of this name.
     pub fn value(&self, name: Sym) -> Option<&Value>
-        ensures { option_map (λ v. view v.now) result ≡ register (innermost (scopes_of self.now)) name.0 }
+        ensures { option_map (λ v. view v.now) result ≡
+            register (innermost (scopes_of self.now)) name.0 }
     {
         match self.list.last() {
             Some(scope) => value_in(scope.as_slice(), name),

@@ -1,13 +1,19 @@
 //! Calls on hooks and processes that ask the host nothing and enter nothing.
-ghost use Rattle.std.specs.Prelude.{◌≡◌, [], ◌∷◌, ◌++◌, ◌≤◌, ◌==◌, true, false, not, map, filter, length, if◌then◌else◌, IfOk, OnOk, OnErr, option_map, slice_get, Some};
+ghost use Rattle.std.specs.Prelude.{◌≡◌, [], ◌∷◌, ◌++◌, ◌≤◌, ◌==◌, true, false, not, map, filter};
+ghost use Rattle.std.specs.Prelude.{length, if◌then◌else◌, IfOk, OnOk, OnErr, option_map};
+ghost use Rattle.std.specs.Prelude.{slice_get, Some};
 ghost use Rattle.std.specs.List.{list_any};
-ghost use Rattle.editor_model.specs.Values.{Sym as symbol, AddHook, RemoveHook, SetProcessFilter, SetProcessSentinel, SetProcessBuffer, TheProcess, list};
+ghost use Rattle.editor_model.specs.Values.{Sym as symbol, AddHook, RemoveHook, SetProcessFilter};
+ghost use Rattle.editor_model.specs.Values.{SetProcessSentinel, SetProcessBuffer, TheProcess, list};
 ghost use Rattle.editor_model.specs.Arguments.{arg, symbol_of};
 ghost use Rattle.plain_machine.specs.State.{change_process, process};
 ghost use Rattle.plain_machine.specs.Arguments.{filter_of, sentinel_of};
-ghost use Rattle.plain_machine.specs.Calls.{buffer_value, exit_value, get_process, listed, of_buffer, status_symbol, told_of, told_of_one, with_filter, with_sentinel};
+ghost use Rattle.plain_machine.specs.Calls.{buffer_value, exit_value, get_process, listed};
+ghost use Rattle.plain_machine.specs.Calls.{of_buffer, status_symbol, told_of, told_of_one};
+ghost use Rattle.plain_machine.specs.Calls.{with_filter, with_sentinel};
 ghost use Rattle.plain_machine.specs.Arguments.{filter_value, sentinel_value};
-ghost use Rattle.plain_machine.specs.Hooks.{before_change_functions, hook_added, hook_removed, most_hooks};
+ghost use Rattle.plain_machine.specs.Hooks.{before_change_functions, hook_added, hook_removed};
+ghost use Rattle.plain_machine.specs.Hooks.{most_hooks};
 ghost use Rattle.process_table.specs.Meaning.{filter_of as filter_meant, status_of};
 ghost use Rattle.ek_types.specs.Listing.{items_of};
 ghost use Rattle.ek_types.specs.Property.{number_of};
@@ -109,7 +115,8 @@ fn without_hook(names: SymList, name: Sym) -> Mem<Values>
 
 /// Puts a function in front of a list of the current buffer, which then has at most 8. A refusal leaves all as it was.
 fn add_hook(kernel: &mut Kernel, hook: &Value, function: &Value) -> Mem<Value>
-    requires { length (hook_added (state_of kernel.old) (view hook.now) (view function.now)) ≤ most_hooks }
+    requires { length (hook_added (state_of kernel.old) (view hook.now) (view function.now)) ≤
+        most_hooks }
     ensures value { IfOk result (λ v. view v ≡
         list (map symbol (hook_added (state_of kernel.old) (view hook.now) (view function.now)))) }
     ensures ok { OnOk result (state_of kernel.new ≡
@@ -277,7 +284,8 @@ fn sentinel_of(v: &Value) -> Option<Sym>
 
 /// Gives a process that was made a filter.
 fn note_filter(kernel: &mut Kernel, p: u32, filter: Filter)
-    ensures { state_of kernel.new ≡ change_process p (with_filter (filter_meant filter)) (state_of kernel.old) }
+    ensures { state_of kernel.new ≡ change_process p (with_filter (filter_meant filter))
+        (state_of kernel.old) }
 {
     if p < kernel.processes.count() {
         kernel.processes.set_filter(p, filter);
@@ -299,7 +307,8 @@ fn set_filter(kernel: &mut Kernel, v: &Value, filter: &Value) -> Mem<Value>
 
 /// Gives a process that was made a sentinel.
 fn note_sentinel(kernel: &mut Kernel, p: u32, sentinel: Option<Sym>)
-    ensures { state_of kernel.new ≡ change_process p (with_sentinel (option_map number_of sentinel)) (state_of kernel.old) }
+    ensures { state_of kernel.new ≡ change_process p (with_sentinel (option_map number_of sentinel))
+        (state_of kernel.old) }
 {
     if p < kernel.processes.count() {
         kernel.processes.set_sentinel(p, sentinel);

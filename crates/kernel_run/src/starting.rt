@@ -7,13 +7,15 @@ ghost use Rattle.plain_machine.specs.Arguments.{is_new_name};
 ghost use Rattle.editor_model.specs.Values.{StartProcess};
 ghost use Rattle.plain_machine.specs.Refusals.{may_ask, most_sent};
 ghost use Rattle.plain_machine.specs.State.{change_process};
-ghost use Rattle.plain_machine.specs.Calls.{started, with_editor, with_input_closed, with_process_buffer};
+ghost use Rattle.plain_machine.specs.Calls.{started, with_editor, with_input_closed};
+ghost use Rattle.plain_machine.specs.Calls.{with_process_buffer};
 ghost use Rattle.ek_types.specs.Listing.{items_of};
 ghost use Rattle.ek_call.specs.Meaning.{view};
 ghost use Rattle.kernel_steps.specs.Processes.{asked_once, counted};
 ghost use Rattle.kernel_steps.specs.Waits.{Passes};
 ghost use Rattle.kernel_run.specs.Meaning.{state_of};
-ghost use Rattle.kernel_run.specs.Starting.{HasBuffer, HasPlace, IsPlaceFor, MayMake, MayStart, put_end, with_end};
+ghost use Rattle.kernel_run.specs.Starting.{HasBuffer, HasPlace, IsPlaceFor, MayMake, MayStart};
+ghost use Rattle.kernel_run.specs.Starting.{put_end, with_end};
 
 use crate::kernel::Kernel;
 use crate::place::StartPlace;
@@ -50,7 +52,8 @@ pub fn count_sent(kernel: &mut Kernel, bytes: usize)
 pub fn note_closed(kernel: &mut Kernel, p: u32)
     requires asked { may_ask (state_of kernel.old) ≡ true }
     requires made { p < length (state_of kernel.old).processes }
-    ensures { state_of kernel.new ≡ change_process p with_input_closed (asked_once (state_of kernel.old)) }
+    ensures { state_of kernel.new ≡ change_process p with_input_closed
+        (asked_once (state_of kernel.old)) }
 {
     kernel.asked += 1;
     kernel.processes.close_input(p);
@@ -80,7 +83,8 @@ fn reserve_buffer(kernel: &Kernel, b: &Value) -> Mem<Option<BufferRoom>>
 
 /// Room for a start with these arguments.
 fn reserve_place(kernel: &Kernel, args: &Values) -> Mem<StartPlace>
-    ensures { IfOk result (λ place. IsPlaceFor place (state_of kernel.now) (map view (items_of args.now))) }
+    ensures { IfOk result (λ place. IsPlaceFor place (state_of kernel.now)
+        (map view (items_of args.now))) }
 {
     let nil = nil();
     let name = name_of(kernel.alloc, arg(args, 0, &nil))?;
@@ -97,7 +101,8 @@ fn reserve_place(kernel: &Kernel, args: &Values) -> Mem<StartPlace>
 
 /// Takes all the memory that a start needs, for its process, its mark and its buffer. The state is as it was.
 pub fn reserve_process<P: Program>(kernel: &mut Kernel, program: &P, args: &Values) -> Mem<()>
-    requires { Passes (P.meant program.now) (state_of kernel.old) StartProcess (map view (items_of args.now)) }
+    requires { Passes (P.meant program.now) (state_of kernel.old) StartProcess
+        (map view (items_of args.now)) }
     ensures place { OnOk result (HasPlace kernel.new (map view (items_of args.now))) }
     ensures state { state_of kernel.new ≡ state_of kernel.old }
 {

@@ -135,7 +135,8 @@ fn words(alloc: Global, values: &[Value]) -> Mem<Vec<String>>
 /// The words of a command behind its program.
 fn all_words(alloc: Global, args: &Values) -> Mem<Vec<String>>
     requires { list_all is_word (drop 3 (map view (items_of args.now))) ≡ true }
-    ensures { IfOk result (λ words. map string_bytes words.items ≡ words_of (map view (items_of args.now))) }
+    ensures { IfOk result (λ words. map string_bytes words.items ≡
+        words_of (map view (items_of args.now))) }
 {
     if args.len() <= 3 {
         return Ok(Vec::new(alloc));
@@ -145,7 +146,8 @@ fn all_words(alloc: Global, args: &Values) -> Mem<Vec<String>>
 
 /// The program that a start asks for, and its arguments.
 pub fn command<P: Program>(kernel: &Kernel, program: &P, args: &Values) -> Mem<Command>
-    requires { Passes (P.meant program.now) (state_of kernel.now) StartProcess (map view (items_of args.now)) }
+    requires { Passes (P.meant program.now) (state_of kernel.now) StartProcess
+        (map view (items_of args.now)) }
     ensures program { IfOk result (λ command. string_bytes command.program ≡
         bytes_of (arg (map view (items_of args.now)) 2)) }
     ensures words { IfOk result (λ command. map string_bytes command.words.items ≡

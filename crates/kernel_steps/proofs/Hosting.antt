@@ -13,7 +13,7 @@ use Rattle.plain_machine.specs.Calls.{with_filter, with_sentinel, of_buffer, wit
 use Rattle.process_table.specs.Table.{kept}
 use Rattle.kernel_steps.specs.Worlds.{Hosted, kept_state, children, running}
 
-hosted_set : (xs : List Process) (p : ℕ) (x y : Process) (kills : List Bool) → slice_get xs p ≡ Some x → y.child ≡ x.child → (runs y.status ≡ true → runs x.status ≡ true) → Hosted xs kills → Hosted (slice_set xs p y) kills
+pub hosted_set : (xs : List Process) (p : ℕ) (x y : Process) (kills : List Bool) → slice_get xs p ≡ Some x → y.child ≡ x.child → (runs y.status ≡ true → runs x.status ≡ true) → Hosted xs kills → Hosted (slice_set xs p y) kills
 hosted_set [] p x y kills e child ends h = tt
 hosted_set (z ∷ xs) zero x y kills e child ends (small, lives, later, rest) =
     let same : z ≡ x = let s : Some z ≡ Some x = e in cc in

@@ -171,10 +171,11 @@ module _ (program : Program) (before : World) (from : Config) (now : World) wher
       the_dump w written = subst (λ l. Writes now.outside.sink sink w l) (dump_line program.symbols now.state last_state h.stands) written
 
       ends_whole : {T E : Type 0} (v : T) → Writes {T = T} {E = E} now.outside.sink sink (Ok v) (line program.symbols now.state Dumped) →
-          (last : Config) × (step program deepest last ≡ Ended) × Goes program before.outside (outside sink now.outside.past) from last
+          (last : Config) × (step program deepest last ≡ Ended) × Stands now.state last.state × Goes program before.outside (outside sink now.outside.past) from last
       ends_whole {T = T} {E = E} v written = (
         working last_state [],
         refl,
+        h.stands,
         goes_then program before.outside now.outside (outside sink now.outside.past) from dumping (working last_state []) to_dump
             (says program now.outside.sink sink now.outside.past dumping (machine_says program last_state Dumped last_state []) dumped v refl refl (the_dump {T = T} {E = E} (Ok v) written)),
       )

@@ -9,6 +9,7 @@ use Rattle.plain_machine.specs.Run.{Reaches, lines, start}
 use Rattle.plain_machine.specs.WholeRuns.{Ran, BrokenOff, AreKills}
 use Rattle.machine_laws.specs.Children.{KillsLeft}
 use Rattle.machine_laws.specs.Entries.{RanEntries, BrokenEntries, Sentinels}
+use Rattle.machine_laws.specs.UndoneRuns.{UndoReturns}
 use Rattle.host_link.specs.Hosts.{HostState}
 use Rattle.ek_types.specs.Io.{SinkState, HasCause}
 use Rattle.kernel_steps.specs.HostCalls.{CallsSince}
@@ -33,24 +34,28 @@ module _ (program : Program) (script : Script) where
     b = record { state = known; kills = (state now).kills; outside = record { sink = new; past = CallsSince state made start_host now } }
 
     -- how a run ended
-    pub ended : {T : Type 0} (r : Result T Stop) → KillsLeft program deepest (start script) → RanEntries program deepest script → BrokenEntries program deepest script → Sentinels program deepest (start script) →
+    pub ended : {T : Type 0} (r : Result T Stop) → KillsLeft program deepest (start script) → RanEntries program deepest script → BrokenEntries program deepest script → Sentinels program deepest (start script) → UndoReturns program deepest (start script) →
         IsOver r program (origin state made start_host old) b (start script) →
-        (written : List ℕ) × (exchanges : List Exchange) × Appends old.held new.held written × CallsSince state made start_host now exchanges × EndsAs r program script exchanges written old new
-    ended (Ok x) left hear hear_broken come h =
-        let (last, ended, gone) = h.finishes in
+        (written : List ℕ) × (exchanges : List Exchange) × Appends old.held new.held written × CallsSince state made start_host now exchanges × EndsAs r program script exchanges written old new known.editor
+    ended (Ok x) left hear hear_broken come undo h =
+        let (last, ended, stands, gone) = h.finishes in
         let run : Ran program deepest script gone.made (lines gone.said) = record { said = gone.said; last = last; run = gone.run; ended = ended; bytes = refl } in (
           lines gone.said,
           gone.made,
           gone.written,
           all_calls state made start_host now gone.made gone.adds,
-          record {
-            ran = run;
-            entries = hear gone.made (lines gone.said) run;
-            sentinels = sentinels_last come gone.made gone.said last gone.run;
-            roomy = λ few. (gone.roomy few).faults;
-          },
+          (
+            record {
+              ran = run;
+              entries = hear gone.made (lines gone.said) run;
+              sentinels = sentinels_last come gone.made gone.said last gone.run;
+              undo = λ first second later _. undo first second;
+              roomy = λ few. (gone.roomy few).faults;
+            },
+            sym (ap (λ (s : State). s.editor) stands),
+          ),
         )
-    ended (Err why) left hear hear_broken come h =
+    ended (Err why) left hear hear_broken come undo h =
         let k = h.finishes in
         let broken : BrokenOff program deepest script (k.made ++ k.kills) k.bytes = record {
           made = k.made;
@@ -73,6 +78,7 @@ module _ (program : Program) (script : Script) where
             came = k.came;
             entries = hear_broken (k.made ++ k.kills) k.bytes broken;
             sentinels = sentinels_last come k.made k.said k.last k.run;
+            undo = λ first second later _. undo first second;
             roomy = k.roomy;
           },
         )

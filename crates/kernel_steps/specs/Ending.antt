@@ -14,7 +14,7 @@ use Rattle.host_link.specs.Hosts.{HostState}
 use Rattle.ek_types.specs.Io.{SinkState, HasCause}
 use Rattle.kernel_steps.specs.HostCalls.{CallsSince}
 use Rattle.kernel_steps.specs.Outside.{deepest, Outside, outside, Adds, Goes, CameTo}
-use Rattle.kernel_steps.specs.Worlds.{World, world, running, children}
+use Rattle.kernel_steps.specs.Worlds.{World, Stands, world, running, children}
 use Rattle.kernel_steps.specs.Work.{working, GoesTo, Comes, lifted}
 use Rattle.kernel_steps.specs.declared.stop.Stop.{Stop}
 use Rattle.kernel_steps.specs.declared.stop.Stop.TheVariants as stop
@@ -60,7 +60,7 @@ pub record IsAtEnd {T : Type 0} (so_far : Result T Stop) (program : Program) (p 
 
 -- the whole run has ended, or was broken off and no child is left
 abbrev pub Finishes : {T : Type 0} → Result T Stop → Program → (before now : World) → (from : Config) → Type 0
-Finishes (Ok x) program before now from = (last : Config) × (step program deepest last ≡ Ended) × Goes program before.outside now.outside from last
+Finishes (Ok x) program before now from = (last : Config) × (step program deepest last ≡ Ended) × Stands now.state last.state × Goes program before.outside now.outside from last
 Finishes (Err why) program before now from = Halts why program before.outside now.outside from []
 
 pub record IsOver {T : Type 0} (result : Result T Stop) (program : Program) (before now : World) (from : Config) : Type 0 where

@@ -1,12 +1,14 @@
 -- What the run of a script comes to: the bytes that it wrote, and the exchanges that it made.
 use Rattle.std.specs.Prelude.{◌≡◌, ℕ, ◌≤◌, true, false, All, List, ◌∷◌, ◌++◌, length, slice_get, Some, Result, Ok, Err}
 use Rattle.editor_model.specs.Values.{Script}
+use Rattle.editor_model.specs.Editor.{Editor}
 use Rattle.plain_machine.specs.Exchanges.{Exchange, children_started}
 use Rattle.plain_machine.specs.State.{Program}
 use Rattle.plain_machine.specs.Items.{Said}
 use Rattle.plain_machine.specs.Run.{lines, start}
 use Rattle.plain_machine.specs.WholeRuns.{Ran, BrokenOff}
 use Rattle.machine_laws.specs.Entries.{entered, heard, is_entry, has_entry}
+use Rattle.machine_laws.specs.UndoneRuns.{UndoReturnsBetween}
 use Rattle.ek_types.specs.Io.{SinkState}
 use Rattle.kernel_steps.specs.Outside.{deepest, CameTo}
 use Rattle.kernel_steps.specs.Ending.{IsAnsweredKill}
@@ -22,11 +24,18 @@ abbrev pub SentinelsComeLast : List Said → Type 0
 SentinelsComeLast said =
     (before after : List Said) (x : Said) (p : ℕ) → said ≡ before ++ x ∷ after → is_entry true p x.event ≡ true → (has_entry true p after ≡ false) × (has_entry false p after ≡ false)
 
+-- Between any two moments of these exchanges: undoing back to a boundary that is still kept gave the text of the moment at which it
+-- was pushed, with its properties.
+abbrev pub UndoGivesBack : Program → Script → List Exchange → Type 0
+UndoGivesBack program script exchanges =
+    (first second later : List Exchange) → exchanges ≡ first ++ (second ++ later) → UndoReturnsBetween program deepest (start script) first second
+
 -- A run that came to its end. The sink hasn't failed where it had room for what was written.
 pub record RanScript (program : Program) (script : Script) (exchanges : List Exchange) (written : List ℕ) (before now : SinkState) : Type 0 where
   pub ran : Ran program deepest script exchanges written
   pub entries : AreHeard exchanges ran.said
   pub sentinels : SentinelsComeLast ran.said
+  pub undo : UndoGivesBack program script exchanges
   pub roomy : length written ≤ before.room → now.faults ≡ before.faults
 
 -- A run that was broken off. For want of memory what it wrote is whole lines: with all entries, for it isn't broken off between
@@ -38,9 +47,10 @@ pub record StoppedScript (why : Stop) (program : Program) (script : Script) (exc
   pub came : CameTo why program (start script) broken.made broken.said broken.last written
   pub entries : AreHeard broken.made broken.said
   pub sentinels : SentinelsComeLast broken.said
+  pub undo : UndoGivesBack program script broken.made
   pub roomy : length (lines broken.said) ≤ before.room → now.faults ≡ before.faults
 
--- how the run of a script ended, by its result
-abbrev pub EndsAs : {T : Type 0} → Result T Stop → Program → Script → List Exchange → (written : List ℕ) → (before now : SinkState) → Type 0
-EndsAs (Ok x) program script exchanges written before now = RanScript program script exchanges written before now
-EndsAs (Err why) program script exchanges written before now = StoppedScript why program script exchanges written before now
+-- How the run of a script ended, by its result. One that came to its end left the machine's last editor.
+abbrev pub EndsAs : {T : Type 0} → Result T Stop → Program → Script → List Exchange → (written : List ℕ) → (before now : SinkState) → (left : Editor) → Type 0
+EndsAs (Ok x) program script exchanges written before now left = (whole : RanScript program script exchanges written before now) × (whole.ran.last.state.editor ≡ left)
+EndsAs (Err why) program script exchanges written before now left = StoppedScript why program script exchanges written before now

@@ -5,7 +5,8 @@ ghost use Rattle.ek_types.specs.Listing.{items_of};
 ghost use Rattle.ek_types.specs.Property.{number_of};
 ghost use Rattle.ek_call.specs.Meaning.{reply_of, view};
 ghost use Rattle.handler_code.specs.Calls.{call_asked};
-ghost use Rattle.kernel_steps.specs.Handlers.{Handles, RepliesTo, RunsCode, ended_by, kind_of, reply_by};
+ghost use Rattle.kernel_steps.specs.Handlers.{Handles, RepliesTo, RunsCode, ended_by, kind_of};
+ghost use Rattle.kernel_steps.specs.Handlers.{reply_by};
 ghost use Rattle.kernel_steps.specs.Work.{Does, lifted};
 ghost use Rattle.kernel_steps.specs.Worlds.{Between, IsReady, MayEnter};
 

@@ -1,8 +1,10 @@
 //! What a run keeps.
-ghost use Rattle.std.specs.Prelude.{◌≡◌, ◌+◌, ◌-◌, ◌<◌, ◌≤◌, IsSome, true, length, map, string_bytes, IfOk, OnOk, OnErr, option_map};
+ghost use Rattle.std.specs.Prelude.{◌≡◌, ◌+◌, ◌-◌, ◌<◌, ◌≤◌, IsSome, true, length, map};
+ghost use Rattle.std.specs.Prelude.{string_bytes, IfOk, OnOk, OnErr, option_map};
 ghost use Rattle.editor_model.specs.Values.{equal};
 ghost use Rattle.editor_model.specs.Prims.{manner_of};
-ghost use Rattle.editor_model.specs.Table.{query as query_of, apply as apply_of, prepare as prepare_of, commit as commit_of};
+ghost use Rattle.editor_model.specs.Table.{query as query_of, apply as apply_of};
+ghost use Rattle.editor_model.specs.Table.{prepare as prepare_of, commit as commit_of};
 ghost use Rattle.plain_machine.specs.State.{State};
 ghost use Rattle.plain_machine.specs.Forms.{value_of, assigned, kept_of, opened, restored};
 ghost use Rattle.plain_machine.specs.Handling.{bound_params, in_scope, left_state};
@@ -13,7 +15,8 @@ ghost use Rattle.ek_call.specs.Meaning.{view, reply_of};
 ghost use Rattle.ek_call.specs.Primitives.{prim_of};
 ghost use Rattle.kernel_steps.specs.Work.{Answers, Stays, lifted};
 ghost use Rattle.kernel_steps.specs.Worlds.{Between, IsReady};
-ghost use Rattle.kernel_steps.specs.Waits.{Hears, IsAsked, IsHeardIf, Kills, Passes, killed_by, refusal_of, waiting_of};
+ghost use Rattle.kernel_steps.specs.Waits.{Hears, IsAsked, IsHeardIf, Kills, Passes, killed_by};
+ghost use Rattle.kernel_steps.specs.Waits.{refusal_of, waiting_of};
 ghost use Rattle.editor_model.specs.Arguments.{arg, buffer_of};
 ghost use Rattle.plain_machine.specs.Arguments.{is_running, process_of, running_in};
 ghost use Rattle.ek_call.specs.Faults.{fault_of};
@@ -21,14 +24,16 @@ ghost use Rattle.plain_machine.specs.Items.{Waiting};
 ghost use Rattle.plain_machine.specs.Refusals.{may_ask, most_sent};
 ghost use Rattle.plain_machine.specs.State.{change_process};
 ghost use Rattle.plain_machine.specs.Calls.{started, with_input_closed};
-ghost use Rattle.kernel_steps.specs.Processes.{IsSilent, asked_once, bytes_of, counted, set_by, told_by, words_of};
+ghost use Rattle.kernel_steps.specs.Processes.{IsSilent, asked_once, bytes_of, counted, set_by};
+ghost use Rattle.kernel_steps.specs.Processes.{told_by, words_of};
 ghost use Rattle.editor_model.specs.Values.{StartProcess};
 ghost use Rattle.ek_types.specs.Io.{SinkState};
 ghost use Rattle.ek_types.specs.Property.{number_of};
 ghost use Rattle.editor_prims.specs.Meaning.{change_of, committed_of, prepared_of};
 ghost use Rattle.kernel_steps.specs.Changes.{begun, behind_commit, done_at, ends_behind, ends_of};
 ghost use Rattle.handler_code.specs.Calls.{allowed, call_asked};
-ghost use Rattle.kernel_steps.specs.Handlers.{default_prepared, default_state, ended_state, hook_names, kind_of};
+ghost use Rattle.kernel_steps.specs.Handlers.{default_prepared, default_state, ended_state};
+ghost use Rattle.kernel_steps.specs.Handlers.{hook_names, kind_of};
 ghost use Rattle.kernel_steps.specs.Blocks.{block_of, kept_as, manner_as};
 
 use crate::program::Program;
@@ -209,7 +214,8 @@ pub trait Kernel {
 
     /// The ends of a change, as its hook functions get them.
     fn ends(alloc: Global, change: &Change) -> Mem<Values>
-        ensures { IfOk result (λ args. map view (items_of args) ≡ ends_of change.now.from change.now.to) };
+        ensures { IfOk result (λ args. map view (items_of args) ≡
+            ends_of change.now.from change.now.to) };
 
     /// The ends behind a change, and the length before it.
     fn ends_behind(alloc: Global, from: usize, to: usize, old: usize) -> Mem<Values>
@@ -349,7 +355,8 @@ pub trait Kernel {
 
     /// Kills a buffer that lives. A refusal leaves all as it was.
     fn kill_live(&mut self, buffer: u32) -> Mem<Reply>
-        ensures reply { IfOk result (λ r. reply_of r ≡ (killed_by (state self.old).editor buffer).reply) }
+        ensures reply { IfOk result (λ r. reply_of r ≡
+            (killed_by (state self.old).editor buffer).reply) }
         ensures ok { OnOk result (state self.new ≡
             record (state self.old) { editor = (killed_by (state self.old).editor buffer).editor }) }
         ensures err { OnErr result (state self.new ≡ state self.old) };
@@ -373,7 +380,8 @@ pub trait Kernel {
 
     /// The bytes of the text that is to be sent, the second argument: UTF-8, with raw bytes as they are.
     fn bytes_given(&self, args: &Values) -> Mem<Vec<u8>>
-        ensures { IfOk result (λ bytes. bytes.items ≡ bytes_of (arg (map view (items_of args.now)) 1)) };
+        ensures { IfOk result (λ bytes. bytes.items ≡
+            bytes_of (arg (map view (items_of args.now)) 1)) };
 
     /// Counts an exchange.
     fn count_asked(&mut self)
@@ -394,7 +402,8 @@ pub trait Kernel {
 
     /// The program that a start asks for, and its arguments.
     fn command<P: Program>(&self, program: &P, args: &Values) -> Mem<Command>
-        requires { Passes (P.meant program.now) (state self.now) StartProcess (map view (items_of args.now)) }
+        requires { Passes (P.meant program.now) (state self.now) StartProcess
+            (map view (items_of args.now)) }
         ensures program { IfOk result (λ command. string_bytes command.program ≡
             bytes_of (arg (map view (items_of args.now)) 2)) }
         ensures words { IfOk result (λ command. map string_bytes command.words.items ≡
@@ -403,7 +412,8 @@ pub trait Kernel {
     /// Takes all the memory that a start needs, for its process, its mark and its buffer. The state
     /// is as it was.
     fn reserve_process<P: Program>(&mut self, program: &P, args: &Values) -> Mem<()>
-        requires { Passes (P.meant program.now) (state self.old) StartProcess (map view (items_of args.now)) }
+        requires { Passes (P.meant program.now) (state self.old) StartProcess
+            (map view (items_of args.now)) }
         ensures place { OnOk result (has_place self.new (map view (items_of args.now))) }
         ensures state { state self.new ≡ state self.old };
 

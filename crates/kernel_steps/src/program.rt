@@ -27,7 +27,8 @@ pub trait Program {
 
     /// The parameters of a handler: those of the script's of its name, else none.
     fn params(&self, handler: Option<Sym>) -> &[Sym]
-        ensures { map number_of result.now ≡ params_of (meant self.now) (option_map number_of handler) };
+        ensures { map number_of result.now ≡ params_of (meant self.now)
+            (option_map number_of handler) };
 
     /// Whether a name is that of a handler of the script or of a native.
     fn is_handler(&self, name: Sym) -> bool

@@ -22,7 +22,8 @@ use host_link::Host;
 ///
 /// Where it succeeds the lines are those of the plain machine's whole run. A run that was broken
 /// off says how far the machine came; no child lives then. Filters are entered with just what was
-/// read, and sentinels come last. The exchanges are the calls on the host.
+/// read, sentinels come last, and undoing back to a kept boundary gives its text back. The
+/// exchanges are the calls on the host.
 pub fn run_script<M: Kernel, P: Program, H: Host, K: Sink>(
     kernel: &mut M,
     program: &P,
@@ -36,7 +37,7 @@ pub fn run_script<M: Kernel, P: Program, H: Host, K: Sink>(
         Appends (K.state sink.old).held (K.state sink.new).held written
         × CallsSince H.state H.made host.old host.new exchanges
         × EndsAs result (P.meant program.now) (script_of script.now) exchanges written
-        (K.state sink.old) (K.state sink.new) }
+        (K.state sink.old) (K.state sink.new) (M.state kernel.new).editor }
     ensures cause { HasCause (K.state sink.old).faults (K.state sink.new).faults (result ≡
         Err Stop.WriteFault) }
 {
@@ -44,6 +45,7 @@ pub fn run_script<M: Kernel, P: Program, H: Host, K: Sink>(
     machine_laws::whole_runs_hear_all();
     machine_laws::broken_runs_hear_all();
     machine_laws::sentinels_come_last();
+    machine_laws::undo_returns();
     let ran = run_top(kernel, program, host, sink, &script.forms);
     finish(ran, kernel, program, host, sink)
 }

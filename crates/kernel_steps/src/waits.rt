@@ -8,7 +8,8 @@ ghost use Rattle.plain_machine.specs.Items.{Delete};
 ghost use Rattle.ek_types.specs.Listing.{items_of};
 ghost use Rattle.ek_call.specs.Meaning.{view};
 ghost use Rattle.ek_call.specs.Primitives.{prim_of};
-ghost use Rattle.kernel_steps.specs.Waits.{AsksIn, DeletesAll, EntersIf, IsHeardIf, Passes, WaitsOn, truth_of};
+ghost use Rattle.kernel_steps.specs.Waits.{AsksIn, DeletesAll, EntersIf, IsHeardIf, Passes};
+ghost use Rattle.kernel_steps.specs.Waits.{WaitsOn, truth_of};
 ghost use Rattle.kernel_steps.specs.Work.{Answers, Does, lifted};
 ghost use Rattle.kernel_steps.specs.Worlds.{Between, IsReady};
 

@@ -1,24 +1,32 @@
 -- What follows from how a script ended, and from the outcome of a call.
-use Rattle.std.proofs.Common.{◌≡◌, ℕ, ◌<◌, List, [], length, Some, None, Result, Ok, Err, inl, inr, refl, subst, arith}
-use Rattle.std.specs.Prelude.{◌⊎◌}
+use Rattle.std.proofs.Common.{◌≡◌, ℕ, ◌<◌, Bool, true, false, List, [], ◌∷◌, length, Some, None, Result, Ok, Err, inl, inr, refl, sym, ◌∙◌, subst, arith}
+use Rattle.std.specs.Prelude.{◌⊎◌, nat_lt}
+use Rattle.std.proofs.lemmas.Bool.{ltb-true, ltb-false}
 use Rattle.std.specs.declared.option.Option.{Option}
-use Rattle.std.specs.Io.KnownBytes.{Consumes, IsAtEnd}
+use Rattle.std.specs.Io.KnownBytes.{Consumes, IsAtEnd, Appends}
+use Rattle.std.proofs.KnownBytes.{Appends-nil}
 use Rattle.editor_model.specs.Values.{Script}
+use Rattle.editor_model.specs.Editor.{Editor}
 use Rattle.plain_machine.specs.Exchanges.{Ask, Answer, Exchange}
 use Rattle.plain_machine.specs.State.{Program}
 use Rattle.plain_machine.specs.Grammar.{longest_script, IsScript}
-use Rattle.ek_types.specs.Io.{SourceState, SinkState, Rose}
+use Rattle.plain_machine.specs.Drill.{drill_script, is_run, drill_of}
+use Rattle.ek_types.specs.Io.{SourceState, SinkState, Rose, Writes}
 use Rattle.host_link.specs.Hosts.{HostState}
+use Rattle.editor_model.specs.Editor.{Editor}
 use Rattle.kernel_steps.specs.Outcomes.{EndsAs}
 use Rattle.kernel_steps.specs.declared.stop.Stop.{Stop}
 use Rattle.kernel_steps.specs.declared.stop.Stop.TheVariants as stop
-use Rattle.kernel_top.specs.Words.{IsRun}
-use Rattle.kernel_top.specs.Reading.{HasEnded, IsAll}
-use Rattle.kernel_top.specs.Outcomes.{status_of, Seen, seen, IsQuiet, IsNoScript, Outcome, Came, CameOf, Completes}
+use Rattle.kernel_top.specs.Words.{IsRun, IsDrill, IsKnown}
+use Rattle.kernel_top.specs.Reading.{HasEnded, IsAll, IsGivenUp}
+use Rattle.kernel_top.specs.declared.reading.Refused.{Refused}
+use Rattle.kernel_top.specs.declared.reading.Refused.TheVariants as refused
+use Rattle.kernel_top.specs.Drills.{SumsUp}
+use Rattle.kernel_top.specs.Outcomes.{status_of, written_status, Seen, seen, IsQuiet, IsNoScript, OnRun, OnDrill, OnOthers, Outcome, of_run, of_drill, of_others, Came, CameSo, OfBytes, Completes, CompletesRun, CompletesDrill}
 use Rattle.kernel_top.specs.declared.status.Status.{Status}
 use Rattle.kernel_top.specs.declared.status.Status.TheVariants as status
 use Rattle.kernel_steps.proofs.HostCalls.{calls_told}
-use Rattle.kernel_top.proofs.Taking.{all_read, front_only}
+use Rattle.kernel_top.proofs.Taking.{all_read, front_only, consumes_nothing}
 
 -- STATUSES
 pub is_write_fault : {T : Type 0} (r : Result T Stop) → status_of r ≡ status.WriteFault → r ≡ Err stop.WriteFault
@@ -31,32 +39,115 @@ is_no_read_fault (Ok x) e = let no : status.Done ≡ status.ReadFault = e in cc
 is_no_read_fault (Err stop.WriteFault) e = let no : status.WriteFault ≡ status.ReadFault = e in cc
 is_no_read_fault (Err stop.NoMemory) e = let no : status.NoMemory ≡ status.ReadFault = e in cc
 
+pub is_known : {T : Type 0} (r : Result T Stop) → status_of r ≡ status.Usage → ⊥
+is_known (Ok x) e = let no : status.Done ≡ status.Usage = e in cc
+is_known (Err stop.WriteFault) e = let no : status.WriteFault ≡ status.Usage = e in cc
+is_known (Err stop.NoMemory) e = let no : status.NoMemory ≡ status.Usage = e in cc
+
 -- THE OUTCOME
 pub quiet : (source source' : SourceState) (sink : SinkState) (host : HostState) → IsQuiet [] [] (seen source sink host) (seen source' sink host)
 quiet source source' sink host = record { nothing = refl; alone = refl; sink = refl; host = refl }
 
 -- what a script came to that was run
-pub came : {T : Type 0} (program : Script → Program) (script : Script) (r : Result T Stop) (words : List (List ℕ)) (read written : List ℕ) (exchanges : List Exchange) (before now : Seen) →
-    IsRun words → HasEnded before.source.left now.source.left → IsScript read script → EndsAs r (program script) script exchanges written before.sink now.sink →
-    Outcome program (status_of r) words read written exchanges before now
-came program script (Ok x) words read written exchanges before now run ended is so = (run, record { ended = ended; script = script; is = is; so = so })
-came program script (Err stop.WriteFault) words read written exchanges before now run ended is so = (run, record { ended = ended; script = script; is = is; so = so })
-came program script (Err stop.NoMemory) words read written exchanges before now run ended is so = (run, inr (record { ended = ended; script = script; is = is; so = so }))
+pub came : {T : Type 0} (program : Script → Program) (script : Script) (r : Result T Stop) (read written : List ℕ) (exchanges : List Exchange) (before now : Seen) (left : Editor) →
+    HasEnded before.source.left now.source.left → IsScript read script → EndsAs r (program script) script exchanges written before.sink now.sink left →
+    OnRun program (status_of r) read written exchanges before now
+came program script (Ok x) read written exchanges before now left ended is (so, last) = record { ended = ended; script = script; is = is; so = so }
+came program script (Err stop.WriteFault) read written exchanges before now left ended is so = record { ended = ended; script = script; is = is; so = so }
+came program script (Err stop.NoMemory) read written exchanges before now left ended is so = inr (record { ended = ended; script = script; is = is; so = so })
 
--- and so it is of the bytes of a source, and the host has told its calls
-pub came_from : {H : Type 0} (hosted : H → HostState) (made : H → H → Ask → ℕ → Answer → Type 0) (program : Script → Program) (words : List (List ℕ)) (bytes : List ℕ) (answer : Status) (start now : H) (source source' : SourceState) (sink sink' : SinkState) →
-    IsRun words → IsAll bytes source source' → CameOf hosted made program bytes answer start now sink sink' → Came hosted made program words answer start now source source' sink sink'
-came_from hosted made program words bytes answer start now source source' sink sink' run all of = record {
-  read = bytes;
-  written = of.written;
-  exchanges = of.exchanges;
-  taken = all.taken;
-  few = omega (arith, all.short);
-  put = of.put;
-  calls = of.calls;
-  told = calls_told hosted made start now of.exchanges of.calls;
-  outcome = of.outcome words source source' run all.ended;
-}
+-- what a drill came to whose summary was written, or a front of it
+abbrev Drilled : (program : Script → Program) (count : ℕ) → Status → List Exchange → (sink sink' : SinkState) → (written : List ℕ) → Type 0
+Drilled program count answer exchanges sink sink' written = (source source' : SourceState) (host host' : HostState) → OnDrill program count answer written exchanges (seen source sink host) (seen source' sink' host')
+
+pub summed : {T E : Type 0} (program : Script → Program) (count : ℕ) (r : Result T E) (line : List ℕ) (exchanges : List Exchange) (sink sink' : SinkState) →
+    SumsUp (program (drill_script count)) count exchanges line → Writes sink sink' r line →
+    (written : List ℕ) × Appends sink.held sink'.held written × Drilled program count (written_status r) exchanges sink sink' written
+summed program count (Ok x) line exchanges sink sink' sums w = (line, w.ok, λ source source' host host'. (sums, λ few. (w.roomy few).faults))
+summed program count (Err e) line exchanges sink sink' sums w =
+    let (front, is_front, put) = w.err in
+    (front, put, λ source source' host host'. record { line = line; sums = sums; front = is_front; room = by (nat_lt sink.room (length line)) refl })
+  where
+    by : (b : Bool) → nat_lt sink.room (length line) ≡ b → sink.room < length line
+    by true e = ltb-true sink.room (length line) e
+    by false e = absurd (let no = (w.roomy (ltb-false sink.room (length line) e)).ok in cc)
+
+module _ {H : Type 0} (hosted : H → HostState) (made : H → H → Ask → ℕ → Answer → Type 0) (program : Script → Program) (words : List (List ℕ)) (answer : Status) (start now : H) (source source' : SourceState) (sink sink' : SinkState) where
+  -- so it is of the bytes of a source, and the host has told its calls
+  pub came_from : (bytes : List ℕ) → IsRun words → IsAll bytes source source' → CameSo hosted made start now sink sink' (OfBytes program bytes answer) → Came hosted made program words answer start now source source' sink sink'
+  came_from bytes run all of = record {
+    read = bytes;
+    written = of.written;
+    exchanges = of.exchanges;
+    taken = all.taken;
+    few = omega (arith, all.short);
+    put = of.put;
+    calls = of.calls;
+    told = calls_told hosted made start now of.exchanges of.calls;
+    outcome = of_run run (of.so source source' all.ended);
+  }
+
+  -- so it is of a drill, whose source is as it was
+  pub came_drilled : (count : ℕ) → IsDrill words count → CameSo hosted made start now sink sink' (OnDrill program count answer) → Came hosted made program words answer start now source source sink sink'
+  came_drilled count drill of = record {
+    read = [];
+    written = of.written;
+    exchanges = of.exchanges;
+    taken = consumes_nothing source.left;
+    few = omega arith;
+    put = of.put;
+    calls = of.calls;
+    told = calls_told hosted made start now of.exchanges of.calls;
+    outcome = of_drill count drill (refl, refl) (of.so source source);
+  }
+
+  -- so it is where reading was given up, and nothing else was done
+  pub came_given_up : (why : Refused) → IsRun words → IsGivenUp why source source' → ((bytes : List ℕ) → (why ≡ refused.TooLong → longest_script < length bytes) → OnRun program answer bytes [] [] (seen source sink (hosted start)) (seen source' sink (hosted start))) → Came hosted made program words answer start start source source' sink sink
+  came_given_up why run given_up row = record {
+    read = given_up.bytes;
+    written = [];
+    exchanges = [];
+    taken = given_up.taken;
+    few = given_up.few;
+    put = Appends-nil sink.held;
+    calls = refl;
+    told = calls_told hosted made start start [] refl;
+    outcome = of_run run (row given_up.bytes given_up.long);
+  }
+
+  -- so it is of words that the program doesn't know
+  pub came_unknown : (IsKnown words → ⊥) → OnOthers answer [] [] (seen source sink (hosted start)) (seen source sink (hosted start)) → Came hosted made program words answer start start source source sink sink
+  came_unknown never row = record {
+    read = [];
+    written = [];
+    exchanges = [];
+    taken = consumes_nothing source.left;
+    few = omega arith;
+    put = Appends-nil sink.held;
+    calls = refl;
+    told = calls_told hosted made start start [] refl;
+    outcome = of_others never (refl, refl) row;
+  }
+
+-- a drill comes to no read fault
+pub drill_reads_nothing : {H : Type 0} (hosted : H → HostState) (made : H → H → Ask → ℕ → Answer → Type 0) (program : Script → Program) (count : ℕ) (answer : Status) (start now : H) (sink sink' : SinkState) (source : SourceState) →
+    CameSo hosted made start now sink sink' (OnDrill program count answer) → answer ≡ status.ReadFault → ⊥
+drill_reads_nothing hosted made program count answer start now sink sink' source of e =
+    subst (λ a. OnDrill program count a of.written of.exchanges (seen source sink (hosted start)) (seen source sink' (hosted now))) e (of.so source source)
+
+-- more bytes than a script may have are none
+pub too_long : (bytes : List ℕ) → longest_script < length bytes → IsNoScript bytes 0
+too_long bytes long = record { none = λ script is. omega (arith, is.short, long); at = inl (long, refl) }
+
+-- WORDS
+pub not_both : (words : List (List ℕ)) (count : ℕ) → IsRun words → IsDrill words count → ⊥
+not_both [] count run drill = let no : false ≡ true = run in cc
+not_both (w ∷ []) count run drill = let no : None ≡ Some count = drill in cc
+not_both (w ∷ x ∷ words) count run drill = let no : false ≡ true = run in cc
+
+pub unknown : (words : List (List ℕ)) → is_run words ≡ false → None ≡ drill_of words → IsKnown words → ⊥
+unknown words no_run no_drill (inl run) = let no : false ≡ true = sym no_run ∙ run in cc
+unknown words no_run no_drill (inr (count, drill)) = let no : None ≡ Some count = no_drill ∙ drill in cc
 
 -- COMPLETENESS
 -- a script is not refused
@@ -74,12 +165,32 @@ no_script_read bytes read script line before now told taken (inr long) is refuse
     omega (arith, long, front_only bytes read now all, is.short)
 
 module _ (program : Script → Program) (words : List (List ℕ)) (read written : List ℕ) (exchanges : List Exchange) (source source' : SourceState) (sink sink' : SinkState) (host host' : HostState) (taken : Consumes source.left source'.left read) where
-  -- where neither source nor sink failed, a script is run to its end, or memory was wanting
-  pub completes : (result : Status) → Outcome program result words read written exchanges (seen source sink host) (seen source' sink' host') → (result ≡ status.ReadFault → Rose source.faults source'.faults) → (result ≡ status.WriteFault → Rose sink.faults sink'.faults) →
+  abbrev before : Seen
+  before = seen source sink host
+
+  abbrev now : Seen
+  now = seen source' sink' host'
+
+  run_row : (result : Status) → OnRun program result read written exchanges before now → (result ≡ status.ReadFault → Rose source.faults source'.faults) → (result ≡ status.WriteFault → Rose sink.faults sink'.faults) →
+      CompletesRun result words source source' sink sink'
+  run_row status.Done o r w = λ bytes script run told is unread unwritten. inl refl
+  run_row status.NoMemory o r w = λ bytes script run told is unread unwritten. inr refl
+  run_row status.Usage o r w = λ bytes script run told is unread unwritten. absurd o
+  run_row (status.Script line) (ended, refused, kept) r w = λ bytes script run told is unread unwritten. absurd (no_script_read bytes read script line source.left source'.left told taken ended is refused)
+  run_row status.ReadFault o r w = λ bytes script run told is unread unwritten. absurd (unread (r refl))
+  run_row status.WriteFault o r w = λ bytes script run told is unread unwritten. absurd (unwritten (w refl))
+
+  drill_row : (n : ℕ) (result : Status) → OnDrill program n result written exchanges before now → (result ≡ status.WriteFault → Rose sink.faults sink'.faults) → CompletesDrill result words sink sink'
+  drill_row n status.Done o w = λ count is unwritten. inl refl
+  drill_row n status.NoMemory o w = λ count is unwritten. inr refl
+  drill_row n status.Usage o w = λ count is unwritten. absurd o
+  drill_row n (status.Script line) o w = λ count is unwritten. absurd o
+  drill_row n status.ReadFault o w = λ count is unwritten. absurd o
+  drill_row n status.WriteFault o w = λ count is unwritten. absurd (unwritten (w refl))
+
+  -- where neither source nor sink failed, a script or a drill is run to its end, or memory was wanting
+  pub completes : (result : Status) → Outcome program result words read written exchanges before now → (result ≡ status.ReadFault → Rose source.faults source'.faults) → (result ≡ status.WriteFault → Rose sink.faults sink'.faults) →
       Completes result words source source' sink sink'
-  completes status.Done o r w = λ bytes script run told is unread unwritten. inl refl
-  completes status.NoMemory o r w = λ bytes script run told is unread unwritten. inr refl
-  completes status.Usage (never, none, nothing, alone, kept) r w = λ bytes script run told is unread unwritten. absurd (never run)
-  completes (status.Script line) (first, ended, refused, kept) r w = λ bytes script run told is unread unwritten. absurd (no_script_read bytes read script line source.left source'.left told taken ended is refused)
-  completes status.ReadFault o r w = λ bytes script run told is unread unwritten. absurd (unread (r refl))
-  completes status.WriteFault o r w = λ bytes script run told is unread unwritten. absurd (unwritten (w refl))
+  completes result (of_run run row) r w = record { run = run_row result row r w; drill = λ count is unwritten. absurd (not_both words count run is) }
+  completes result (of_drill n drill unread row) r w = record { run = λ bytes script run told is unread unwritten. absurd (not_both words n run drill); drill = drill_row n result row w }
+  completes result (of_others never unread row) r w = record { run = λ bytes script run told is unread unwritten. absurd (never (inl run)); drill = λ count is unwritten. absurd (never (inr (count, is))) }

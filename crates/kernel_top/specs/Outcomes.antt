@@ -1,18 +1,20 @@
--- What the top call claims, by its status: of the bytes read, of the bytes written, and of the exchanges made.
+-- What the top call claims, by its words and its status: of the bytes read, of the bytes written, and of the exchanges made.
 use Rattle.std.specs.Prelude.{◌≡◌, ℕ, ◌+◌, ◌<◌, ◌≤◌, ◌⊎◌, List, [], length, Some, Result, Ok, Err}
 use Rattle.std.specs.Io.KnownBytes.{Consumes, Appends}
 use Rattle.editor_model.specs.Values.{Script}
 use Rattle.plain_machine.specs.Exchanges.{Ask, Answer, Exchange}
 use Rattle.plain_machine.specs.State.{Program}
 use Rattle.plain_machine.specs.Grammar.{longest_script, IsScript, IsFaultLine}
-use Rattle.ek_types.specs.Io.{SourceState, SinkState, Rose}
+use Rattle.plain_machine.specs.Drill.{drill_script}
+use Rattle.ek_types.specs.Io.{SourceState, SinkState, Rose, IsPrefixOf}
 use Rattle.host_link.specs.Hosts.{HostState}
 use Rattle.kernel_steps.specs.HostCalls.{CallsSince, Tells}
 use Rattle.kernel_steps.specs.Outcomes.{RanScript, StoppedScript}
 use Rattle.kernel_steps.specs.declared.stop.Stop.{Stop}
 use Rattle.kernel_steps.specs.declared.stop.Stop.TheVariants as stop
-use Rattle.kernel_top.specs.Words.{IsRun}
+use Rattle.kernel_top.specs.Words.{IsRun, IsDrill, IsKnown}
 use Rattle.kernel_top.specs.Reading.{HasEnded}
+use Rattle.kernel_top.specs.Drills.{SumsUp, BreaksOff}
 use Rattle.kernel_top.specs.declared.status.Status.{Status}
 use Rattle.kernel_top.specs.declared.status.Status.TheVariants as status
 
@@ -21,6 +23,11 @@ abbrev pub status_of : {T : Type 0} → Result T Stop → Status
 status_of (Ok x) = status.Done
 status_of (Err stop.WriteFault) = status.WriteFault
 status_of (Err stop.NoMemory) = status.NoMemory
+
+-- the status of a summary, by whether it was written
+abbrev pub written_status : {T E : Type 0} → Result T E → Status
+written_status (Ok x) = status.Done
+written_status (Err e) = status.WriteFault
 
 -- what a source, a sink and a host mean
 pub record Seen : Type 0 where
@@ -50,20 +57,54 @@ pub record IsNoScript (read : List ℕ) (line : ℕ) : Type 0 where
   pub none : (script : Script) → IsScript read script → ⊥
   pub at : IsFaultLine read line
 
--- `read` are the bytes taken from the source, and `written` those put in the sink. The program is that of a script.
-abbrev pub Outcome : (Script → Program) → Status → (words : List (List ℕ)) → (read written : List ℕ) → List Exchange → (before now : Seen) → Type 0
-Outcome program status.Done words read written exchanges before now =
-    IsRun words × OfScript read before now (λ script. RanScript (program script) script exchanges written before.sink now.sink)
-Outcome program status.Usage words read written exchanges before now =
-    (IsRun words → ⊥) × (read ≡ []) × (written ≡ []) × (exchanges ≡ []) × (now ≡ before)
-Outcome program (status.Script line) words read written exchanges before now =
-    IsRun words × (HasEnded before.source.left now.source.left ⊎ (longest_script < length read)) × IsNoScript read line × IsQuiet written exchanges before now
-Outcome program status.ReadFault words read written exchanges before now =
-    IsRun words × IsQuiet written exchanges before now
-Outcome program status.WriteFault words read written exchanges before now =
-    IsRun words × OfScript read before now (λ script. StoppedScript stop.WriteFault (program script) script exchanges written before.sink now.sink)
-Outcome program status.NoMemory words read written exchanges before now =
-    IsRun words × (IsQuiet written exchanges before now ⊎ OfScript read before now (λ script. StoppedScript stop.NoMemory (program script) script exchanges written before.sink now.sink))
+-- BY STATUS. `read` are the bytes taken from the source, and `written` those put in the sink. The program is that of a script.
+-- the word `run`
+abbrev pub OnRun : (Script → Program) → Status → (read written : List ℕ) → List Exchange → (before now : Seen) → Type 0
+OnRun program status.Done read written exchanges before now =
+    OfScript read before now (λ script. RanScript (program script) script exchanges written before.sink now.sink)
+OnRun program status.Usage read written exchanges before now = ⊥
+OnRun program (status.Script line) read written exchanges before now =
+    (HasEnded before.source.left now.source.left ⊎ (longest_script < length read)) × IsNoScript read line × IsQuiet written exchanges before now
+OnRun program status.ReadFault read written exchanges before now = IsQuiet written exchanges before now
+OnRun program status.WriteFault read written exchanges before now =
+    OfScript read before now (λ script. StoppedScript stop.WriteFault (program script) script exchanges written before.sink now.sink)
+OnRun program status.NoMemory read written exchanges before now =
+    IsQuiet written exchanges before now ⊎ OfScript read before now (λ script. StoppedScript stop.NoMemory (program script) script exchanges written before.sink now.sink)
+
+-- the summary was written, and the sink hasn't failed where it had room for it
+abbrev pub WritesSummary : (program : Program) → (count : ℕ) → (written : List ℕ) → List Exchange → (before now : Seen) → Type 0
+WritesSummary program count written exchanges before now =
+    SumsUp program count exchanges written × (length written ≤ before.sink.room → now.sink.faults ≡ before.sink.faults)
+
+-- a front of the summary was written, as the sink had no room for the whole
+pub record CutsSummary (program : Program) (count : ℕ) (written : List ℕ) (exchanges : List Exchange) (before : Seen) : Type 0 where
+  pub line : List ℕ
+  pub sums : SumsUp program count exchanges line
+  pub front : IsPrefixOf written line
+  pub room : before.sink.room < length line
+
+-- the words `drill` and a number
+abbrev pub OnDrill : (Script → Program) → (count : ℕ) → Status → (written : List ℕ) → List Exchange → (before now : Seen) → Type 0
+OnDrill program count status.Done written exchanges before now = WritesSummary (program (drill_script count)) count written exchanges before now
+OnDrill program count status.WriteFault written exchanges before now = CutsSummary (program (drill_script count)) count written exchanges before
+OnDrill program count status.NoMemory written exchanges before now =
+    IsQuiet written exchanges before now ⊎ ((written ≡ []) × (now.sink ≡ before.sink) × BreaksOff (program (drill_script count)) count exchanges)
+OnDrill program count _ written exchanges before now = ⊥
+
+-- other words
+abbrev pub OnOthers : Status → (written : List ℕ) → List Exchange → (before now : Seen) → Type 0
+OnOthers status.Usage written exchanges before now = IsQuiet written exchanges before now
+OnOthers _ written exchanges before now = ⊥
+
+-- nothing was read
+abbrev pub IsUnread : (read : List ℕ) → (before now : Seen) → Type 0
+IsUnread read before now = (read ≡ []) × (now.source ≡ before.source)
+
+-- BY WORDS
+pub data Outcome (program : Script → Program) (answer : Status) (words : List (List ℕ)) (read written : List ℕ) (exchanges : List Exchange) (before now : Seen) : Type 0 where
+  of_run : IsRun words → OnRun program answer read written exchanges before now → Outcome program answer words read written exchanges before now
+  of_drill : (count : ℕ) → IsDrill words count → IsUnread read before now → OnDrill program count answer written exchanges before now → Outcome program answer words read written exchanges before now
+  of_others : (IsKnown words → ⊥) → IsUnread read before now → OnOthers answer written exchanges before now → Outcome program answer words read written exchanges before now
 
 -- What a call came to. The bytes read and written are those that source and sink tell, where they tell any. The exchanges
 -- are the calls that were made on the host, which tells them where it tells any.
@@ -78,17 +119,29 @@ pub record Came {H : Type 0} (hosted : H → HostState) (made : H → H → Ask 
   pub told : Tells (hosted start).told (hosted now).told exchanges
   pub outcome : Outcome program answer words read written exchanges (seen source sink (hosted start)) (seen source' sink' (hosted now))
 
--- What became of bytes that were read, from whatever source that has ended.
-pub record CameOf {H : Type 0} (hosted : H → HostState) (made : H → H → Ask → ℕ → Answer → Type 0) (program : Script → Program) (bytes : List ℕ) (answer : Status) (start now : H) (sink sink' : SinkState) : Type 0 where
+-- What a call came to but for its source, whatever that is.
+pub record CameSo {H : Type 0} (hosted : H → HostState) (made : H → H → Ask → ℕ → Answer → Type 0) (start now : H) (sink sink' : SinkState) (So : (written : List ℕ) → List Exchange → (before now : Seen) → Type 0) : Type 0 where
   pub written : List ℕ
   pub exchanges : List Exchange
   pub put : Appends sink.held sink'.held written
   pub calls : CallsSince hosted made start now exchanges
-  pub outcome : (words : List (List ℕ)) (source source' : SourceState) → IsRun words → HasEnded source.left source'.left →
-      Outcome program answer words bytes written exchanges (seen source sink (hosted start)) (seen source' sink' (hosted now))
+  pub so : (source source' : SourceState) → So written exchanges (seen source sink (hosted start)) (seen source' sink' (hosted now))
+
+-- what became of bytes that were all that a source had
+abbrev pub OfBytes : (Script → Program) → (bytes : List ℕ) → Status → (written : List ℕ) → List Exchange → (before now : Seen) → Type 0
+OfBytes program bytes answer written exchanges before now = HasEnded before.source.left now.source.left → OnRun program answer bytes written exchanges before now
 
 -- Where neither source nor sink failed, a script is run to its end, or memory was wanting.
-abbrev pub Completes : Status → (words : List (List ℕ)) → (source source' : SourceState) → (sink sink' : SinkState) → Type 0
-Completes answer words source source' sink sink' =
+abbrev pub CompletesRun : Status → (words : List (List ℕ)) → (source source' : SourceState) → (sink sink' : SinkState) → Type 0
+CompletesRun answer words source source' sink sink' =
     (bytes : List ℕ) (script : Script) → IsRun words → source.left ≡ Some bytes → IsScript bytes script →
     (Rose source.faults source'.faults → ⊥) → (Rose sink.faults sink'.faults → ⊥) → (answer ≡ status.Done) ⊎ (answer ≡ status.NoMemory)
+
+-- where the sink didn't fail, a drill is run to its end, or memory was wanting
+abbrev pub CompletesDrill : Status → (words : List (List ℕ)) → (sink sink' : SinkState) → Type 0
+CompletesDrill answer words sink sink' =
+    (count : ℕ) → IsDrill words count → (Rose sink.faults sink'.faults → ⊥) → (answer ≡ status.Done) ⊎ (answer ≡ status.NoMemory)
+
+pub record Completes (answer : Status) (words : List (List ℕ)) (source source' : SourceState) (sink sink' : SinkState) : Type 0 where
+  pub run : CompletesRun answer words source source' sink sink'
+  pub drill : CompletesDrill answer words sink sink'

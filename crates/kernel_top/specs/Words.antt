@@ -1,6 +1,19 @@
 -- The words that the program knows.
-use Rattle.std.specs.Prelude.{◌≡◌, ℕ, List, [], ◌∷◌, codes}
+use Rattle.std.specs.Prelude.{◌≡◌, ◌⊎◌, ℕ, true, List, Option, Some, None, if◌then◌else◌}
+use Rattle.plain_machine.specs.Words.{digits_value}
+use Rattle.plain_machine.specs.Drill.{is_run, is_drill_number, drill_of}
 
--- the command line has one word
+-- the words are `run` alone
 abbrev pub IsRun : List (List ℕ) → Type 0
-IsRun words = words ≡ codes "run" ∷ []
+IsRun words = is_run words ≡ true
+
+-- the words are `drill` and this number
+abbrev pub IsDrill : List (List ℕ) → (count : ℕ) → Type 0
+IsDrill words count = drill_of words ≡ Some count
+
+abbrev pub IsKnown : List (List ℕ) → Type 0
+IsKnown words = IsRun words ⊎ ((count : ℕ) × IsDrill words count)
+
+-- the number that one to four digits spell
+abbrev pub number_of : List ℕ → Option ℕ
+number_of word = if is_drill_number word then Some (digits_value 0 word) else None

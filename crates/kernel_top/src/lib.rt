@@ -1,13 +1,21 @@
-//! The top call: from the words of the command line and the bytes of a source to the lines of a run.
+//! The top call: from the words of the command line and the bytes of a source to the lines of a run. And the drill, by which
+//! the program measures itself.
 #![tactic(auto)]
 
+mod counting;
+mod drill_child;
+mod drill_script;
+mod drilling;
 mod reading;
 mod status;
+mod summing;
 mod top;
 mod words;
 
+pub use drilling::drill;
 pub use status::Status;
 pub use top::run;
+pub use words::drill_of;
 
 #[cfg(test)]
 mod tests;

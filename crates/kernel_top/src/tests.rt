@@ -1,10 +1,17 @@
 //! Whole runs in memory.
 
+mod acting;
 mod cuts;
+mod drills;
 mod edits;
 mod filters;
+mod hooks;
+mod hostile;
 mod limits;
+mod natives;
+mod nesting;
 mod playing;
+mod reentry;
 mod shown;
 mod stops;
 mod undos;

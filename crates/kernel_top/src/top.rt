@@ -1,12 +1,15 @@
 //! The top call.
-ghost use Rattle.std.specs.Prelude.{◌≡◌, ◌≢◌, ◌^◌, ◌≤◌, length, map, string_bytes, IsTrue};
+ghost use Rattle.std.specs.Prelude.{◌≡◌, ◌≢◌, ◌^◌, ◌≤◌, ℕ, List, length, map, string_bytes, IsTrue};
 ghost use Rattle.ek_types.specs.Io.{HasCause};
 ghost use Rattle.kernel_run.specs.Whole.{program_with};
-ghost use Rattle.kernel_top.specs.Outcomes.{Came, CameOf, Completes};
+ghost use Rattle.kernel_top.specs.Words.{IsRun};
+ghost use Rattle.kernel_top.specs.Outcomes.{Came, CameSo, OfBytes, OnDrill, Completes};
 
+use crate::drilling::drill;
 use crate::reading::{Refused, read_all};
-use crate::status::{Status, status_of};
-use crate::words::is_run;
+use crate::status::{Status, status_of, written_status};
+use crate::summing::{count_run, write_summary};
+use crate::words::{drill_of, is_run};
 use ek_types::{Sink, Source};
 use handler_code::Natives;
 use host_link::Host;
@@ -23,10 +26,10 @@ fn run_bytes<K: Sink, H: Host, N: Natives>(
     natives: &N,
 ) -> Status
     requires { length (H.state host.old).kills ≤ 2 ^ 31 }
-    ensures outcome { CameOf H.state H.made
-        (λ script. program_with N.names N.does script natives.now) bytes.now result
-        host.old host.new (K.state sink.old) (K.state sink.new) }
+    ensures outcome { CameSo H.state H.made host.old host.new (K.state sink.old) (K.state sink.new)
+        (OfBytes (λ script. program_with N.names N.does script natives.now) bytes.now result) }
     ensures no_read { result ≢ Status.ReadFault }
+    ensures known { result ≢ Status.Usage }
     ensures write_fault { HasCause (K.state sink.old).faults (K.state sink.new).faults
         (result ≡ Status.WriteFault) }
 {
@@ -43,18 +46,76 @@ fn run_bytes<K: Sink, H: Host, N: Natives>(
     status_of(ended)
 }
 
-/// Reads the script that the source holds, runs it, and writes its lines and the dump to the sink. The words are those
-/// behind the program's name; only `run` alone is known.
+/// Reads the script that the source holds, and runs it.
+fn run_source<S: Source, K: Sink, H: Host, N: Natives>(
+    alloc: Global,
+    source: &mut S,
+    sink: &mut K,
+    host: &mut H,
+    natives: &N,
+) -> Status
+    requires { length (H.state host.old).kills ≤ 2 ^ 31 }
+    ensures outcome { (words : List (List ℕ)) → IsRun words → Came H.state H.made
+        (λ script. program_with N.names N.does script natives.now) words result
+        host.old host.new (S.state source.old) (S.state source.new) (K.state sink.old) (K.state sink.new) }
+    ensures known { result ≢ Status.Usage }
+    ensures read_fault { HasCause (S.state source.old).faults (S.state source.new).faults
+        (result ≡ Status.ReadFault) }
+    ensures write_fault { HasCause (K.state sink.old).faults (K.state sink.new).faults
+        (result ≡ Status.WriteFault) }
+    ensures unfailing { IsTrue (S.state source.old).unfailing →
+        (S.state source.new).faults ≡ (S.state source.old).faults }
+{
+    match read_all(alloc, source) {
+        Ok(bytes) => run_bytes(alloc, bytes.as_slice(), sink, host, natives),
+        Err(Refused::Failed) => Status::ReadFault,
+        Err(Refused::TooLong) => Status::Script(0),
+        Err(Refused::NoMemory) => Status::NoMemory,
+    }
+}
+
+/// Runs the script of a drill on a kernel of its own, and writes the summary.
+fn run_drill<K: Sink, H: Host, N: Natives>(
+    alloc: Global,
+    count: u32,
+    sink: &mut K,
+    host: &mut H,
+    natives: &N,
+) -> Status
+    requires { length (H.state host.old).kills ≤ 2 ^ 31 }
+    ensures outcome { CameSo H.state H.made host.old host.new (K.state sink.old) (K.state sink.new)
+        (OnDrill (λ script. program_with N.names N.does script natives.now) count result) }
+    ensures write_fault { HasCause (K.state sink.old).faults (K.state sink.new).faults
+        (result ≡ Status.WriteFault) }
+{
+    let Ok((script, _)) = drill(alloc, count) else {
+        return Status::NoMemory;
+    };
+    let Ok(mut kernel) = Kernel::new(alloc) else {
+        return Status::NoMemory;
+    };
+    let counted = count_run(&mut kernel, &script, natives, host);
+    kernel.close();
+    let Ok(counts) = counted else {
+        return Status::NoMemory;
+    };
+    written_status(write_summary(count, &counts, sink))
+}
+
+/// The words are those behind the program's name. `run` reads the script that the source holds, runs it, and writes
+/// its lines and the dump to the sink. `drill` and a number of one to four digits reads nothing: it runs the script
+/// of that drill on the host, and writes one line that tells how many lines, exchanges and characters this came to.
 ///
-/// The status says what was read and written, as `outcome` has it: for `Done` the lines are those of the plain machine's
-/// whole run on the script, whose handlers are its own and the natives. Filters are entered with just what was read, and
-/// sentinels come last. The exchanges of the run are the calls on the host, each with what the host says of itself that it
-/// did, and a read has room for 4,096 bytes. A run whose write fails stops at that line; the children that live are killed
-/// then, each once.
+/// The status says what was read and written, as `outcome` has it: for `Done` the lines are those of the plain
+/// machine's whole run on the script, whose handlers are its own and the natives. Filters are entered with just what
+/// was read, sentinels come last, and undoing back to a kept boundary gives its text back. The exchanges of the run
+/// are the calls on the host, each with what the host says of itself that it did, and a read has room for 4,096
+/// bytes. A run whose write fails stops at that line; the children that live are killed then, each once. The line of
+/// a drill is the summary of the plain machine's whole run on the drill's script, over just the exchanges made.
 ///
-/// The source doesn't fail where it is known not to (`unfailing`), nor the sink where it has room for what the run says.
-/// No more than one byte behind the longest script, of 1,048,576 bytes, is asked of the source. Bytes that are no script,
-/// and no others, are answered by `Script` with the line of the fault.
+/// The source doesn't fail where it is known not to (`unfailing`), nor the sink where it has room for what the run
+/// says. No more than one byte behind the longest script, of 1,048,576 bytes, is asked of the source. Bytes that are
+/// no script, and no others, are answered by `Script` with the line of the fault.
 pub fn run<S: Source, K: Sink, H: Host, N: Natives>(
     alloc: Global,
     words: &[String],
@@ -77,13 +138,11 @@ pub fn run<S: Source, K: Sink, H: Host, N: Natives>(
     ensures complete { Completes result (map string_bytes words.now)
         (S.state source.old) (S.state source.new) (K.state sink.old) (K.state sink.new) }
 {
-    if !is_run(words) {
-        return Status::Usage;
+    if is_run(words) {
+        return run_source(alloc, source, sink, host, natives);
     }
-    match read_all(alloc, source) {
-        Ok(bytes) => run_bytes(alloc, bytes.as_slice(), sink, host, natives),
-        Err(Refused::Failed) => Status::ReadFault,
-        Err(Refused::TooLong) => Status::Script(0),
-        Err(Refused::NoMemory) => Status::NoMemory,
+    match drill_of(words) {
+        Some(count) => run_drill(alloc, count, sink, host, natives),
+        None => Status::Usage,
     }
 }

@@ -4,11 +4,12 @@ use Rattle.std.specs.Prelude.{if◌then◌else◌, ◌==◌, nat_lt, slice_get, 
 use Rattle.std.proofs.lemmas.Option.{slice_get_past, slice_get_within, same_Some, none-some}
 use Rattle.std.proofs.lemmas.Bool.{ltb-true, ltb-false, cases_order, cases_eq}
 use Rattle.std.proofs.lemmas.List.{length-append}
-use Rattle.text_model.specs.Marks.{Marks, Marker, Spot, leave_buffer, marker_left}
+use Rattle.text_model.specs.Marks.{Marks, Marker, Spot, leave_buffer, marker_left, Span, Overlay, overlay_left}
 use Rattle.text_model.specs.Commit.{Site}
 use Rattle.text_model.proofs.Cases.{by_test}
 use Rattle.text_model.proofs.Lists.{set_same, set_other, get_front}
-use Rattle.machine_laws.proofs.Fits.{SpotFits, MarkersFit, MarksFit, GoodSite, shapes}
+use Rattle.machine_laws.specs.Fits.{SpotFits, MarkersFit, MarksFit, GoodSite, SpanFits, OverlaysFit}
+use Rattle.machine_laws.specs.Brackets.{shapes}
 use Rattle.machine_laws.proofs.OneBuffer.{passes_self}
 use Rattle.machine_laws.proofs.Sites.{SiteStep, site_after}
 use Rattle.editor_model.specs.Editor.{Editor, Live, live, buffer_at, empty_buffer, change_site, with_buffer, renamed, named_as, killed, live_from, Name}
@@ -32,7 +33,7 @@ live_within e id l h = go (slice_get e.buffers id) refl h
 pub live_below : (e : Editor) (id : ℕ) (l : Live) → live e id ≡ Some l → id < length e.buffers
 live_below e id l h = slice_get_within e.buffers id (Some l) (live_within e id l h)
 
-live_past : (e : Editor) (id : ℕ) → length e.buffers ≤ id → live e id ≡ None
+pub live_past : (e : Editor) (id : ℕ) → length e.buffers ≤ id → live e id ≡ None
 live_past e id h = ap (λ o. unwrap_or o None) (slice_get_past e.buffers id h)
 
 pub buffer_live : (e : Editor) (id : ℕ) (l : Live) → live e id ≡ Some l → buffer_at e id ≡ l.buffer
@@ -249,13 +250,13 @@ empty_good id marks f = record {
   fits = record { begin_fits = omega arith; end_fits = omega arith; point_fits = omega arith; marks_fit = f };
 }
 
-with_buffer_old : (name : Name) (e : Editor) (id : ℕ) → id < length e.buffers → live (with_buffer name e) id ≡ live e id
+pub with_buffer_old : (name : Name) (e : Editor) (id : ℕ) → id < length e.buffers → live (with_buffer name e) id ≡ live e id
 with_buffer_old name e id h = ap (λ o. unwrap_or o None) (get_front e.buffers (Some (record { name = name; buffer = empty_buffer }) ∷ []) id h)
 
-with_buffer_new : (name : Name) (e : Editor) → live (with_buffer name e) (length e.buffers) ≡ Some (record { name = name; buffer = empty_buffer })
+pub with_buffer_new : (name : Name) (e : Editor) → live (with_buffer name e) (length e.buffers) ≡ Some (record { name = name; buffer = empty_buffer })
 with_buffer_new name e = ap (λ o. unwrap_or o None) (get_new e.buffers (Some (record { name = name; buffer = empty_buffer })))
 
-with_buffer_longer : (name : Name) (e : Editor) → length (with_buffer name e).buffers ≡ length e.buffers + 1
+pub with_buffer_longer : (name : Name) (e : Editor) → length (with_buffer name e).buffers ≡ length e.buffers + 1
 with_buffer_longer name e = length-append e.buffers (Some (record { name = name; buffer = empty_buffer }) ∷ [])
 
 with_buffer_good : (name : Name) (e : Editor) → GoodEditor e → GoodEditor (with_buffer name e)
@@ -291,6 +292,14 @@ left_fits b id size (m ∷ ms) h = (one m.spot h.0, left_fits b id size ms h.1)
     one None k = tt
     one (Some s) k = by_test (λ x. SpotFits id size x) (s.buffer == b) None (Some s) (λ q. tt) (λ q. k)
 
+overlays_left : (b id size : ℕ) (os : List Overlay) → OverlaysFit id size os → OverlaysFit id size (map (overlay_left b) os)
+overlays_left b id size [] h = tt
+overlays_left b id size (o ∷ os) h = (one o.span h.0, overlays_left b id size os h.1)
+  where
+    one : (x : Option Span) → SpanFits id size x → SpanFits id size (elim x [ None ↦ None | Some s ↦ if s.buffer == b then None else Some s ])
+    one None k = tt
+    one (Some s) k = by_test (λ y. SpanFits id size y) (s.buffer == b) None (Some s) (λ q. tt) (λ q. k)
+
 current_advances : (e new : Editor) (id : ℕ) → Advances e new → Advances e (record new { current = id })
 current_advances e new id a = record { good = record { each = a.good.each; unborn = a.good.unborn }; longer = a.longer; dead = a.dead; passes = a.passes }
 
@@ -301,7 +310,7 @@ killed_advances id e g = go (live_from 0 gone.buffers) (e.current == id)
     gone = record e { buffers = slice_set e.buffers id None; marks = leave_buffer id e.marks }
 
     a : Advances e gone
-    a = set_none_advances e gone id g refl (λ j size h. record { markers = left_fits id j size e.marks.markers h.markers; saved = h.saved })
+    a = set_none_advances e gone id g refl (λ j size h. record { markers = left_fits id j size e.marks.markers h.markers; overlays = overlays_left id j size e.marks.overlays h.overlays; saved = h.saved })
 
     go : (ids : List ℕ) (was_current : Bool) → Advances e (elim ids [
       | [] ↦ record (with_buffer Rattle.editor_model.specs.Editor.scratch gone) { current = length gone.buffers }

@@ -1,23 +1,25 @@
 -- The calls that set state keep what holds of the editor.
-use Rattle.std.proofs.Common.{◌≡◌, ℕ, ◌+◌, ◌≤◌, Bool, true, false, ℤ, List, [], ◌∷◌, ◌++◌, length, refl, ap, subst, arith}
-use Rattle.std.specs.Prelude.{nat_le, slice_get, Option, Some, None, unwrap_or, option_map}
+use Rattle.std.proofs.Common.{◌≡◌, ℕ, zero, suc, ◌+◌, ◌≤◌, Bool, true, false, ℤ, List, [], ◌∷◌, ◌++◌, length, refl, ap, sym, subst, arith}
+use Rattle.std.specs.Prelude.{nat_le, slice_get, slice_set, Option, Some, None, unwrap_or, option_map}
 use Rattle.std.proofs.lemmas.Bool.{eqb-true, leb-true, and_parts}
 use Rattle.text_model.specs.Ordered.{AreOrdered}
+use Rattle.text_model.specs.Properties.{put}
 use Rattle.text_model.specs.Places.{clip}
-use Rattle.text_model.specs.Marks.{Marks, Marker, Spot, Overlay}
+use Rattle.text_model.specs.Marks.{Marks, Marker, Spot, Span, Overlay}
 use Rattle.text_model.specs.Undo.{Undo, with_boundary, started, disabled, enabled}
 use Rattle.text_model.specs.Commit.{Buffer}
 use Rattle.machine_laws.specs.Good.{Good}
-use Rattle.machine_laws.proofs.Fits.{SpotFits, MarkersFit, MarksFit, GoodSite}
+use Rattle.machine_laws.specs.Fits.{SpotFits, MarkersFit, SpanFits, OverlaysFit, MarksFit, GoodSite}
 use Rattle.machine_laws.proofs.OneBuffer.{passes_same, boundary_passes, started_passes, disabled_passes, enabled_passes}
-use Rattle.machine_laws.proofs.Fitting.{markers_set, marker_fits, clip_fits}
+use Rattle.machine_laws.proofs.Fitting.{markers_set, marker_fits, clip_fits, evaporated_fits}
 use Rattle.machine_laws.proofs.Sites.{same_step}
 use Rattle.editor_model.specs.Values.{Value, Nil, Int, Str, TheBuffer, TheMarker, Fault, Prim, SetBuffer, GetBufferCreate, GenerateNewBuffer, RenameBuffer, SetBufferModifiedP, GotoChar, NarrowToRegion, Widen, MakeMarker, PointMarker, CopyMarker, SetMarker, SetMarkerInsertionType, MakeOverlay, OverlayPut, MoveOverlay, DeleteOverlay, UndoBoundary, UndoStart, BufferDisableUndo, BufferEnableUndo}
-use Rattle.editor_model.specs.Editor.{Editor, Name, Live, live, buffer_at, here, empty_buffer, find, change_buffer, with_buffer, renamed, with_marker, change_marker, marker_of, free_name, others}
+use Rattle.editor_model.specs.Editor.{Editor, Name, Live, live, buffer_at, here, empty_buffer, find, change_buffer, with_buffer, renamed, with_marker, change_marker, marker_of, with_overlay, change_overlay, overlay_of, free_name, others}
 use Rattle.editor_model.specs.Answers.{Test, first_fault, applied, applied_of}
-use Rattle.editor_model.specs.Arguments.{arg, flag, name_of, buffer_of, marker_number, number, position, place, from_of, to_of, lies_in, must_be_position, must_lie_in}
+use Rattle.editor_model.specs.Arguments.{arg, flag, name_of, buffer_of, marker_number, overlay_number, symbol_of, value_of, number, position, place, from_of, to_of, lies_in, must_be_position, must_lie_in}
 use Rattle.editor_model.specs.BufferCalls.{found_or_made, get_buffer_create}
 use Rattle.editor_model.specs.TextCalls.{point_at, narrowed, widened, narrow_to_region}
+use Rattle.editor_model.specs.OverlayCalls.{span_in, kept_in, kept, overlay_home}
 use Rattle.editor_model.specs.MarkerCalls.{new_marker, spot_in, copy_marker, set_marker}
 use Rattle.editor_model.specs.UndoCalls.{with_undo}
 use Rattle.editor_model.specs.Table.{apply}
@@ -80,13 +82,13 @@ spot_fits e (Some s) id h = λ q. subst (λ i. s.place ≤ size_of e i) (eqb-tru
 
 pub with_marker_steady : (m : Marker) (e : Editor) → GoodEditor e → ((id : ℕ) → MarksFit id (size_of e id) e.marks → SpotFits id (size_of e id) m.spot) → Steady e (with_marker m e)
 with_marker_steady m e g h = record {
-  advances = marks_only e (with_marker m e) g refl (λ id k. record { markers = markers_append id (size_of e id) e.marks.markers m k.markers (h id k); saved = k.saved });
+  advances = marks_only e (with_marker m e) g refl (λ id k. record { markers = markers_append id (size_of e id) e.marks.markers m k.markers (h id k); overlays = k.overlays; saved = k.saved });
   same_shapes = refl;
 }
 
 pub change_marker_steady : (k : ℕ) (f : Marker → Marker) (e : Editor) → GoodEditor e → ((id : ℕ) → MarksFit id (size_of e id) e.marks → SpotFits id (size_of e id) (f (marker_of e k)).spot) → Steady e (change_marker k f e)
 change_marker_steady k f e g h = record {
-  advances = marks_only e (change_marker k f e) g refl (λ id x. record { markers = markers_set id (size_of e id) k (f (marker_of e k)) e.marks.markers (h id x) x.markers; saved = x.saved });
+  advances = marks_only e (change_marker k f e) g refl (λ id x. record { markers = markers_set id (size_of e id) k (f (marker_of e k)) e.marks.markers (h id x) x.markers; overlays = x.overlays; saved = x.saved });
   same_shapes = refl;
 }
 
@@ -98,8 +100,54 @@ marker_of_fits e k id h = go (slice_get e.marks.markers k) refl
     go None q = tt
     go (Some m) q = marker_fits id (size_of e id) k m e.marks.markers q h.markers
 
-overlays_steady : (overlays : List Overlay) (e : Editor) → GoodEditor e → Steady e (record e { marks = record e.marks { overlays = overlays } })
-overlays_steady overlays e g = record { advances = marks_only e (record e { marks = record e.marks { overlays = overlays } }) g refl (λ id h. record { markers = h.markers; saved = h.saved }); same_shapes = refl }
+overlays_steady : (overlays : List Overlay) (e : Editor) → GoodEditor e → ((id : ℕ) → OverlaysFit id (size_of e id) e.marks.overlays → OverlaysFit id (size_of e id) overlays) → Steady e (record e { marks = record e.marks { overlays = overlays } })
+overlays_steady overlays e g f = record { advances = marks_only e (record e { marks = record e.marks { overlays = overlays } }) g refl (λ id h. record { markers = h.markers; overlays = f id h.overlays; saved = h.saved }); same_shapes = refl }
+
+overlays_append : (id size : ℕ) (os : List Overlay) (o : Overlay) → OverlaysFit id size os → SpanFits id size o.span → OverlaysFit id size (os ++ o ∷ [])
+overlays_append id size [] o h s = (s, tt)
+overlays_append id size (x ∷ os) o h s = (h.0, overlays_append id size os o h.1 s)
+
+overlays_set : (id size k : ℕ) (o : Overlay) (os : List Overlay) → SpanFits id size o.span → OverlaysFit id size os → OverlaysFit id size (slice_set os k o)
+overlays_set id size k o [] s h = tt
+overlays_set id size zero o (x ∷ os) s h = (s, h.1)
+overlays_set id size (suc k) o (x ∷ os) s h = (h.0, overlays_set id size k o os s h.1)
+
+overlay_at : (id size k : ℕ) (o : Overlay) (os : List Overlay) → slice_get os k ≡ Some o → OverlaysFit id size os → SpanFits id size o.span
+overlay_at id size k o [] e h = cc
+overlay_at id size zero o (x ∷ os) e h = subst (λ y. SpanFits id size y.span) (same_overlay x o e) h.0
+  where
+    same_overlay : (x o : Overlay) → Some x ≡ Some o → x ≡ o
+    same_overlay x o e = cc
+overlay_at id size (suc k) o (x ∷ os) e h = overlay_at id size k o os e h.1
+
+-- the overlay of a number
+overlay_of_fits : (e : Editor) (k id size : ℕ) → OverlaysFit id size e.marks.overlays → SpanFits id size (overlay_of e k).span
+overlay_of_fits e k id size h = go (slice_get e.marks.overlays k) refl
+  where
+    go : (o : Option Overlay) → slice_get e.marks.overlays k ≡ o → SpanFits id size (unwrap_or o (record { span = None; front_advance = false; rear_advance = false; props = [] })).span
+    go None q = tt
+    go (Some o) q = overlay_at id size k o e.marks.overlays q h
+
+kept_fits : (id size : ℕ) (o : Overlay) → SpanFits id size o.span → SpanFits id size (kept o).span
+kept_fits id size o h = go o.span
+  where
+    go : (x : Option Span) → SpanFits id size (kept_in x o).span
+    go None = h
+    go (Some s) = evaporated_fits s.buffer id size o h
+
+pub region_order : (e : Editor) (a b : Value) → from_of e a b ≤ to_of e a b
+region_order e a b = omega arith
+
+-- two ends as near as the text goes
+clip_order : (size p r : ℕ) → p ≤ r → clip 0 size p ≤ clip 0 size r
+clip_order size p r h = omega arith
+
+span_fits : (e : Editor) (b : ℕ) (x y : Value) (id : ℕ) → SpanFits id (size_of e id) (Some (span_in e b x y))
+span_fits e b x y id = λ q. (clip_order (size_of e b) (from_of e x y) (to_of e x y) (region_order e x y), subst (λ i. clip 0 (size_of e b) (to_of e x y) ≤ size_of e i) (eqb-true b id q) (clip_fits (size_of e b) (to_of e x y)))
+
+-- an overlay of a number changed
+change_overlay_steady : (k : ℕ) (f : Overlay → Overlay) (e : Editor) → GoodEditor e → ((id size : ℕ) → size ≡ size_of e id → SpanFits id size (overlay_of e k).span → SpanFits id size (f (overlay_of e k)).span) → Steady e (change_overlay k f e)
+change_overlay_steady k f e g h = overlays_steady (slice_set e.marks.overlays k (f (overlay_of e k))) e g (λ id x. overlays_set id (size_of e id) k (f (overlay_of e k)) e.marks.overlays (h id (size_of e id) refl (overlay_of_fits e k id (size_of e id) x)) x)
 
 pub current_steady : (id : ℕ) (e : Editor) → GoodEditor e → Steady e (record e { current = id })
 current_steady id e g = record { advances = marks_only e (record e { current = id }) g refl (λ j h. h); same_shapes = refl }
@@ -124,9 +172,6 @@ in_range low high e v h =
     let x : (nat_le (low + 1) (position e v) ≡ true) × (nat_le (position e v) (high + 1) ≡ true) = and_parts _ _ h in
     let y : position e v ≤ high + 1 = leb-true (position e v) (high + 1) x.1 in
     omega arith
-
-pub region_order : (e : Editor) (a b : Value) → from_of e a b ≤ to_of e a b
-region_order e a b = omega arith
 
 pub region_high : (e : Editor) (a b : Value) (low high : ℕ) → lies_in low high e a ≡ true → lies_in low high e b ≡ true → to_of e a b ≤ high
 region_high e a b low high h k = let x : place e a ≤ high = in_range low high e a h in let y : place e b ≤ high = in_range low high e b k in omega arith
@@ -183,6 +228,10 @@ set_marker_steady e m x b g = of_fault _ e _ _ g (change_marker_steady (marker_n
     fits id None = tt
     fits id (Some n) = spot_fits e (Some (spot_in e (buffer_of e b) (place e x))) id (clip_fits (size_of e (buffer_of e b)) (place e x))
 
+move_overlay_steady : (e : Editor) (k : ℕ) (x y buffer : Value) → GoodEditor e → Steady e (change_overlay k (λ old. kept (record old { span = Some (span_in e (overlay_home e old.span buffer) x y) })) e)
+move_overlay_steady e k x y buffer g = change_overlay_steady k (λ old. kept (record old { span = Some (span_in e (overlay_home e old.span buffer) x y) })) e g (λ id size q z.
+    kept_fits id size (record (overlay_of e k) { span = Some (span_in e (overlay_home e (overlay_of e k).span buffer) x y) }) (subst (λ n. SpanFits id n (Some (span_in e (overlay_home e (overlay_of e k).span buffer) x y))) (sym q) (span_fits e (overlay_home e (overlay_of e k).span buffer) x y id)))
+
 -- every call that sets state
 pub apply_steady : (e : Editor) (prim : Prim) (args : List Value) → GoodEditor e → Steady e (apply e prim args).editor
 apply_steady e SetBuffer args g = of_fault _ e _ _ g (current_steady (buffer_of e (arg args 0)) e g)
@@ -198,10 +247,10 @@ apply_steady e PointMarker args g = new_marker_steady e (Some (record { buffer =
 apply_steady e CopyMarker args g = copy_steady e (arg args 0) (arg args 1) g
 apply_steady e SetMarker args g = set_marker_steady e (arg args 0) (arg args 1) (arg args 2) g
 apply_steady e SetMarkerInsertionType args g = of_fault _ e _ _ g (change_marker_steady (marker_number (arg args 0)) (λ marker. record marker { advances = flag (arg args 1) }) e g (λ id k. marker_of_fits e (marker_number (arg args 0)) id k))
-apply_steady e MakeOverlay args g = of_fault _ e _ _ g (overlays_steady _ e g)
-apply_steady e OverlayPut args g = of_fault _ e _ _ g (overlays_steady _ e g)
-apply_steady e MoveOverlay args g = of_fault _ e _ _ g (overlays_steady _ e g)
-apply_steady e DeleteOverlay args g = of_fault _ e _ _ g (overlays_steady _ e g)
+apply_steady e MakeOverlay args g = of_fault _ e _ _ g (overlays_steady _ e g (λ id x. overlays_append id (size_of e id) e.marks.overlays (record { span = Some (span_in e (buffer_of e (arg args 2)) (arg args 0) (arg args 1)); front_advance = flag (arg args 3); rear_advance = flag (arg args 4); props = [] }) x (span_fits e (buffer_of e (arg args 2)) (arg args 0) (arg args 1) id)))
+apply_steady e OverlayPut args g = of_fault _ e _ _ g (change_overlay_steady (overlay_number (arg args 0)) (λ old. kept (record old { props = put old.props (symbol_of (arg args 1)) (value_of (arg args 2)) })) e g (λ id size q x. kept_fits id size (record (overlay_of e (overlay_number (arg args 0))) { props = put (overlay_of e (overlay_number (arg args 0))).props (symbol_of (arg args 1)) (value_of (arg args 2)) }) x))
+apply_steady e MoveOverlay args g = of_fault _ e _ _ g (move_overlay_steady e (overlay_number (arg args 0)) (arg args 1) (arg args 2) (arg args 3) g)
+apply_steady e DeleteOverlay args g = of_fault _ e _ _ g (change_overlay_steady (overlay_number (arg args 0)) (λ old. record old { span = None }) e g (λ id size q x. tt))
 apply_steady e UndoBoundary args g = (undo_steady with_boundary e g (λ b s. boundary_passes b (record b { undo = with_boundary b.undo }) s refl refl))
 apply_steady e UndoStart args g = of_fault _ e _ _ g (undo_steady started e g (λ b s. started_passes b (record b { undo = started b.undo }) s refl refl))
 apply_steady e BufferDisableUndo args g = (undo_steady disabled e g (λ b s. disabled_passes b (record b { undo = disabled b.undo }) s refl refl))

@@ -77,7 +77,7 @@ plain-props (Prop n o a b ∷ rs) h = (tt, (h.0, plain-props rs h.1))
 plain-props (_ ∷ rs) h = absurd h
 
 -- those that say nothing of the text
-abbrev AreMoves : List Rec → Type 0
+abbrev pub AreMoves : List Rec → Type 0
 AreMoves [] = Unit {0}
 AreMoves (Point p ∷ rs) = AreMoves rs
 AreMoves (Moved m a ∷ rs) = AreMoves rs
@@ -95,13 +95,13 @@ plain-moves (Point p ∷ rs) h = (tt, (tt, plain-moves rs h))
 plain-moves (Moved m a ∷ rs) h = (tt, (tt, plain-moves rs h))
 plain-moves (_ ∷ rs) h = absurd h
 
-moves-append : (xs ys : List Rec) → AreMoves xs → AreMoves ys → AreMoves (xs ++ ys)
+pub moves-append : (xs ys : List Rec) → AreMoves xs → AreMoves ys → AreMoves (xs ++ ys)
 moves-append [] ys h k = k
 moves-append (Point p ∷ xs) ys h k = moves-append xs ys h k
 moves-append (Moved m a ∷ xs) ys h k = moves-append xs ys h k
 moves-append (_ ∷ xs) ys h k = absurd h
 
-marker_moves : (id from to : ℕ) (ms : List (ℕ × Marker)) → AreMoves (filter_map (adjustment id from to) ms)
+pub marker_moves : (id from to : ℕ) (ms : List (ℕ × Marker)) → AreMoves (filter_map (adjustment id from to) ms)
 marker_moves id from to [] = tt
 marker_moves id from to (m ∷ ms) = go m.1.spot (marker_moves id from to ms)
   where

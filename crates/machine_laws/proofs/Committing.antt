@@ -9,7 +9,7 @@ use Rattle.text_model.specs.Marks.{Spot}
 use Rattle.text_model.specs.Sticky.{offered_by_before, offered_by_after}
 use Rattle.text_model.specs.Undo.{Rec, Entry, trial, undone, passed}
 use Rattle.text_model.specs.Commit.{Buffer, Site, replaced, reset, undone_groups, property_records}
-use Rattle.machine_laws.proofs.Fits.{SpotFits, MarksFit, GoodSite}
+use Rattle.machine_laws.specs.Fits.{SpotFits, MarksFit, GoodSite}
 use Rattle.text_model.proofs.Sets.{ordered-put, ordered-put_all, rising_less}
 use Rattle.text_model.proofs.Cases.{by_test}
 use Rattle.machine_laws.proofs.Changes.{ordered-part, length-splice}

@@ -1,12 +1,13 @@
 -- Places go on lying in their text.
-use Rattle.std.proofs.Common.{◌≡◌, ℕ, zero, suc, ◌+◌, ◌-◌, ◌≤◌, ◌<◌, ℤ, Bool, true, false, List, [], ◌∷◌, length, map, refl, sym, subst, ◌∙◌, arith, ◌⊎◌, inl, inr}
-use Rattle.std.specs.Prelude.{if◌then◌else◌, ◌==◌, ◌||◌, nat_lt, nat_le, slice_get, slice_set, Option, Some, None, option_map, min, max, pos, ◌-ℤ◌}
-use Rattle.std.proofs.lemmas.Bool.{eqb-true, ltb-true, ltb-false, leb-true, leb-false, false≢true}
+use Rattle.std.proofs.Common.{◌≡◌, ℕ, zero, suc, ◌+◌, ◌-◌, ◌≤◌, ◌<◌, ℤ, Bool, true, false, List, [], ◌∷◌, length, map, refl, ap, sym, subst, ◌∙◌, arith, ◌⊎◌, inl, inr}
+use Rattle.std.specs.Prelude.{if◌then◌else◌, ◌==◌, ◌||◌, ◌&&◌, not, is_some, nat_lt, nat_le, slice_get, slice_set, Option, Some, None, option_map, min, max, pos, ◌-ℤ◌}
+use Rattle.std.proofs.lemmas.Bool.{eqb-true, cases_eq, ltb-true, ltb-false, leb-true, leb-false, false≢true}
 use Rattle.text_model.specs.Places.{after_insert, after_delete, clip}
-use Rattle.text_model.specs.Properties.{Cell, splice}
-use Rattle.text_model.specs.Marks.{Spot, Marker, Saved, Excursion, Restriction, Pending, Marks, Move, insertion, deletion, move_marker, move_saved, move_marks}
+use Rattle.text_model.specs.Properties.{Cell, get, splice}
+use Rattle.text_model.specs.Marks.{Spot, Marker, Span, Overlay, Saved, Excursion, Restriction, Pending, Marks, Move, insertion, deletion, move_marker, move_overlay, start_advances, move_saved, move_marks, evaporate, evaporated}
 use Rattle.text_model.specs.Commit.{Buffer, Site, inserted, deleted, with_properties, set_point, undo_one, undo_each, moved_back, less, spot_less, marker_less, place_of, stands_at, moves_behind}
-use Rattle.machine_laws.proofs.Fits.{SpotFits, MarkersFit, KeptFits, SavedFits, MarksFit, SiteFits, shape, shapes}
+use Rattle.machine_laws.specs.Fits.{SpotFits, MarkersFit, SpanFits, OverlaysFit, KeptFits, SavedFits, MarksFit, SiteFits}
+use Rattle.machine_laws.specs.Brackets.{shape, shapes}
 use Rattle.text_model.specs.Undo.{Rec, Boundary, Point, Inserted, Deleted, Prop, First, Moved, Entry, undo_in_text, trial, max_after}
 use Rattle.text_model.specs.Properties.{PropEdit, Add, Remove, with_sets, edited}
 use Rattle.text_model.specs.Commit.{property_records}
@@ -56,6 +57,36 @@ pub after_insert_orders : (q n : ℕ) (advances : Bool) (p r : ℕ) → p ≤ r 
 after_insert_orders q n false p r h = after_insert_order q n p r h
 after_insert_orders q n true p r h = let x : after_insert q n false p ≤ after_insert q n false r = after_insert_order q n p r h in let y : after_insert q n false r ≤ after_insert q n true r = after_insert_advances q n r in omega arith
 
+-- a place in front of another stays so, whether these advance or not
+insert_least : (q n : ℕ) (v : Bool) (p : ℕ) → p ≤ after_insert q n v p
+insert_least q n v p = by_test (λ x. p ≤ x) (nat_lt p q) p (if nat_lt q p then p + n else (if v then q + n else p)) (λ a. omega arith)
+    (λ a. by_test (λ x. p ≤ x) (nat_lt q p) (p + n) (if v then q + n else p) (λ b. omega arith) (λ b. let l : p ≤ q = ltb-false q p b in by_test (λ x. p ≤ x) v (q + n) p (λ c. omega arith) (λ c. omega arith)))
+
+insert_most : (q n : ℕ) (v : Bool) (p : ℕ) → after_insert q n v p ≤ p + n
+insert_most q n v p = by_test (λ x. x ≤ p + n) (nat_lt p q) p (if nat_lt q p then p + n else (if v then q + n else p)) (λ a. omega arith)
+    (λ a. let m : q ≤ p = ltb-false p q a in by_test (λ x. x ≤ p + n) (nat_lt q p) (p + n) (if v then q + n else p) (λ b. omega arith) (λ b. by_test (λ x. x ≤ p + n) v (q + n) p (λ c. omega arith) (λ c. omega arith)))
+
+insert_before : (q n : ℕ) (v : Bool) (p : ℕ) → p < q → after_insert q n v p ≡ p
+insert_before q n v p h = by_test (λ x. x ≡ p) (nat_lt p q) p (if nat_lt q p then p + n else (if v then q + n else p)) (λ a. refl) (λ a. let l : q ≤ p = ltb-false p q a in absurd (omega arith))
+
+insert_behind : (q n : ℕ) (v : Bool) (p : ℕ) → q < p → after_insert q n v p ≡ p + n
+insert_behind q n v p h = by_test (λ x. x ≡ p + n) (nat_lt p q) p (if nat_lt q p then p + n else (if v then q + n else p)) (λ a. let l : p < q = ltb-true p q a in absurd (omega arith))
+    (λ a. by_test (λ x. x ≡ p + n) (nat_lt q p) (p + n) (if v then q + n else p) (λ b. refl) (λ b. let l : p ≤ q = ltb-false q p b in absurd (omega arith)))
+
+after_insert_strict : (q n : ℕ) (v w : Bool) (p r : ℕ) → p < r → after_insert q n v p ≤ after_insert q n w r
+after_insert_strict q n v w p r h = go (nat_lt p q) refl
+  where
+    go : (b : Bool) → nat_lt p q ≡ b → after_insert q n v p ≤ after_insert q n w r
+    go true e =
+        let a : after_insert q n v p ≡ p = insert_before q n v p (ltb-true p q e) in
+        let c : r ≤ after_insert q n w r = insert_least q n w r in
+        omega arith
+    go false e =
+        let l : q ≤ p = ltb-false p q e in
+        let a : after_insert q n v p ≤ p + n = insert_most q n v p in
+        let c : after_insert q n w r ≡ r + n = insert_behind q n w r (omega arith) in
+        omega arith
+
 pub after_delete_fits : (q r p size : ℕ) → q ≤ r → r ≤ size → p ≤ size → after_delete q r p ≤ size - (r - q)
 after_delete_fits q r p size h k l = go (delete_cases q r p)
   where
@@ -84,14 +115,72 @@ after_delete_order q r a b h k = go (delete_cases q r a) (delete_cases q r b)
 pub record Moving (move : Move) (size new : ℕ) : Type 0 where
   pub fits : (advances : Bool) (p : ℕ) → p ≤ size → move advances p ≤ new
   pub in_order : (advances : Bool) (p r : ℕ) → p ≤ r → move false p ≤ move advances r
+  pub apart : (v w : Bool) (p r : ℕ) → p < r → move v p ≤ move w r
 
 pub moving_insertion : (q n size : ℕ) → q ≤ size → Moving (insertion q n) size (size + n)
-moving_insertion q n size h = record { fits = λ advances p k. after_insert_fits q n advances p size h k; in_order = λ a p r k. after_insert_orders q n a p r k }
+moving_insertion q n size h = record { fits = λ advances p k. after_insert_fits q n advances p size h k; in_order = λ a p r k. after_insert_orders q n a p r k; apart = λ v w p r k. after_insert_strict q n v w p r k }
 
 pub moving_deletion : (q r size : ℕ) → q ≤ r → r ≤ size → Moving (deletion q r) size (size - (r - q))
-moving_deletion q r size h k = record { fits = λ advances p l. after_delete_fits q r p size h k l; in_order = λ v a b l. after_delete_order q r a b h l }
+moving_deletion q r size h k = record { fits = λ advances p l. after_delete_fits q r p size h k l; in_order = λ v a b l. after_delete_order q r a b h l; apart = λ v w a b l. after_delete_order q r a b h (omega arith) }
+
+-- where the start of an empty overlay advances, its end does
+end_advances : (all front rear : Bool) → (all || (front && (rear || not true))) ≡ true → (rear || all) ≡ true
+end_advances true front true h = refl
+end_advances true front false h = refl
+end_advances false true true h = refl
+end_advances false true false h = absurd (false≢true h)
+end_advances false false rear h = absurd (false≢true h)
 
 module _ (id : ℕ) (all : Bool) (move : Move) where
+  ends_moved : (size new : ℕ) (o : Overlay) (s : Span) → Moving move size new → s.start ≤ s.end → move (start_advances all o s) s.start ≤ move (o.rear_advance || all) s.end
+  ends_moved size new o s m h = go (start_advances all o s) refl
+    where
+      tied : s.start ≡ s.end → start_advances all o s ≡ true → move true s.start ≤ move (o.rear_advance || all) s.end
+      tied q e =
+          let t : (s.start == s.end) ≡ true = grind arith in
+          let r : (o.rear_advance || all) ≡ true = end_advances all o.front_advance o.rear_advance (subst (λ (v : Bool). (all || (o.front_advance && (o.rear_advance || not v))) ≡ true) t e) in
+          let x : move (o.rear_advance || all) s.end ≡ move true s.start = ap (λ (v : Bool). move v s.end) r ∙ ap (move true) (sym q) in
+          omega arith
+
+      go : (v : Bool) → start_advances all o s ≡ v → move v s.start ≤ move (o.rear_advance || all) s.end
+      go false e = m.in_order (o.rear_advance || all) s.start s.end h
+      go true e = by_case (cases_eq s.start s.end)
+        where
+          by_case : (s.start ≡ s.end) ⊎ (s.start ≡ s.end → ⊥) → move true s.start ≤ move (o.rear_advance || all) s.end
+          by_case (inl q) = tied q e
+          by_case (inr d) = m.apart true (o.rear_advance || all) s.start s.end (less_of s.start s.end h d)
+            where
+              less_of : (a b : ℕ) → a ≤ b → (a ≡ b → ⊥) → a < b
+              less_of a b h d = by_order (nat_lt a b) refl
+                where
+                  by_order : (v : Bool) → nat_lt a b ≡ v → a < b
+                  by_order true e = ltb-true a b e
+                  by_order false e = let l : b ≤ a = ltb-false a b e in absurd (d (omega arith))
+
+  span_moved : (size new : ℕ) (o : Overlay) (x : Option Span) → Moving move size new → SpanFits id size x → SpanFits id new (option_map (λ s. if s.buffer == id then record s { start = move (start_advances all o s) s.start; end = move (o.rear_advance || all) s.end } else s) x)
+  span_moved size new o None m h = tt
+  span_moved size new o (Some s) m h = go (s.buffer == id) refl
+    where
+      go : (v : Bool) → (s.buffer == id) ≡ v → SpanFits id new (Some (if v then record s { start = move (start_advances all o s) s.start; end = move (o.rear_advance || all) s.end } else s))
+      go true e = λ k. let y : (s.start ≤ s.end) × (s.end ≤ size) = h e in (ends_moved size new o s m y.0, m.fits (o.rear_advance || all) s.end y.1)
+      go false e = λ k. absurd (false≢true (sym e ∙ k))
+
+  overlays_moved : (size new : ℕ) (os : List Overlay) → Moving move size new → OverlaysFit id size os → OverlaysFit id new (map (move_overlay id all move) os)
+  overlays_moved size new [] m h = tt
+  overlays_moved size new (o ∷ os) m h = (span_moved size new o o.span m h.0, overlays_moved size new os m h.1)
+
+  span_other : (j size : ℕ) (o : Overlay) (x : Option Span) → (j ≡ id → ⊥) → SpanFits j size x → SpanFits j size (option_map (λ s. if s.buffer == id then record s { start = move (start_advances all o s) s.start; end = move (o.rear_advance || all) s.end } else s) x)
+  span_other j size o None d h = tt
+  span_other j size o (Some s) d h = go (s.buffer == id) refl
+    where
+      go : (v : Bool) → (s.buffer == id) ≡ v → SpanFits j size (Some (if v then record s { start = move (start_advances all o s) s.start; end = move (o.rear_advance || all) s.end } else s))
+      go true e = λ k. absurd (d (sym (eqb-true s.buffer j k) ∙ eqb-true s.buffer id e))
+      go false e = h
+
+  overlays_other : (j size : ℕ) (os : List Overlay) → (j ≡ id → ⊥) → OverlaysFit j size os → OverlaysFit j size (map (move_overlay id all move) os)
+  overlays_other j size [] d h = tt
+  overlays_other j size (o ∷ os) d h = (span_other j size o o.span d h.0, overlays_other j size os d h.1)
+
   spot_moved : (size new : ℕ) (advances : Bool) (o : Option Spot) → Moving move size new → SpotFits id size o → SpotFits id new (option_map (λ s. if s.buffer == id then record s { place = move advances s.place } else s) o)
   spot_moved size new advances None m h = tt
   spot_moved size new advances (Some s) m h = go (s.buffer == id) refl
@@ -123,7 +212,7 @@ module _ (id : ℕ) (all : Bool) (move : Move) where
   saved_moved size new (k ∷ ks) m h = (kept_moved size new k m h.0, saved_moved size new ks m h.1)
 
   pub marks_moved : (size new : ℕ) (marks : Marks) → Moving move size new → MarksFit id size marks → MarksFit id new (move_marks id all move marks)
-  marks_moved size new marks m h = record { markers = markers_moved size new marks.markers m h.markers; saved = saved_moved size new marks.saved m h.saved }
+  marks_moved size new marks m h = record { markers = markers_moved size new marks.markers m h.markers; overlays = overlays_moved size new marks.overlays m h.overlays; saved = saved_moved size new marks.saved m h.saved }
 
   -- those of other buffers stay
   spot_other : (j size : ℕ) (advances : Bool) (o : Option Spot) → (j ≡ id → ⊥) → SpotFits j size o → SpotFits j size (option_map (λ s. if s.buffer == id then record s { place = move advances s.place } else s) o)
@@ -157,7 +246,7 @@ module _ (id : ℕ) (all : Bool) (move : Move) where
   saved_other j size (k ∷ ks) d h = (kept_other j size k d h.0, saved_other j size ks d h.1)
 
   pub marks_other : (j size : ℕ) (marks : Marks) → (j ≡ id → ⊥) → MarksFit j size marks → MarksFit j size (move_marks id all move marks)
-  marks_other j size marks d h = record { markers = markers_other j size marks.markers d h.markers; saved = saved_other j size marks.saved d h.saved }
+  marks_other j size marks d h = record { markers = markers_other j size marks.markers d h.markers; overlays = overlays_other j size marks.overlays d h.overlays; saved = saved_other j size marks.saved d h.saved }
 
 -- SHAPES
 shape_moved : (id : ℕ) (move : Move) (k : Saved) → shape (move_saved id move k) ≡ shape k
@@ -169,6 +258,18 @@ shape_moved id move (Pending b from to) = by_test (λ x. shape x ≡ (2, b)) (b 
 shapes_moved : (id : ℕ) (move : Move) (ks : List Saved) → shapes (map (move_saved id move) ks) ≡ shapes ks
 shapes_moved id move [] = refl
 shapes_moved id move (k ∷ ks) = rw (shape_moved id move k, shapes_moved id move ks) refl
+
+-- OVERLAYS THAT EVAPORATE
+pub evaporated_fits : (b id size : ℕ) (o : Overlay) → SpanFits id size o.span → SpanFits id size (evaporated b o).span
+evaporated_fits b id size o h = go o.span h
+  where
+    go : (x : Option Span) → SpanFits id size x → SpanFits id size (elim x [ None ↦ None | Some s ↦ if (s.buffer == b) && ((s.start == s.end) && is_some (get o.props evaporate)) then None else Some s ])
+    go None k = tt
+    go (Some s) k = by_test (λ y. SpanFits id size y) ((s.buffer == b) && ((s.start == s.end) && is_some (get o.props evaporate))) None (Some s) (λ q. tt) (λ q. k)
+
+all_evaporated : (b id size : ℕ) (os : List Overlay) → OverlaysFit id size os → OverlaysFit id size (map (evaporated b) os)
+all_evaporated b id size [] h = tt
+all_evaporated b id size (o ∷ os) h = (evaporated_fits b id size o h.0, all_evaporated b id size os h.1)
 
 -- CHANGES OF A SITE
 -- the places of this buffer still fit, those of others are as they were, and so are the kinds of the kept places
@@ -204,9 +305,9 @@ deleted_fits id from to site h k f = record {
     begin_fits = after_delete_order from to site.buffer.begin site.buffer.end h f.begin_fits;
     end_fits = rw size (after_delete_fits from to site.buffer.end (length site.buffer.text) h k f.end_fits);
     point_fits = rw size (after_delete_fits from to site.buffer.point (length site.buffer.text) h k f.point_fits);
-    marks_fit = record { markers = moved.markers; saved = moved.saved };
+    marks_fit = record { markers = moved.markers; overlays = all_evaporated id id (length (splice from to [] site.buffer.text)) _ moved.overlays; saved = moved.saved };
   };
-  others = λ j size d l. let m : MarksFit j size (move_marks id false (deletion from to) site.marks) = marks_other id false (deletion from to) j size site.marks d l in record { markers = m.markers; saved = m.saved };
+  others = λ j size d l. let m : MarksFit j size (move_marks id false (deletion from to) site.marks) = marks_other id false (deletion from to) j size site.marks d l in record { markers = m.markers; overlays = all_evaporated id j size _ m.overlays; saved = m.saved };
   same_shapes = shapes_moved id (deletion from to) site.marks.saved;
 }
   where
@@ -303,9 +404,9 @@ one_fits id (Deleted piece place) behind site h f =
         begin_fits = q.fits.begin_fits;
         end_fits = q.fits.end_fits;
         point_fits = q.fits.point_fits;
-        marks_fit = record { markers = back_fits id place (length (splice place place piece site.buffer.text)) site.marks.markers behind _ q.fits.marks_fit.markers; saved = q.fits.marks_fit.saved };
+        marks_fit = record { markers = back_fits id place (length (splice place place piece site.buffer.text)) site.marks.markers behind _ q.fits.marks_fit.markers; overlays = q.fits.marks_fit.overlays; saved = q.fits.marks_fit.saved };
       };
-      others = λ j n d x. let y : MarksFit j n (inserted id place piece false false (set_point place site)).marks = q.others j n d x in record { markers = back_other id place (length (splice place place piece site.buffer.text)) j n site.marks.markers behind _ d y.markers; saved = y.saved };
+      others = λ j n d x. let y : MarksFit j n (inserted id place piece false false (set_point place site)).marks = q.others j n d x in record { markers = back_other id place (length (splice place place piece site.buffer.text)) j n site.marks.markers behind _ d y.markers; overlays = y.overlays; saved = y.saved };
       same_shapes = q.same_shapes;
     })
 one_fits id (Prop name (Some old) from to) behind site h f = properties_fits id (Add ((name, old) ∷ []) []) from to site h.0 h.1 f

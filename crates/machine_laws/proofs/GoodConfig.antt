@@ -1,6 +1,6 @@
 -- What holds of each configuration of a run.
 use Rattle.std.specs.Prelude.{◌≡◌, ℕ, List, [], ◌∷◌, drop}
-use Rattle.machine_laws.proofs.Fits.{shapes}
+use Rattle.machine_laws.specs.Brackets.{shapes}
 use Rattle.editor_model.specs.Editor.{Editor}
 use Rattle.machine_laws.proofs.GoodEditor.{GoodEditor, Advances, FineWhat, FineChange}
 use Rattle.plain_machine.specs.Items.{Item, Leave, KeptExcursion, KeptRestriction, MakeChange, CommitChange, Config}

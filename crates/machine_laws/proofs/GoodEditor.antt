@@ -6,7 +6,8 @@ use Rattle.text_model.specs.Commit.{Buffer}
 use Rattle.editor_model.specs.Editor.{Editor, Live, live, buffer_at}
 use Rattle.editor_model.specs.Answers.{What, Put, Props, UndoGroups, Change}
 use Rattle.machine_laws.specs.Good.{Good}
-use Rattle.machine_laws.proofs.Fits.{MarksFit, GoodSite, shapes}
+use Rattle.machine_laws.specs.Fits.{MarksFit, GoodSite}
+use Rattle.machine_laws.specs.Brackets.{shapes}
 
 -- What a step does to a buffer: it stays good; where a boundary stood before and stands still, what is newer rewinds to
 -- the same text as before; and nothing is newer than a boundary that was pushed.

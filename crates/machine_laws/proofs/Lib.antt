@@ -1,4 +1,3 @@
-pub mod Fits
 pub mod GoodEditor
 pub mod GoodConfig
 pub mod Undoing
@@ -38,3 +37,15 @@ pub mod Tests
 pub mod Basics
 pub mod Bounded
 pub mod Rounds
+pub mod LevelStates
+pub mod Levels
+pub mod Bracketing
+pub mod RefusedCalls
+pub mod CallRuns
+pub mod Carried
+pub mod Lively
+pub mod Parting
+pub mod FreeNames
+pub mod Naming
+pub mod Soundness
+pub mod FaultLines

@@ -1,6 +1,7 @@
--- A call that is refused leaves the state as it was: where a call stands, step by step, until it is refused or answered.
-use Rattle.std.proofs.Common.{◌≡◌, ℕ, zero, suc, Bool, true, false, List, [], ◌∷◌, ◌++◌, map, refl, ap, sym, ◌∙◌, subst}
-use Rattle.std.specs.Prelude.{Option, Some, None, slice_get, slice_set}
+-- A call that is refused leaves the state as it was, but for its exchanges: where a call stands, step by step, until it is
+-- refused or answered.
+use Rattle.std.proofs.Common.{◌≡◌, ◌⊎◌, inl, inr, ℕ, zero, suc, ◌+◌, Bool, true, false, List, [], ◌∷◌, ◌++◌, length, map, refl, ap, sym, ◌∙◌, subst}
+use Rattle.std.specs.Prelude.{Option, Some, None, slice_set, drop}
 use Rattle.std.proofs.lemmas.Option.{same_Some, none-some}
 use Rattle.text_model.specs.Characters.{Ch}
 use Rattle.text_model.specs.Marks.{Pending}
@@ -12,7 +13,7 @@ use Rattle.editor_model.specs.BufferCalls.{get_buffer_create, found_or_made}
 use Rattle.editor_model.specs.MarkerCalls.{copy_marker}
 use Rattle.editor_model.specs.Table.{query, apply, prepare, commit}
 use Rattle.editor_model.specs.Prims.{Manner, OnlyAsks, SetsState, ChangesText, ConcernsHandlers, manner_of}
-use Rattle.plain_machine.specs.Exchanges.{Exchange, Ask, Answer, Started, Bytes, Code, End, Signal, Running, Sent, Broken, Closed, Killed}
+use Rattle.plain_machine.specs.Exchanges.{Exchange, Ask, Spawn, Read, AskEnd, Send, Close, Kill, Answer, Started, Bytes, Code, End, Signal, Running, Sent, Broken, Closed, Killed}
 use Rattle.plain_machine.specs.State.{State, Process, Status, Runs, Program, hooks_of, process, change_process}
 use Rattle.plain_machine.specs.Lines.{Kind, OfBefore}
 use Rattle.plain_machine.specs.Items.{Item, DoForm, MakeCall, GiveAnswer, Refuse, MakeChange, Hooks, Calm, CommitChange, Enter, Exit, Wait, Delete, Target, Nowhere, ToName, ToNative, Waiting, Said, Config, Next, Step, Goes, Asks, Ended}
@@ -23,7 +24,7 @@ use Rattle.plain_machine.specs.Forms.{call_with, evaluate, at_kept, saved_of, po
 use Rattle.plain_machine.specs.Waits.{wait, wait_case, ask_process, ask_if, ask_next, read_answer, hear, drain, end_answer, entry_of, asked_more, is_room, from_eligible, eligible, target_is_eligible, is_eligible, is_eligible_one, delete, delete_one, delete_running, kill_answer, kill_at_end, kill_live}
 use Rattle.plain_machine.specs.Step.{step, item_step}
 use Rattle.plain_machine.specs.Run.{Reaches, stays, goes, asks}
-use Rattle.machine_laws.specs.Refusals.{without_output, but_for_exchanges, SameButForExchanges, AnswersNext, IsOfCall, without_ends, RefusalsLeave}
+use Rattle.machine_laws.specs.Refusals.{Noted, Leaves, AllLeave, AnswersNext, IsOfCall, without_ends, RefusalsLeave}
 use Rattle.machine_laws.proofs.Steps.{first_fit}
 use Rattle.machine_laws.proofs.Basics.{none_first}
 
@@ -37,55 +38,63 @@ IsCall (Wait w target) = Unit {0}
 IsCall (Item.KillBuffer b target) = Unit {0}
 IsCall _ = ⊥
 
--- Of a call that began in the state s: where it stands as long as nothing was written. A change under way has put its
--- kept ends on the stack; a call that is to be answered may have changed anything.
+abbrev Is : State → State → Type 0
+Is s t = t ≡ s
+
+-- Of a call that has the state s: where it stands as long as nothing was written. A change under way has put its kept ends
+-- on the stack; a call that is to be answered may have changed anything.
 pub data Stands (s : State) (c : Config) : Type 0 where
-  calls : (item : Item) (rest : List Item) → IsCall item → c.work ≡ item ∷ rest → SameButForExchanges s c.state → Stands s c
-  deletes : (p : ℕ) (ps : List ℕ) (b : ℕ) (target : Target) (rest : List Item) → c.work ≡ Delete p ∷ (map Delete ps ++ Item.KillBuffer b target ∷ rest) → SameButForExchanges s c.state → Stands s c
-  changes : (k : Change) (v : Value) (target : Target) (rest : List Item) → c.work ≡ MakeChange k ∷ GiveAnswer v target ∷ rest → SameButForExchanges s c.state → Stands s c
-  enters_none : (kind : Kind) (args : List Value) (old : Bool) (k : Change) (rest : List Item) → c.work ≡ Hooks kind [] args ∷ Calm old ∷ CommitChange k ∷ rest → AnswersNext rest → SameButForExchanges s (popped (record c.state { inhibited = old })) → Stands s c
-  calms : (old : Bool) (k : Change) (rest : List Item) → c.work ≡ Calm old ∷ CommitChange k ∷ rest → AnswersNext rest → SameButForExchanges s (popped (record c.state { inhibited = old })) → Stands s c
-  commits : (k : Change) (rest : List Item) → c.work ≡ CommitChange k ∷ rest → AnswersNext rest → SameButForExchanges s (popped c.state) → Stands s c
-  refuses : (fault : Fault) (rest : List Item) → c.work ≡ Refuse fault ∷ rest → SameButForExchanges s c.state → Stands s c
+  calls : (item : Item) (rest : List Item) → IsCall item → c.work ≡ item ∷ rest → Is s c.state → Stands s c
+  deletes : (p : ℕ) (ps : List ℕ) (b : ℕ) (target : Target) (rest : List Item) → c.work ≡ Delete p ∷ (map Delete ps ++ Item.KillBuffer b target ∷ rest) → Is s c.state → Stands s c
+  changes : (k : Change) (v : Value) (target : Target) (rest : List Item) → c.work ≡ MakeChange k ∷ GiveAnswer v target ∷ rest → Is s c.state → Stands s c
+  enters_none : (kind : Kind) (args : List Value) (old : Bool) (k : Change) (rest : List Item) → c.work ≡ Hooks kind [] args ∷ Calm old ∷ CommitChange k ∷ rest → AnswersNext rest → Is s (popped (record c.state { inhibited = old })) → Stands s c
+  calms : (old : Bool) (k : Change) (rest : List Item) → c.work ≡ Calm old ∷ CommitChange k ∷ rest → AnswersNext rest → Is s (popped (record c.state { inhibited = old })) → Stands s c
+  commits : (k : Change) (rest : List Item) → c.work ≡ CommitChange k ∷ rest → AnswersNext rest → Is s (popped c.state) → Stands s c
+  refuses : (fault : Fault) (rest : List Item) → c.work ≡ Refuse fault ∷ rest → Is s c.state → Stands s c
   answers : AnswersNext c.work → Stands s c
 
--- a step that writes nothing leaves the call standing somewhere
+-- a step that writes nothing leaves the call standing somewhere, in the same state
 abbrev StandsAfter : State → Next → Type 0
 StandsAfter s n = n.said ≡ [] → Stands s n.config
 
+-- so does an exchange, in the state with what it leaves, or the call is to be answered
+abbrev StandsBehind : State → Ask → Answer → Next → Type 0
+StandsBehind s ask answer n = n.said ≡ [] → AnswersNext n.config.work ⊎ ((u : State) × Leaves ask answer s u × Stands u n.config)
+
 abbrev StepStands : State → Step → Type 0
 StepStands s (Goes n) = StandsAfter s n
-StepStands s (Asks ask next) = (answer : Answer) (n : Next) → next answer ≡ Some n → StandsAfter s n
+StepStands s (Asks ask next) = (answer : Answer) (n : Next) → next answer ≡ Some n → StandsBehind s ask answer n
 StepStands s Ended = Unit {0}
 
 -- an answer of the outside that is taken
-abbrev AnswerStands : State → Option Next → Type 0
-AnswerStands s None = Unit {0}
-AnswerStands s (Some n) = StandsAfter s n
+abbrev AnswerStands : State → Ask → Answer → Option Next → Type 0
+AnswerStands s ask answer None = Unit {0}
+AnswerStands s ask answer (Some n) = StandsBehind s ask answer n
 
-taken_stands : (s : State) (o : Option Next) (n : Next) → AnswerStands s o → o ≡ Some n → StandsAfter s n
-taken_stands s None n h e = absurd (none-some n e)
-taken_stands s (Some m) n h e = subst (λ (n : Next). StandsAfter s n) (same_Some m n e) h
+taken_stands : (s : State) (ask : Ask) (answer : Answer) (o : Option Next) (n : Next) → AnswerStands s ask answer o → o ≡ Some n → StandsBehind s ask answer n
+taken_stands s ask answer None n h e = absurd (none-some n e)
+taken_stands s ask answer (Some m) n h e = subst (λ (n : Next). StandsBehind s ask answer n) (same_Some m n e) h
 
 -- STATES
--- a change of one process that leaves all but its output
-output_only : (p : ℕ) (f : Process → Process) (s t : State) → SameButForExchanges s t → ((x y : Process) → process t p ≡ Some x → without_output (f x) ≡ without_output x) → SameButForExchanges s (change_process p f t)
-output_only p f s t same h = go (process t p) refl
+-- what an exchange leaves in a state that is the call's
+leaves_in : (s t u : State) (ask : Ask) (answer : Answer) → Is s t → Leaves ask answer t u → Leaves ask answer s u
+leaves_in s t u ask answer h l = subst (λ (s : State). Leaves ask answer s u) h l
+
+-- two changes that do the same to a process
+pub same_change : (t : State) (p : ℕ) (x : Process) (f g : Process → Process) → process t p ≡ Some x → f x ≡ g x → change_process p f t ≡ change_process p g t
+same_change t p x f g e k = go (process t p) e
   where
-    at : (xs : List Process) (q : ℕ) (x : Process) → slice_get xs q ≡ Some x → without_output (f x) ≡ without_output x → map without_output (slice_set xs q (f x)) ≡ map without_output xs
-    at [] q x e k = refl
-    at (y ∷ xs) zero x e k = let r : y ≡ x = cc in rw r (ap (λ z. z ∷ map without_output xs) k)
-    at (y ∷ xs) (suc q) x e k = ap (λ zs. without_output y ∷ zs) (at xs q x e k)
+    go : (o : Option Process) → o ≡ Some x → let a : State = elim o [ None ↦ t | Some y ↦ record t { processes = slice_set t.processes p (f y) } ] in let b : State = elim o [ None ↦ t | Some y ↦ record t { processes = slice_set t.processes p (g y) } ] in a ≡ b
+    go None e = absurd (none-some x e)
+    go (Some y) e =
+        let q : f y ≡ g y = subst (λ (z : Process). f z ≡ g z) (sym (same_Some y x e)) k in
+        ap (λ (z : Process). record t { processes = slice_set t.processes p z }) q
 
-    go : (o : Option Process) → process t p ≡ o → SameButForExchanges s (elim o [ None ↦ t | Some x ↦ record t { processes = slice_set t.processes p (f x) } ])
-    go None e = same
-    go (Some x) e = (λ i. record (but_for_exchanges t) { processes = at t.processes p x e (h x x e) i }) ∙ same
+editor_same : (s t : State) (e : Editor) → Is s t → e ≡ t.editor → Is s (with_editor e t)
+editor_same s t e same q = ap (λ (e : Editor). with_editor e t) q ∙ same
 
-editor_same : (s t : State) (e : Editor) → SameButForExchanges s t → e ≡ t.editor → SameButForExchanges s (with_editor e t)
-editor_same s t e same q = ap (λ (e : Editor). but_for_exchanges (with_editor e t)) q ∙ same
-
-inhibited_same : (s t : State) (b : Bool) → SameButForExchanges s t → t.inhibited ≡ b → SameButForExchanges s (record t { inhibited = b })
-inhibited_same s t b same q = ap (λ (b : Bool). but_for_exchanges (record t { inhibited = b })) (sym q) ∙ same
+inhibited_same : (s t : State) (b : Bool) → Is s t → t.inhibited ≡ b → Is s (record t { inhibited = b })
+inhibited_same s t b same q = ap (λ (b : Bool). record t { inhibited = b }) (sym q) ∙ same
 
 -- CALLS THAT SET STATE
 abbrev LeavesIfRefused : Editor → Applied → Type 0
@@ -134,61 +143,113 @@ apply_leaves e BufferDisableUndo args = λ f h. cc
 apply_leaves e BufferEnableUndo args = λ f h. cc
 apply_leaves e _ args = λ f h. refl
 
+-- ANSWERS
+-- what is to be answered writes its answer, the entry of a handler or an exit before all else
+abbrev StepAnswers : Step → Type 0
+StepAnswers (Goes n) = n.said ≡ [] → AnswersNext n.config.work
+StepAnswers (Asks ask next) = (answer : Answer) (n : Next) → next answer ≡ Some n → n.said ≡ [] → AnswersNext n.config.work
+StepAnswers Ended = Unit {0}
+
+says_something : (x : Said) (said : List Said) → (x ∷ said) ≡ [] → ⊥
+says_something x said e = cc
+
+killed_answers : (next : Next) (answer : Answer) (n : Next) → AnswersNext next.config.work → kill_answer next answer ≡ Some n → AnswersNext n.config.work
+killed_answers next Killed n h e = subst (λ (n : Next). AnswersNext n.config.work) (same_Some next n e) h
+killed_answers next Answer.Failed n h e = subst (λ (n : Next). AnswersNext n.config.work) (same_Some next n e) h
+killed_answers next _ n h e = cc
+
+delete_answers : (t : State) (p : ℕ) (rest : List Item) → AnswersNext rest → StepAnswers (delete t p rest)
+delete_answers t p rest h = go (process t p)
+  where
+    by_status : (x : Process) (k : Status) → StepAnswers (delete_running k t p x rest)
+    by_status x Runs = λ answer n k e. killed_answers _ answer n tt k
+    by_status x _ = λ e. h
+
+    go : (o : Option Process) → StepAnswers (delete_one t p o rest)
+    go None = λ e. h
+    go (Some x) = by_status x x.status
+
+answers_step : (program : Program) (bound : ℕ) (t : State) (work : List Item) → AnswersNext work → StepAnswers (step program bound (record { state = t; work = work }))
+answers_step program bound t (GiveAnswer v Nowhere ∷ work) r = λ e. absurd (says_something _ _ e)
+answers_step program bound t (GiveAnswer v (ToName name) ∷ work) r = λ e. absurd (says_something _ _ e)
+answers_step program bound t (GiveAnswer v ToNative ∷ work) r = λ e. absurd (says_something _ _ e)
+answers_step program bound t (Enter kind handler args ∷ work) r = λ e. absurd (says_something _ _ e)
+answers_step program bound t (Exit kind handler current faulted ∷ work) r = λ e. absurd (says_something _ _ e)
+answers_step program bound t (Hooks kind [] args ∷ work) r = λ e. r
+answers_step program bound t (Hooks kind (n ∷ names) args ∷ work) r = λ e. tt
+answers_step program bound t (Calm old ∷ work) r = λ e. r
+answers_step program bound t (Delete p ∷ work) r = delete_answers t p work r
+answers_step program bound t _ r = absurd r
+
+run_answers : (program : Program) (bound : ℕ) {c d : Config} {exchanges : List Exchange} {said : List Said} → Reaches program bound c exchanges said d → said ≡ [] → AnswersNext c.work → AnswersNext d.work
+run_answers program bound stays e x = x
+run_answers program bound (goes {c = c} {n = n} {said = said} h r) e x =
+    let both : (n.said ≡ []) × (said ≡ []) = none_first n.said said e in
+    let k : StepAnswers (Goes n) = subst (λ t. StepAnswers t) h (answers_step program bound c.state c.work x) in
+    run_answers program bound r both.1 (k both.0)
+run_answers program bound (asks {c = c} {ask = ask} {answer = answer} {next = next} {n = n} {said = said} h k r) e x =
+    let both : (n.said ≡ []) × (said ≡ []) = none_first n.said said e in
+    let j : StepAnswers (Asks ask next) = subst (λ t. StepAnswers t) h (answers_step program bound c.state c.work x) in
+    run_answers program bound r both.1 (j answer n k both.0)
+
 -- CALLS
 module _ (s : State) where
-  answered_stands : (t : State) (target : Target) (r : Reply) (rest : List Item) → ((f : Fault) → r ≡ Reply.Refused f → SameButForExchanges s t) → StepStands s (answered t target r rest)
+  answered_stands : (t : State) (target : Target) (r : Reply) (rest : List Item) → ((f : Fault) → r ≡ Reply.Refused f → Is s t) → StepStands s (answered t target r rest)
   answered_stands t target (Answered v) rest h = λ e. answers tt
   answered_stands t target (Reply.Refused f) rest h = λ e. refuses f rest refl (h f refl)
 
-  change_stands : (t : State) (target : Target) (rest : List Item) (p : Prepared) → SameButForExchanges s t → StepStands s (change_call t target rest p)
+  change_stands : (t : State) (target : Target) (rest : List Item) (p : Prepared) → Is s t → StepStands s (change_call t target rest p)
   change_stands t target rest (Changes c) h = λ e. changes c c.reply target rest refl h
   change_stands t target rest (Quiet c) h = λ e. answers tt
   change_stands t target rest (Nothing v) h = λ e. answers tt
   change_stands t target rest (Barred f) h = λ e. refuses f rest refl h
 
-  unless_stands : (o : Option Fault) (t : State) (rest : List Item) (x : Step) → SameButForExchanges s t → StepStands s x → StepStands s (unless_fault o t rest x)
+  unless_stands : (o : Option Fault) (t : State) (rest : List Item) (x : Step) → Is s t → StepStands s x → StepStands s (unless_fault o t rest x)
   unless_stands (Some f) t rest x h k = λ e. refuses f rest refl h
   unless_stands None t rest x h k = k
 
-  spawned_stands : (t : State) (target : Target) (rest : List Item) (name b : Value) (answer : Answer) → SameButForExchanges s t → AnswerStands s (spawned t target rest name b answer)
-  spawned_stands t target rest name b (Started child) h = go (is_new_child t child)
+  spawned_stands : (t : State) (target : Target) (rest : List Item) (name b : Value) (program : List ℕ) (words : List (List ℕ)) (answer : Answer) → Is s t → AnswerStands s (Spawn program words) answer (spawned t target rest name b answer)
+  spawned_stands t target rest name b program words (Started child) h = go (is_new_child t child)
     where
-      go : (new : Bool) → AnswerStands s (spawned_child new t target rest name b child)
-      go true = λ e. answers tt
+      go : (new : Bool) → AnswerStands s (Spawn program words) (Started child) (spawned_child new t target rest name b child)
+      go true = λ e. inl tt
       go false = tt
-  spawned_stands t target rest name b Answer.Refused h = λ e. refuses SpawnFailed rest refl h
-  spawned_stands t target rest name b _ h = tt
+  spawned_stands t target rest name b program words Answer.Refused h = λ e. inr (asked_more t, leaves_in s t (asked_more t) (Spawn program words) Answer.Refused h refl, refuses SpawnFailed rest refl refl)
+  spawned_stands t target rest name b program words _ h = tt
 
-  sent_stands : (t : State) (target : Target) (rest : List Item) (size : ℕ) (answer : Answer) → SameButForExchanges s t → AnswerStands s (sent_answer t target rest size answer)
-  sent_stands t target rest size Sent h = λ e. answers tt
-  sent_stands t target rest size Broken h = λ e. refuses BrokenPipe rest refl h
-  sent_stands t target rest size _ h = tt
+  sent_stands : (t : State) (target : Target) (rest : List Item) (child : ℕ) (bytes : List ℕ) (answer : Answer) → Is s t → AnswerStands s (Send child bytes) answer (sent_answer t target rest (length bytes) answer)
+  sent_stands t target rest child bytes Sent h = λ e. inl tt
+  sent_stands t target rest child bytes Broken h = λ e. inr (broken, leaves_in s t broken (Send child bytes) Broken h refl, refuses BrokenPipe rest refl refl)
+    where
+      broken : State
+      broken = record t { asked = t.asked + 1; sent = t.sent + length bytes }
+  sent_stands t target rest child bytes _ h = tt
 
-  send_stands : (t : State) (target : Target) (rest : List Item) (child : ℕ) (bytes : List ℕ) → SameButForExchanges s t → StepStands s (send t target rest child bytes)
+  send_stands : (t : State) (target : Target) (rest : List Item) (child : ℕ) (bytes : List ℕ) → Is s t → StepStands s (send t target rest child bytes)
   send_stands t target rest child [] h = λ e. answers tt
-  send_stands t target rest child (b ∷ bytes) h = λ answer n e. taken_stands s _ n (sent_stands t target rest _ answer h) e
+  send_stands t target rest child (b ∷ bytes) h = λ answer n e. taken_stands s (Send child (b ∷ bytes)) answer _ n (sent_stands t target rest child (b ∷ bytes) answer h) e
 
-  closed_stands : (t : State) (target : Target) (rest : List Item) (p : ℕ) (answer : Answer) → AnswerStands s (closed_answer t target rest p answer)
-  closed_stands t target rest p Closed = λ e. answers tt
-  closed_stands t target rest p _ = tt
+  closed_stands : (t : State) (target : Target) (rest : List Item) (p child : ℕ) (answer : Answer) → AnswerStands s (Close child) answer (closed_answer t target rest p answer)
+  closed_stands t target rest p child Closed = λ e. inl tt
+  closed_stands t target rest p child _ = tt
 
   eof_stands : (t : State) (target : Target) (rest : List Item) (p : ℕ) (closed : Bool) → StepStands s (send_eof t target rest p closed)
   eof_stands t target rest p true = λ e. answers tt
-  eof_stands t target rest p false = λ answer n e. taken_stands s _ n (closed_stands t target rest p answer) e
+  eof_stands t target rest p false = λ answer n e. taken_stands s (Close (child_of t p)) answer _ n (closed_stands t target rest p (child_of t p) answer) e
 
-  deletes_stand : (t : State) (ps : List ℕ) (b : ℕ) (target : Target) (rest : List Item) → SameButForExchanges s t → Stands s (record { state = t; work = map Delete ps ++ Item.KillBuffer b target ∷ rest })
+  deletes_stand : (t : State) (ps : List ℕ) (b : ℕ) (target : Target) (rest : List Item) → Is s t → Stands s (record { state = t; work = map Delete ps ++ Item.KillBuffer b target ∷ rest })
   deletes_stand t [] b target rest h = calls (Item.KillBuffer b target) rest tt refl h
   deletes_stand t (p ∷ ps) b target rest h = deletes p ps b target rest refl h
 
-  effect_stands : (t : State) (target : Target) (rest : List Item) (prim : Prim) (args : List Value) → SameButForExchanges s t → StepStands s (process_effect t target rest prim args)
+  effect_stands : (t : State) (target : Target) (rest : List Item) (prim : Prim) (args : List Value) → Is s t → StepStands s (process_effect t target rest prim args)
   effect_stands t target rest KillBuffer args h = λ e. deletes_stand t (running_in t (buffer_of t.editor (arg args 0))) (buffer_of t.editor (arg args 0)) target rest h
-  effect_stands t target rest StartProcess args h = λ answer n e. taken_stands s _ n (spawned_stands t target rest (arg args 0) (arg args 1) answer h) e
+  effect_stands t target rest StartProcess args h = λ answer n e. taken_stands s (Spawn (encoded (string_of (arg args 2))) (map (λ v. encoded (string_of v)) (drop 3 args))) answer _ n (spawned_stands t target rest (arg args 0) (arg args 1) (encoded (string_of (arg args 2))) (map (λ v. encoded (string_of v)) (drop 3 args)) answer h) e
   effect_stands t target rest ProcessSendString args h = send_stands t target rest (child_of t (process_of t (arg args 0))) (encoded (string_of (arg args 1))) h
   effect_stands t target rest ProcessSendEof args h = eof_stands t target rest (process_of t (arg args 0)) (is_closed t (process_of t (arg args 0)))
   effect_stands t target rest AcceptProcessOutput args h = λ e. calls (Wait (waiting t (arg args 0) (arg args 1) (arg args 2)) target) rest tt refl h
   effect_stands t target rest _ args h = λ e. answers tt
 
-  call_stands : (program : Program) (bound : ℕ) (t : State) (target : Target) (rest : List Item) (prim : Prim) (args : List Value) → SameButForExchanges s t → StepStands s (call program bound t target rest prim args)
+  call_stands : (program : Program) (bound : ℕ) (t : State) (target : Target) (rest : List Item) (prim : Prim) (args : List Value) → Is s t → StepStands s (call program bound t target rest prim args)
   call_stands program bound t target rest prim args h = go (manner_of prim)
     where
       go : (m : Manner) → StepStands s (call_by m program bound t target rest prim args)
@@ -197,49 +258,59 @@ module _ (s : State) where
       go ChangesText = change_stands t target rest (prepare t.editor prim args) h
       go ConcernsHandlers = unless_stands (first_fault (process_tests program bound t prim args)) t rest (process_effect t target rest prim args) h (effect_stands t target rest prim args h)
 
-  form_stands : (t : State) (rest : List Item) (o : Option (List Value)) (prim : Prim) (target : Target) → SameButForExchanges s t → StepStands s (call_with o prim target t rest)
+  form_stands : (t : State) (rest : List Item) (o : Option (List Value)) (prim : Prim) (target : Target) → Is s t → StepStands s (call_with o prim target t rest)
   form_stands t rest None prim target h = λ e. refuses VoidVariable rest refl h
   form_stands t rest (Some args) prim target h = λ e. calls (MakeCall prim args target) rest tt refl h
 
   -- WAITS
 
   -- the work of an entry is the same in any state
-  heard_stands : (t u : State) (p : ℕ) (x : Process) (text : List Ch) (w : Waiting) (target : Target) (rest : List Item) → SameButForExchanges s u → Stands s (record { state = u; work = entry_of t p x text (Wait w target ∷ rest) })
-  heard_stands t u p x [] w target rest h = calls (Wait w target) rest tt refl h
-  heard_stands t u p x (c ∷ text) w target rest h = answers tt
+  heard_stands : (t u : State) (p : ℕ) (x : Process) (text : List Ch) (w : Waiting) (target : Target) (rest : List Item) (ask : Ask) (answer : Answer) → Leaves ask answer s u →
+      let work : List Item = entry_of t p x text (Wait w target ∷ rest) in AnswersNext work ⊎ ((v : State) × Leaves ask answer s v × Stands v (record { state = u; work = work }))
+  heard_stands t u p x [] w target rest ask answer l = inr (u, l, calls (Wait w target) rest tt refl refl)
+  heard_stands t u p x (c ∷ text) w target rest ask answer l = inl tt
 
-  drain_stands : (t : State) (w : Waiting) (target : Target) (rest : List Item) (p : ℕ) (x : Process) → SameButForExchanges s t → AnswerStands s (drain t w target rest p x)
-  drain_stands t w target rest p x h = λ e. heard_stands t _ p x _ w target rest (output_only p (λ y. record y { drained = true }) s (asked_more t) h (λ x y k. refl))
+  drain_stands : (t : State) (w : Waiting) (target : Target) (rest : List Item) (p : ℕ) (x : Process) (answer : Answer) → ((u : State) → Noted x.child (λ y. record y { drained = true }) s u → Leaves (Read x.child) answer s u) → process t p ≡ Some x → Is s t → AnswerStands s (Read x.child) answer (drain t w target rest p x)
+  drain_stands t w target rest p x answer l k h =
+      let u : State = change_process p (λ y. record y { drained = true }) (asked_more t) in
+      let noted : Noted x.child (λ y. record y { drained = true }) s u = subst (λ (s : State). Noted x.child (λ y. record y { drained = true }) s u) h (p, x, k, refl, refl) in
+      λ e. heard_stands t u p x _ w target rest (Read x.child) answer (l u noted)
 
-  read_stands : (t : State) (w : Waiting) (target : Target) (rest : List Item) (p : ℕ) (x : Process) (answer : Answer) → SameButForExchanges s t → AnswerStands s (read_answer t w target rest p x answer)
-  read_stands t w target rest p x (Bytes bytes) h = go (is_room bytes)
+  read_stands : (t : State) (w : Waiting) (target : Target) (rest : List Item) (p : ℕ) (x : Process) (answer : Answer) → process t p ≡ Some x → Is s t → AnswerStands s (Read x.child) answer (read_answer t w target rest p x answer)
+  read_stands t w target rest p x (Bytes bytes) k h = go (is_room bytes)
     where
-      go : (fits : Bool) → AnswerStands s (hear fits t w target rest p x bytes)
-      go false = tt
-      go true = λ e. heard_stands t _ p x _ (record w { counted = _ }) target rest (output_only p (λ y. record y { bytes = x.bytes ++ bytes }) s (asked_more t) h (λ x y k. refl))
-  read_stands t w target rest p x Answer.Nothing h = λ e. calls (Wait w target) rest tt refl h
-  read_stands t w target rest p x End h = drain_stands t w target rest p x h
-  read_stands t w target rest p x Answer.Failed h = drain_stands t w target rest p x h
-  read_stands t w target rest p x _ h = tt
+      u : State
+      u = change_process p (λ y. record y { bytes = x.bytes ++ bytes }) (asked_more t)
 
-  end_stands : (t : State) (w : Waiting) (target : Target) (rest : List Item) (p : ℕ) (x : Process) (answer : Answer) → SameButForExchanges s t → AnswerStands s (end_answer t w target rest p x answer)
-  end_stands t w target rest p x (Code n) h = λ e. answers tt
-  end_stands t w target rest p x Signal h = λ e. answers tt
-  end_stands t w target rest p x Answer.Failed h = λ e. answers tt
-  end_stands t w target rest p x Running h = λ e. calls (Wait w target) rest tt refl h
+      noted : Leaves (Read x.child) (Bytes bytes) t u
+      noted = (p, x, k, refl, same_change (asked_more t) p x (λ y. record y { bytes = x.bytes ++ bytes }) (λ y. record y { bytes = y.bytes ++ bytes }) k refl)
+
+      go : (fits : Bool) → AnswerStands s (Read x.child) (Bytes bytes) (hear fits t w target rest p x bytes)
+      go false = tt
+      go true = λ e. heard_stands t u p x _ (record w { counted = _ }) target rest (Read x.child) (Bytes bytes) (leaves_in s t u (Read x.child) (Bytes bytes) h noted)
+  read_stands t w target rest p x Answer.Nothing k h = λ e. inr (asked_more t, leaves_in s t (asked_more t) (Read x.child) Answer.Nothing h refl, calls (Wait w target) rest tt refl refl)
+  read_stands t w target rest p x End k h = drain_stands t w target rest p x End (λ u l. l) k h
+  read_stands t w target rest p x Answer.Failed k h = drain_stands t w target rest p x Answer.Failed (λ u l. l) k h
+  read_stands t w target rest p x _ k h = tt
+
+  end_stands : (t : State) (w : Waiting) (target : Target) (rest : List Item) (p : ℕ) (x : Process) (answer : Answer) → Is s t → AnswerStands s (AskEnd x.child) answer (end_answer t w target rest p x answer)
+  end_stands t w target rest p x (Code n) h = λ e. inl tt
+  end_stands t w target rest p x Signal h = λ e. inl tt
+  end_stands t w target rest p x Answer.Failed h = λ e. inl tt
+  end_stands t w target rest p x Running h = λ e. inr (asked_more t, leaves_in s t (asked_more t) (AskEnd x.child) Running h refl, calls (Wait w target) rest tt refl refl)
   end_stands t w target rest p x _ h = tt
 
-  ask_stands : (t : State) (w : Waiting) (target : Target) (rest : List Item) (p : ℕ) → (process t p ≡ None → ⊥) → SameButForExchanges s t → StepStands s (ask_process t w target rest p)
+  ask_stands : (t : State) (w : Waiting) (target : Target) (rest : List Item) (p : ℕ) → (process t p ≡ None → ⊥) → Is s t → StepStands s (ask_process t w target rest p)
   ask_stands t w target rest p there h = go (may_ask t) (process t p) refl
     where
-      by_drained : (x : Process) (drained : Bool) → StepStands s (ask_next drained t w target rest p x)
-      by_drained x false = λ answer n e. taken_stands s _ n (read_stands t w target rest p x answer h) e
-      by_drained x true = λ answer n e. taken_stands s _ n (end_stands t w target rest p x answer h) e
+      by_drained : (x : Process) (drained : Bool) → process t p ≡ Some x → StepStands s (ask_next drained t w target rest p x)
+      by_drained x false k = λ answer n e. taken_stands s (Read x.child) answer _ n (read_stands t w target rest p x answer k h) e
+      by_drained x true k = λ answer n e. taken_stands s (AskEnd x.child) answer _ n (end_stands t w target rest p x answer h) e
 
       go : (may : Bool) (o : Option Process) → process t p ≡ o → StepStands s (ask_if may o t w target rest p)
       go false o k = λ e. refuses ExchangesSpent rest refl h
       go true None k = absurd (there k)
-      go true (Some x) k = by_drained x x.drained
+      go true (Some x) k = by_drained x x.drained k
 
   -- a process that is eligible is there
   eligible_is_there : (t : State) (w : Waiting) (p : ℕ) → is_eligible t w p ≡ true → process t p ≡ None → ⊥
@@ -247,7 +318,7 @@ module _ (s : State) where
       let q : is_eligible_one w p None ≡ true = subst (λ o. is_eligible_one w p o ≡ true) k h in
       cc
 
-  wait_stands : (t : State) (w : Waiting) (target : Target) (rest : List Item) → SameButForExchanges s t → StepStands s (wait t w target rest)
+  wait_stands : (t : State) (w : Waiting) (target : Target) (rest : List Item) → Is s t → StepStands s (wait t w target rest)
   wait_stands t w target rest h = go w.counted (target_is_eligible t w) (from_eligible t w w.asking) refl (eligible t w) w.rounds
     where
       go : (counted fit : Bool) (asking : List ℕ) → from_eligible t w w.asking ≡ asking → (all : List ℕ) (rounds : ℕ) → StepStands s (wait_case counted fit asking all rounds t w target rest)
@@ -259,23 +330,23 @@ module _ (s : State) where
       go false true [] k (p ∷ more) (suc rounds) = λ e. calls (Wait (record w { rounds = rounds; asking = p ∷ more }) target) rest tt refl h
 
   -- DELETIONS AND KILLING
-  kill_stands : (next : Next) (answer : Answer) → StandsAfter s next → AnswerStands s (kill_answer next answer)
-  kill_stands next Killed h = h
-  kill_stands next Answer.Failed h = h
-  kill_stands next _ h = tt
+  kill_stands : (next : Next) (child : ℕ) (answer : Answer) → AnswersNext next.config.work → AnswerStands s (Kill child) answer (kill_answer next answer)
+  kill_stands next child Killed h = λ e. inl h
+  kill_stands next child Answer.Failed h = λ e. inl h
+  kill_stands next child _ h = tt
 
   delete_stands : (t : State) (p : ℕ) (rest : List Item) → Stands s (record { state = t; work = rest }) → StepStands s (delete t p rest)
   delete_stands t p rest h = go (process t p)
     where
       by_status : (x : Process) (k : Status) → StepStands s (delete_running k t p x rest)
-      by_status x Runs = λ answer n e. taken_stands s _ n (kill_stands _ answer (λ e. answers tt)) e
+      by_status x Runs = λ answer n e. taken_stands s (Kill x.child) answer _ n (kill_stands _ x.child answer tt) e
       by_status x _ = λ e. h
 
       go : (o : Option Process) → StepStands s (delete_one t p o rest)
       go None = λ e. h
       go (Some x) = by_status x x.status
 
-  kill_buffer_stands : (t : State) (b : ℕ) (target : Target) (rest : List Item) → SameButForExchanges s t → StepStands s (kill_at_end t b target rest)
+  kill_buffer_stands : (t : State) (b : ℕ) (target : Target) (rest : List Item) → Is s t → StepStands s (kill_at_end t b target rest)
   kill_buffer_stands t b target rest h = go (is_live t.editor b)
     where
       go : (lives : Bool) → StepStands s (kill_live lives t b target rest)
@@ -283,12 +354,12 @@ module _ (s : State) where
       go true = unless_stands (first_fault (must_be_replaceable t.editor b ∷ [])) t rest _ h (λ e. answers tt)
 
   -- CHANGES
-  hooks_stand : (t : State) (kind : Kind) (names : List ℕ) (args : List Value) (k : Change) (rest : List Item) → AnswersNext rest → SameButForExchanges s (popped (record t { inhibited = false })) →
+  hooks_stand : (t : State) (kind : Kind) (names : List ℕ) (args : List Value) (k : Change) (rest : List Item) → AnswersNext rest → Is s (popped (record t { inhibited = false })) →
       Stands s (record { state = t; work = Hooks kind names args ∷ Calm false ∷ CommitChange k ∷ rest })
   hooks_stand t kind [] args k rest r h = enters_none kind args false k rest refl r h
   hooks_stand t kind (n ∷ names) args k rest r h = answers tt
 
-  make_stands : (t : State) (k : Change) (rest : List Item) → AnswersNext rest → SameButForExchanges s t → StepStands s (make_change t k rest)
+  make_stands : (t : State) (k : Change) (rest : List Item) → AnswersNext rest → Is s t → StepStands s (make_change t k rest)
   make_stands t k rest r h = λ e. go t.inhibited refl
     where
       begun : State
@@ -303,28 +374,17 @@ module _ (s : State) where
   after_stands u false kind [] args rest r = answers r
   after_stands u false kind (n ∷ names) args rest r = answers tt
 
-  commit_stands : (t : State) (k : Change) (rest : List Item) (new : Editor) (done : Committed) → AnswersNext rest → SameButForExchanges s (popped t) → StepStands s (after_commit new done t k rest)
+  commit_stands : (t : State) (k : Change) (rest : List Item) (new : Editor) (done : Committed) → AnswersNext rest → Is s (popped t) → StepStands s (after_commit new done t k rest)
   commit_stands t k rest new (Failed f) r h = λ e. refuses f rest refl h
   commit_stands t k rest new (Done from to old) r h = λ e. after_stands _ t.inhibited _ _ _ rest r
 
-  -- ANSWERS
-  says_something : (x : Said) (said : List Said) → (x ∷ said) ≡ [] → ⊥
-  says_something x said e = cc
-
-  answers_stand : (program : Program) (bound : ℕ) (t : State) (work : List Item) → AnswersNext work → StepStands s (step program bound (record { state = t; work = work }))
-  answers_stand program bound t (GiveAnswer v Nowhere ∷ work) r = λ e. absurd (says_something _ _ e)
-  answers_stand program bound t (GiveAnswer v (ToName name) ∷ work) r = λ e. absurd (says_something _ _ e)
-  answers_stand program bound t (GiveAnswer v ToNative ∷ work) r = λ e. absurd (says_something _ _ e)
-  answers_stand program bound t (Enter kind handler args ∷ work) r = λ e. absurd (says_something _ _ e)
-  answers_stand program bound t (Exit kind handler current faulted ∷ work) r = λ e. absurd (says_something _ _ e)
-  answers_stand program bound t (Hooks kind [] args ∷ work) r = λ e. answers r
-  answers_stand program bound t (Hooks kind (n ∷ names) args ∷ work) r = λ e. answers tt
-  answers_stand program bound t (Calm old ∷ work) r = λ e. answers r
-  answers_stand program bound t (Delete p ∷ work) r = delete_stands t p work (answers r)
-  answers_stand program bound t _ r = absurd r
-
   -- EACH STEP
-  item_stands : (program : Program) (bound : ℕ) (t : State) (item : Item) (rest : List Item) → IsCall item → SameButForExchanges s t → StepStands s (item_step program bound t rest item)
+  answering_stands : (x : Step) → StepAnswers x → StepStands s x
+  answering_stands (Goes n) h = λ e. answers (h e)
+  answering_stands (Asks ask next) h = λ answer n k e. inl (h answer n k e)
+  answering_stands Ended h = tt
+
+  item_stands : (program : Program) (bound : ℕ) (t : State) (item : Item) (rest : List Item) → IsCall item → Is s t → StepStands s (item_step program bound t rest item)
   item_stands program bound t (DoForm (Do c)) rest q h = form_stands t rest (evaluate t c.args) c.prim Nowhere h
   item_stands program bound t (DoForm (Setq name c)) rest q h = form_stands t rest (evaluate t c.args) c.prim (ToName name) h
   item_stands program bound t (MakeCall prim args target) rest q h = call_stands program bound t target rest prim args h
@@ -343,34 +403,51 @@ module _ (s : State) where
   step_stands program bound c (calms old k rest e r h) = at_work program bound c _ e (λ x. commits k rest refl r h)
   step_stands program bound c (commits k rest e r h) = at_work program bound c _ e (commit_stands c.state k rest (commit c.state.editor (at_kept k (saved_of c.state))).editor (commit c.state.editor (at_kept k (saved_of c.state))).committed r h)
   step_stands program bound c (refuses f rest e h) = at_work program bound c _ e (λ x. absurd (says_something _ _ x))
-  step_stands program bound c (answers r) = answers_stand program bound c.state c.work r
+  step_stands program bound c (answers r) = answering_stands (step program bound c) (answers_step program bound c.state c.work r)
 
-  -- EACH RUN
   goes_stands : (program : Program) (bound : ℕ) (c : Config) (n : Next) → Stands s c → step program bound c ≡ Goes n → StandsAfter s n
   goes_stands program bound c n x h = let k : StepStands s (Goes n) = subst (λ t. StepStands s t) h (step_stands program bound c x) in k
 
-  asks_stands : (program : Program) (bound : ℕ) (c : Config) (ask : Ask) (next : Answer → Option Next) (answer : Answer) (n : Next) → Stands s c → step program bound c ≡ Asks ask next → next answer ≡ Some n → StandsAfter s n
+  asks_stands : (program : Program) (bound : ℕ) (c : Config) (ask : Ask) (next : Answer → Option Next) (answer : Answer) (n : Next) → Stands s c → step program bound c ≡ Asks ask next → next answer ≡ Some n → StandsBehind s ask answer n
   asks_stands program bound c ask next answer n x h k = let j : StepStands s (Asks ask next) = subst (λ t. StepStands s t) h (step_stands program bound c x) in j answer n k
 
-  run_stands : (program : Program) (bound : ℕ) {c d : Config} {exchanges : List Exchange} {said : List Said} → Reaches program bound c exchanges said d → said ≡ [] → Stands s c → Stands s d
-  run_stands program bound stays e x = x
-  run_stands program bound (goes {c = c} {n = n} {said = said} h r) e x =
-      let both : (n.said ≡ []) × (said ≡ []) = none_first n.said said e in
-      run_stands program bound r both.1 (goes_stands program bound c n x h both.0)
-  run_stands program bound (asks {c = c} {ask = ask} {answer = answer} {next = next} {n = n} {said = said} h k r) e x =
-      let both : (n.said ≡ []) × (said ≡ []) = none_first n.said said e in
-      run_stands program bound r both.1 (asks_stands program bound c ask next answer n x h k both.0)
+-- EACH RUN
+abbrev IsRefused : List Item → Type 0
+IsRefused (Refuse fault ∷ rest) = Unit {0}
+IsRefused _ = ⊥
 
-  -- a call that stands before its refusal has changed nothing
-  refused_same : (t : State) (f : Fault) (more : List Item) → Stands s (record { state = t; work = Refuse f ∷ more }) → SameButForExchanges s t
-  refused_same t f more (calls item rest q e h) = h
-  refused_same t f more (deletes p ps b target rest e h) = h
-  refused_same t f more (changes k v target rest e h) = h
-  refused_same t f more (enters_none kind args old k rest e r h) = cc
-  refused_same t f more (calms old k rest e r h) = cc
-  refused_same t f more (commits k rest e r h) = cc
-  refused_same t f more (refuses g rest e h) = h
-  refused_same t f more (answers r) = absurd r
+never_answers : (work : List Item) → IsRefused work → AnswersNext work → ⊥
+never_answers (Refuse fault ∷ rest) w r = r
+never_answers _ w r = w
+
+-- a call that stands before its refusal has changed nothing
+refused_same : (s : State) (c : Config) → IsRefused c.work → Stands s c → Is s c.state
+refused_same s c w (calls item rest q e h) = h
+refused_same s c w (deletes p ps b target rest e h) = h
+refused_same s c w (changes k v target rest e h) = h
+refused_same s c w (enters_none kind args old k rest e r h) = absurd (subst (λ l. IsRefused l) e w)
+refused_same s c w (calms old k rest e r h) = absurd (subst (λ l. IsRefused l) e w)
+refused_same s c w (commits k rest e r h) = absurd (subst (λ l. IsRefused l) e w)
+refused_same s c w (refuses g rest e h) = h
+refused_same s c w (answers r) = absurd (never_answers c.work w r)
+
+-- behind an exchange either no refusal comes, or one that leaves what the further exchanges leave
+behind_leaves : (s t : State) (ask : Ask) (answer : Answer) (n : Next) (exchanges : List Exchange) → (AnswersNext n.config.work → ⊥) → ((u : State) → Stands u n.config → AllLeave exchanges u t) →
+    AnswersNext n.config.work ⊎ ((u : State) × Leaves ask answer s u × Stands u n.config) → (u : State) × Leaves ask answer s u × AllLeave exchanges u t
+behind_leaves s t ask answer n exchanges never go (inl a) = absurd (never a)
+behind_leaves s t ask answer n exchanges never go (inr y) = (y.0, y.1, go y.0 y.2)
+
+run_leaves : (program : Program) (bound : ℕ) (s : State) {c d : Config} {exchanges : List Exchange} {said : List Said} → Reaches program bound c exchanges said d → said ≡ [] → IsRefused d.work → Stands s c → AllLeave exchanges s d.state
+run_leaves program bound s (stays {c = c}) e w x = refused_same s c w x
+run_leaves program bound s (goes {c = c} {n = n} {said = said} h r) e w x =
+    let both : (n.said ≡ []) × (said ≡ []) = none_first n.said said e in
+    run_leaves program bound s r both.1 w (goes_stands s program bound c n x h both.0)
+run_leaves program bound s (asks {c = c} {d = d} {ask = ask} {answer = answer} {next = next} {n = n} {exchanges = exchanges} {said = said} h k r) e w x =
+    let both : (n.said ≡ []) × (said ≡ []) = none_first n.said said e in
+    behind_leaves s d.state ask answer n exchanges
+    (λ a. never_answers d.work w (run_answers program bound r both.1 a))
+    (λ u y. run_leaves program bound u r both.1 w y)
+    (asks_stands s program bound c ask next answer n x h k both.0)
 
 begins : (item : Item) (rest : List Item) (s : State) → IsOfCall item rest → Stands (without_ends item s) (record { state = s; work = item ∷ rest })
 begins (DoForm (Do c)) rest s h = calls (DoForm (Do c)) rest tt refl refl
@@ -383,4 +460,4 @@ begins _ rest s h = absurd h
 
 pub refusals_leave : (program : Program) (bound : ℕ) → RefusalsLeave program bound
 refusals_leave program bound item rest more s t exchanges f h r =
-    refused_same (without_ends item s) t f more (run_stands (without_ends item s) program bound r refl (begins item rest s h))
+    run_leaves program bound (without_ends item s) r refl tt (begins item rest s h)

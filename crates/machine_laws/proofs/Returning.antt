@@ -13,7 +13,7 @@ use Rattle.editor_model.specs.Editor.{Editor, Live, live, buffer_at, new_editor}
 use Rattle.editor_model.specs.Table.{prepare}
 use Rattle.machine_laws.proofs.GoodEditor.{GoodEditor, Passes}
 use Rattle.machine_laws.proofs.Advancing.{live_below, buffer_live}
-use Rattle.machine_laws.proofs.Fits.{GoodSite}
+use Rattle.machine_laws.specs.Fits.{GoodSite}
 use Rattle.plain_machine.specs.Exchanges.{Exchange, Ask, Answer}
 use Rattle.plain_machine.specs.State.{State, Program}
 use Rattle.plain_machine.specs.Items.{Said, Config, Next, Step, Goes, Asks}
@@ -44,12 +44,19 @@ module _ (program : Program) (bound : ℕ) where
   asks_well : (c : Config) (ask : Ask) (answer : Answer) (k : Answer → Option Next) (n : Next) → GoodConfig c → step program bound c ≡ Asks ask k → k answer ≡ Some n → Well c.state.editor n.config
   asks_well c ask answer k n g h e = subst (λ x. AnswerWell c.state x) e ((subst (λ x. StepWell c.state x) h (step_well program bound c g)) answer)
 
+  -- a step from a good configuration comes to a good one
+  pub goes_good : (c : Config) (n : Next) → GoodConfig c → step program bound c ≡ Goes n → GoodConfig n.config
+  goes_good c n g h = well_good c.state.editor n.config (goes_well c n g h)
+
+  pub asks_good : (c : Config) (ask : Ask) (answer : Answer) (k : Answer → Option Next) (n : Next) → GoodConfig c → step program bound c ≡ Asks ask k → k answer ≡ Some n → GoodConfig n.config
+  asks_good c ask answer k n g h e = well_good c.state.editor n.config (asks_well c ask answer k n g h e)
+
   -- every configuration that is reached from a good one is good
   pub reaches_good : (from c : Config) (exchanges : List Exchange) (said : List Said) → GoodConfig from → Reaches program bound from exchanges said c → GoodConfig c
   reaches_good from c exchanges said g r =
       over_runs program bound (λ x y z. GoodConfig z)
-      (λ x y z n i h. well_good z.state.editor n.config (goes_well z n i h))
-      (λ x y z ask answer k n i h e. well_good z.state.editor n.config (asks_well z ask answer k n i h e))
+      (λ x y z n i h. goes_good z n i h)
+      (λ x y z ask answer k n i h e. asks_good z ask answer k n i h e)
       r [] [] g
 
   -- THE TEXT AT A BOUNDARY
@@ -204,13 +211,13 @@ undo_returns program bound from start_good first second said more c d n n' b gro
 
 -- THE START
 new_good : GoodEditor new_editor
-new_good = record { each = λ id l h. each id l h; unborn = λ id h. record { markers = tt; saved = tt } }
+new_good = record { each = λ id l h. each id l h; unborn = λ id h. record { markers = tt; overlays = tt; saved = tt } }
   where
     each : (id : ℕ) (l : Live) → live new_editor id ≡ Some l → GoodSite id (record { buffer = l.buffer; marks = new_editor.marks })
     each zero l h = subst (λ z. GoodSite zero (record { buffer = z.buffer; marks = new_editor.marks })) (same_Some _ l h)
         (record {
           good = record { ordered = tt; falling = tt; off = λ q. refl; below = omega arith; agrees = λ s a q. absurd (omega arith) };
-          fits = record { begin_fits = omega arith; end_fits = omega arith; point_fits = omega arith; marks_fit = record { markers = tt; saved = tt } };
+          fits = record { begin_fits = omega arith; end_fits = omega arith; point_fits = omega arith; marks_fit = record { markers = tt; overlays = tt; saved = tt } };
         })
     each (suc id) l h = absurd (none-some l h)
 

@@ -31,7 +31,7 @@ first_eligible s w p more fit e = go w.target refl
         subst (λ q. is_eligible s w q ≡ true) same there
 
 -- IT IS ASKED
-eligible_is_there : (s : State) (w : Waiting) (p : ℕ) → is_eligible s w p ≡ true → process s p ≡ None → ⊥
+pub eligible_is_there : (s : State) (w : Waiting) (p : ℕ) → is_eligible s w p ≡ true → process s p ≡ None → ⊥
 eligible_is_there s w p h k =
     let q : is_eligible_one w p None ≡ true = subst (λ o. is_eligible_one w p o ≡ true) k h in
     cc

@@ -6,7 +6,8 @@ use Rattle.std.proofs.lemmas.Option.{same_Some, none-some}
 use Rattle.text_model.specs.Marks.{Marks}
 use Rattle.text_model.specs.Commit.{Site}
 use Rattle.text_model.proofs.Cases.{by_test}
-use Rattle.machine_laws.proofs.Fits.{MarksFit, shapes}
+use Rattle.machine_laws.specs.Fits.{MarksFit}
+use Rattle.machine_laws.specs.Brackets.{shapes}
 use Rattle.machine_laws.proofs.OneBuffer.{passes_like}
 use Rattle.editor_model.specs.Editor.{Editor, Live, live, live_from, change_site, killed, scratch, with_buffer}
 use Rattle.machine_laws.proofs.GoodEditor.{GoodEditor, Advances, Steady, Passes}

@@ -7,7 +7,7 @@ use Rattle.text_model.specs.Undo.{Rec, Undo, trial, undone, passed, pass, pendin
 use Rattle.text_model.specs.Commit.{Buffer, Site, inserted, deleted, with_properties, property_records, no_pending, replaced, reset, undo_each, undone_groups}
 use Rattle.text_model.proofs.Cases.{by_test}
 use Rattle.machine_laws.specs.Good.{Falling}
-use Rattle.machine_laws.proofs.Fits.{GoodSite}
+use Rattle.machine_laws.specs.Fits.{GoodSite}
 use Rattle.machine_laws.proofs.Groups.{trial-undone, falling-older, falling-groups}
 use Rattle.machine_laws.proofs.OneBuffer.{passes_from_follows, passes_self, replaced_follows, reset_follows, undone_passes}
 use Rattle.machine_laws.proofs.Fitting.{Fitting, fitting_self, inserted_fits, deleted_fits, properties_fits, each_fits}

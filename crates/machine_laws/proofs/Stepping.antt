@@ -8,7 +8,8 @@ use Rattle.text_model.specs.Properties.{Cell, bare}
 use Rattle.text_model.specs.Ordered.{AreOrdered}
 use Rattle.text_model.specs.Marks.{Spot, Saved, Excursion, Restriction, Pending}
 use Rattle.text_model.proofs.Cases.{by_test}
-use Rattle.machine_laws.proofs.Fits.{KeptFits, SavedFits, shape, shapes}
+use Rattle.machine_laws.specs.Fits.{KeptFits, SavedFits}
+use Rattle.machine_laws.specs.Brackets.{shape, shapes}
 use Rattle.machine_laws.proofs.Changes.{ordered-append}
 use Rattle.editor_model.specs.Values.{Value, Nil, T, Int, ExchangesSpent, at_place, Reply, Answered, Fault, Prim, AddHook, RemoveHook, KillBuffer, StartProcess, SetProcessFilter, SetProcessSentinel, SetProcessBuffer, ProcessSendString, ProcessSendEof, DeleteProcess, AcceptProcessOutput, Form, Forms, NoForms, Then, Do, Setq, In, WhenEq, Block, SaveExcursion, SaveRestriction, SaveCurrentBuffer, InhibitHooks, HandlerDef, equal}
 use Rattle.editor_model.specs.Editor.{Editor, Live, live, is_live, here, killed, register, with_register, with_buffer, with_marker}
@@ -117,7 +118,7 @@ started_well s target rest name b child v r = record {
     spot_lies (Some id) = (lies e id x.advances.good).end
 
     settled : Settles e (with_marker (record { spot = spot; advances = false }) e)
-    settled = marks_settle e (with_marker (record { spot = spot; advances = false }) e) x.advances.good refl (λ id k. record { markers = markers_append id (size_of e id) e.marks.markers (record { spot = spot; advances = false }) k.markers (spot_fits e spot id (spot_lies (process_buffer e b))); saved = k.saved })
+    settled = marks_settle e (with_marker (record { spot = spot; advances = false }) e) x.advances.good refl (λ id k. record { markers = markers_append id (size_of e id) e.marks.markers (record { spot = spot; advances = false }) k.markers (spot_fits e spot id (spot_lies (process_buffer e b))); overlays = k.overlays; saved = k.saved })
 
 spawned_well : (s : State) (target : Target) (rest : List Item) (name b : Value) (a : Answer) → Ready s rest → AnswerWell s (spawned s target rest name b a)
 spawned_well s target rest name b (Started child) r = go (is_new_child s child)
@@ -169,7 +170,7 @@ evaluated_well s rest (Some args) prim target r = well_same s s (MakeCall prim a
 -- a place kept on top
 pushed_well : (s : State) (k : Saved) (work : List Item) → GoodEditor s.editor → ((id : ℕ) → KeptFits id (size_of s.editor id) k) → AllFine work → Stacked work (shape k ∷ kinds s) → Well s.editor (record { state = with_saved (k ∷ saved_of s) s; work = work })
 pushed_well s k work g h f x = well_settled s.editor (with_saved (k ∷ saved_of s) s) work g
-    (marks_settle s.editor (with_saved (k ∷ saved_of s) s).editor g refl (λ id m. record { markers = m.markers; saved = (h id, m.saved) })) f x
+    (marks_settle s.editor (with_saved (k ∷ saved_of s) s).editor g refl (λ id m. record { markers = m.markers; overlays = m.overlays; saved = (h id, m.saved) })) f x
 
 bounds_fit : (s : State) (id : ℕ) → GoodEditor s.editor → KeptFits id (size_of s.editor id) (Restriction s.editor.current (bounds_kept (here s.editor)))
 bounds_fit s id g = go ((here s.editor).begin == 0 && ((here s.editor).end == length (here s.editor).text))
@@ -253,7 +254,7 @@ first_same : (p q : ℕ × ℕ) → Same p q → p.0 ≡ q.0
 first_same p q e = ap (λ x. x.0) e
 
 -- the change at its kept ends
-kept_change : (s : State) (c : Change) → GoodEditor s.editor → FineWhat c.what → IsPendingIn c.buffer (kinds s) → (ks : List Saved) → s.editor.marks.saved ≡ ks → is_live s.editor (at_kept c ks).buffer ≡ true → FineChange s.editor (at_kept c ks)
+pub kept_change : (s : State) (c : Change) → GoodEditor s.editor → FineWhat c.what → IsPendingIn c.buffer (kinds s) → (ks : List Saved) → s.editor.marks.saved ≡ ks → is_live s.editor (at_kept c ks).buffer ≡ true → FineChange s.editor (at_kept c ks)
 kept_change s c g w p [] q h = absurd (subst (λ l. IsPendingIn c.buffer (shapes l)) q p)
 kept_change s c g w p (Excursion b n ∷ ks) q h = absurd (other (subst (λ l. IsPendingIn c.buffer (shapes l)) q p))
   where
@@ -318,7 +319,7 @@ output_in_well s (Some b) mark text rest r h l =
     put_in_well s (current b s) (prepare_output s.editor b mark text) rest r (marks_settle s.editor (current b s).editor r.editor refl (λ id x. x)) refl
     (fine_current s.editor b (prepare_output s.editor b mark text) (output_fine s.editor b mark text r.editor (l b refl) h))
 
-process_lives : (s : State) (p b : ℕ) → process_buffer_of s p ≡ Some b → is_live s.editor b ≡ true
+pub process_lives : (s : State) (p b : ℕ) → process_buffer_of s p ≡ Some b → is_live s.editor b ≡ true
 process_lives s p b h = go (process s p) h
   where
     lives : (o : Option ℕ) → SameBuffer (where_live s o) (Some b) → is_live s.editor b ≡ true

@@ -5,7 +5,8 @@ use Rattle.std.proofs.lemmas.Bool.{eq-eqb}
 use Rattle.text_model.specs.Places.{clip}
 use Rattle.text_model.specs.Marks.{Saved, Excursion, Restriction, Pending}
 use Rattle.text_model.specs.Commit.{Buffer}
-use Rattle.machine_laws.proofs.Fits.{KeptFits, SavedFits, MarksFit, GoodSite, shapes}
+use Rattle.machine_laws.specs.Fits.{KeptFits, SavedFits, MarksFit, GoodSite}
+use Rattle.machine_laws.specs.Brackets.{shapes}
 use Rattle.machine_laws.proofs.OneBuffer.{passes_same}
 use Rattle.machine_laws.proofs.Sites.{same_step}
 use Rattle.editor_model.specs.Values.{Fault, Reply}
@@ -110,7 +111,7 @@ drop_shapes (k ∷ ks) = refl
 
 pub popped_rests : (s : State) → GoodEditor s.editor → Rests s (popped s) (drop 1 (kinds s))
 popped_rests s g = record {
-  settles = marks_settle s.editor (popped s).editor g refl (λ id h. record { markers = h.markers; saved = tail_fits id (size_of s.editor id) s.editor.marks.saved h.saved });
+  settles = marks_settle s.editor (popped s).editor g refl (λ id h. record { markers = h.markers; overlays = h.overlays; saved = tail_fits id (size_of s.editor id) s.editor.marks.saved h.saved });
   same_kinds = drop_shapes s.editor.marks.saved;
 }
 
@@ -123,7 +124,7 @@ pop_rests s g = go s.editor.marks.saved refl
     go (k ∷ ks) q =
         let t : State = with_saved ks s in
         let fits : (id : ℕ) → MarksFit id (size_of s.editor id) s.editor.marks → SavedFits id (size_of s.editor id) (k ∷ ks) = (λ id h. subst (λ l. SavedFits id (size_of s.editor id) l) q h.saved) in
-        let x : Settles s.editor t.editor = marks_settle s.editor t.editor g refl (λ id h. record { markers = h.markers; saved = (fits id h).1 }) in
+        let x : Settles s.editor t.editor = marks_settle s.editor t.editor g refl (λ id h. record { markers = h.markers; overlays = h.overlays; saved = (fits id h).1 }) in
         let y : Rests t (put_back k t) (kinds t) = put_back_rests k t x.good (λ l b r. (subst (λ m. SavedFits b (length l.buffer.text) m) q (g.each b l r).fits.marks_fit.saved).0) in
         record { settles = settles_then s.editor t.editor (put_back k t).editor x y.settles; same_kinds = y.same_kinds ∙ ap (λ l. drop 1 (shapes l)) (sym q) }
 

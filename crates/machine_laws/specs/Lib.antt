@@ -6,4 +6,9 @@ pub mod Boundaries
 pub mod UndoneRuns
 pub mod Refusals
 pub mod Good
+pub mod Fits
+pub mod Editors
 pub mod Rounds
+pub mod Brackets
+pub mod RefusedCalls
+pub mod FaultLines

@@ -1,24 +1,36 @@
--- Refusals: a call that is refused leaves the state as it was, but for what was read of processes on the way.
-use Rattle.std.specs.Prelude.{◌≡◌, ℕ, false, List, [], ◌∷◌, map}
+-- Refusals: a call that is refused leaves the state as it was, but for just what the exchanges on the way leave.
+use Rattle.std.specs.Prelude.{◌≡◌, ℕ, ◌+◌, true, List, [], ◌∷◌, ◌++◌, length, Some}
 use Rattle.editor_model.specs.Values.{Fault, Do, Setq}
-use Rattle.plain_machine.specs.Exchanges.{Exchange}
-use Rattle.plain_machine.specs.State.{State, Process, Program}
+use Rattle.plain_machine.specs.Exchanges.{Ask, Spawn, Read, AskEnd, Send, Answer, Bytes, Refused, Nothing, End, Running, Broken, Failed, Exchange}
+use Rattle.plain_machine.specs.State.{State, Process, Program, process, change_process}
 use Rattle.plain_machine.specs.Items.{Item, DoForm, MakeCall, GiveAnswer, Refuse, Hooks, Calm, CommitChange, Enter, Exit, Wait, Delete}
 use Rattle.plain_machine.specs.Forms.{popped}
+use Rattle.plain_machine.specs.Waits.{asked_more}
 use Rattle.plain_machine.specs.Run.{Reaches}
 
--- a process without what reads leave in it
-abbrev pub without_output : Process → Process
-without_output x = record x { bytes = []; drained = false }
+-- WHAT EXCHANGES LEAVE
+-- the process of a child, and it alone, changed so; and the exchange counted
+abbrev pub Noted : (child : ℕ) → (Process → Process) → State → State → Type 0
+Noted child change s t = (p : ℕ) × (x : Process) × (process s p ≡ Some x) × (x.child ≡ child) × (t ≡ change_process p change (asked_more s))
 
--- a state without what exchanges leave in it: the counts, and what was read of processes
-abbrev pub but_for_exchanges : State → State
-but_for_exchanges s = record s { processes = map without_output s.processes; asked = 0; sent = 0 }
+-- What an exchange leaves that enters no handler and answers no call. A read leaves its bytes, or that the output has ended,
+-- in the process that it names; a send leaves the count of its bytes; and all are counted.
+abbrev pub Leaves : Ask → Answer → State → State → Type 0
+Leaves (Read child) (Bytes bytes) s t = Noted child (λ x. record x { bytes = x.bytes ++ bytes }) s t
+Leaves (Read child) End s t = Noted child (λ x. record x { drained = true }) s t
+Leaves (Read child) Failed s t = Noted child (λ x. record x { drained = true }) s t
+Leaves (Read child) Nothing s t = t ≡ asked_more s
+Leaves (AskEnd child) Running s t = t ≡ asked_more s
+Leaves (Spawn program args) Refused s t = t ≡ asked_more s
+Leaves (Send child bytes) Broken s t = t ≡ record s { asked = s.asked + 1; sent = s.sent + length bytes }
+Leaves _ _ s t = ⊥
 
--- the editor, the hooks, the scopes and all else are the same
-abbrev pub SameButForExchanges : State → State → Type 0
-SameButForExchanges s t = but_for_exchanges t ≡ but_for_exchanges s
+-- what these exchanges leave, one after the other: where there are none, the state is the same
+abbrev pub AllLeave : List Exchange → State → State → Type 0
+AllLeave [] s t = t ≡ s
+AllLeave (x ∷ exchanges) s t = (u : State) × Leaves x.ask x.answer s u × AllLeave exchanges u t
 
+-- CALLS
 -- the next line that this work writes is an answer, the entry of a handler, or an exit
 abbrev pub AnswersNext : List Item → Type 0
 AnswersNext (GiveAnswer v target ∷ work) = Unit {0}
@@ -47,10 +59,10 @@ without_ends (CommitChange c) s = popped s
 without_ends _ s = s
 
 -- From an item of a call to the refusal of this call, with no line between: no handler was entered on the way. (From the
--- start of the call this says that a refused call in which no handler ran has changed nothing. Where handlers ran, it says
--- the same from the moment at which the last of them was left.)
+-- start of the call this says that a refused call in which no handler ran has changed nothing but for its exchanges. Where
+-- handlers ran, it says the same from the moment at which the last of them was left.)
 abbrev pub RefusalsLeave : Program → ℕ → Type 0
 RefusalsLeave program bound =
     (item : Item) (rest more : List Item) (s t : State) (exchanges : List Exchange) (fault : Fault) → IsOfCall item rest →
     Reaches program bound (record { state = s; work = item ∷ rest }) exchanges [] (record { state = t; work = Refuse fault ∷ more }) →
-    SameButForExchanges (without_ends item s) t
+    AllLeave exchanges (without_ends item s) t

@@ -27,11 +27,16 @@ abbrev pub Undoes : Config → (b n : ℕ) → Type 0
 Undoes c b n =
     (change : Change) × (Commits c change ⊎ PassesQuietly c change) × (change.buffer ≡ b) × (change.what ≡ UndoGroups n) × (first_fault (commit_tests c.state.editor b (UndoGroups n)) ≡ None)
 
--- A boundary was pushed by a step, and a later step undoes back to it: the text is the same, pairs and all.
-abbrev pub UndoReturns : Program → ℕ → Config → Type 0
-UndoReturns program bound from =
-    (first second : List Exchange) (said more : List Said) (c d : Config) (n n' : Next) (b groups serial : ℕ) (x x' y y' : Buffer) →
+-- A boundary was pushed by a step behind the first exchanges, and a step behind the second ones undoes back to it: the text is
+-- the same, pairs and all.
+abbrev pub UndoReturnsBetween : Program → ℕ → Config → (first second : List Exchange) → Type 0
+UndoReturnsBetween program bound from first second =
+    (said more : List Said) (c d : Config) (n n' : Next) (b groups serial : ℕ) (x x' y y' : Buffer) →
     Reaches program bound from first said c → step program bound c ≡ Goes n → HasBuffer c b x → HasBuffer n.config b x' →
     boundary_at serial x.undo.entries ≡ false → boundary_at serial x'.undo.entries ≡ true →
     Reaches program bound n.config second more d → HasBuffer d b y → Undoes d b groups → boundary_at serial y.undo.entries ≡ true → ends_with serial (passed groups y.undo) ≡ true →
     step program bound d ≡ Goes n' → HasBuffer n'.config b y' → y'.text ≡ x'.text
+
+-- and so it is between any two moments of a run
+abbrev pub UndoReturns : Program → ℕ → Config → Type 0
+UndoReturns program bound from = (first second : List Exchange) → UndoReturnsBetween program bound from first second

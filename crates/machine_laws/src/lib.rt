@@ -13,13 +13,20 @@ ghost use Rattle.editor_model.specs.Values.{Script};
 ghost use Rattle.plain_machine.specs.Items.{Config};
 ghost use Rattle.plain_machine.specs.Run.{start};
 ghost use Rattle.plain_machine.specs.State.{Program};
-ghost use Rattle.machine_laws.specs.Boundaries.{BoundaryKeeps, RecordingKeeps, ReplacingKeeps, ResettingKeeps, UndoingKeeps};
+ghost use Rattle.machine_laws.specs.Brackets.{CallsBracket, HandlersBracket, TopIsClear};
+ghost use Rattle.machine_laws.specs.Boundaries.{BoundaryKeeps, RecordingKeeps, ReplacingKeeps};
+ghost use Rattle.machine_laws.specs.Boundaries.{ResettingKeeps, UndoingKeeps};
 ghost use Rattle.machine_laws.specs.Children.{FewExchanges, FewInAll, KillsLeft, KillsOnce};
-ghost use Rattle.machine_laws.specs.Entries.{BrokenEntries, EndsAfterOutput, Entries, EntriesOfChildren, RanEntries, Sentinels, SentinelsAfterOutput};
+ghost use Rattle.machine_laws.specs.Editors.{EditorsAreSound};
+ghost use Rattle.machine_laws.specs.Entries.{BrokenEntries, EndsAfterOutput, Entries};
+ghost use Rattle.machine_laws.specs.Entries.{EntriesOfChildren, RanEntries, Sentinels};
+ghost use Rattle.machine_laws.specs.Entries.{SentinelsAfterOutput};
+ghost use Rattle.machine_laws.specs.FaultLines.{OneFaultLine};
 ghost use Rattle.machine_laws.specs.Good.{Good};
 ghost use Rattle.machine_laws.specs.Nesting.{SameDeeper, Shallow};
 ghost use Rattle.machine_laws.specs.OneRun.{ComputedRuns, OneEnd, OneRun, RunStops, RunsAreComputed};
 ghost use Rattle.machine_laws.specs.Refusals.{RefusalsLeave};
+ghost use Rattle.machine_laws.specs.RefusedCalls.{RefusedCallsLeave};
 ghost use Rattle.machine_laws.specs.Rounds.{RoundsAsk};
 ghost use Rattle.machine_laws.specs.UndoneRuns.{UndoReturns};
 
@@ -66,7 +73,8 @@ pub fn handlers_stay_shallow()
 /// A run in which nothing is refused for want of depth is the same under any larger bound.
 #[tactic(auto, using(crate::proofs::Deeper::same_deeper))]
 pub fn same_under_a_larger_bound()
-    ensures { (program : Program) (bound deeper : ℕ) (from : Config) → SameDeeper program bound deeper from }
+    ensures { (program : Program) (bound deeper : ℕ) (from : Config) →
+        SameDeeper program bound deeper from }
 {}
 
 /// Each round of a wait that begins asks a child, unless it is refused since no exchange may be made any more.
@@ -77,23 +85,27 @@ pub fn rounds_ask()
 /// No more than 65,536 exchanges are made, but for kills.
 #[tactic(auto, using(crate::proofs::Spent::few_exchanges))]
 pub fn exchanges_stay_few()
-    ensures { (program : Program) (bound : ℕ) (script : Script) → FewExchanges program bound (start script) }
+    ensures { (program : Program) (bound : ℕ) (script : Script) →
+        FewExchanges program bound (start script) }
 {}
 
 /// In all no more than 65,792 exchanges are made: the kills are no more than the processes that may be.
 pub fn exchanges_stay_few_in_all()
-    ensures { (program : Program) (bound : ℕ) (script : Script) → FewInAll program bound (start script) }
+    ensures { (program : Program) (bound : ℕ) (script : Script) →
+        FewInAll program bound (start script) }
 {}
 
 /// A child that is asked to be killed was started, has not ended, and was not asked so before.
 pub fn kills_come_once()
-    ensures { (program : Program) (bound : ℕ) (script : Script) → KillsOnce program bound (start script) }
+    ensures { (program : Program) (bound : ℕ) (script : Script) →
+        KillsOnce program bound (start script) }
 {}
 
 /// The children that live by the exchanges are those of the processes that run, but for those killed at the end.
 #[tactic(auto, using(crate::proofs::Alive::kills_left))]
 pub fn kills_are_left()
-    ensures { (program : Program) (bound : ℕ) (script : Script) → KillsLeft program bound (start script) }
+    ensures { (program : Program) (bound : ℕ) (script : Script) →
+        KillsLeft program bound (start script) }
 {}
 
 // WHAT IS HEARD OF A PROCESS
@@ -108,7 +120,8 @@ pub fn filters_hear_what_was_read()
 /// The same by the exchanges and the lines alone.
 #[tactic(auto, using(crate::proofs::Alive::entries_of_children))]
 pub fn filters_hear_what_children_wrote()
-    ensures { (program : Program) (bound : ℕ) (script : Script) → EntriesOfChildren program bound (start script) }
+    ensures { (program : Program) (bound : ℕ) (script : Script) →
+        EntriesOfChildren program bound (start script) }
 {}
 
 /// The same of a whole run: of the entries whose lines it wrote.
@@ -124,17 +137,20 @@ pub fn broken_runs_hear_all()
 /// The end of a child is asked after the end of its output.
 #[tactic(auto, using(crate::proofs::Heard::ends_after_output))]
 pub fn ends_are_asked_after_output()
-    ensures { (program : Program) (bound : ℕ) (script : Script) → EndsAfterOutput program bound (start script) }
+    ensures { (program : Program) (bound : ℕ) (script : Script) →
+        EndsAfterOutput program bound (start script) }
 {}
 
 /// Each process has at most one sentinel entry, and no filter entry after it.
 pub fn sentinels_come_last()
-    ensures { (program : Program) (bound : ℕ) (script : Script) → Sentinels program bound (start script) }
+    ensures { (program : Program) (bound : ℕ) (script : Script) →
+        Sentinels program bound (start script) }
 {}
 
 /// A process whose sentinel was entered runs no more: its child was killed, or its output was read to its end.
 pub fn sentinels_come_after_output()
-    ensures { (program : Program) (bound : ℕ) (script : Script) → SentinelsAfterOutput program bound (start script) }
+    ensures { (program : Program) (bound : ℕ) (script : Script) →
+        SentinelsAfterOutput program bound (start script) }
 {}
 
 // UNDO
@@ -142,13 +158,15 @@ pub fn sentinels_come_after_output()
 /// An insertion taken out again leaves the text as it was.
 #[tactic(auto, using(crate::proofs::Undoing::inserted_out))]
 pub fn insertions_are_taken_out()
-    ensures { (place : ℕ) (piece text : List Cell) → place ≤ length text → splice place (place + length piece) [] (splice place place piece text) ≡ text }
+    ensures { (place : ℕ) (piece text : List Cell) → place ≤ length text →
+        splice place (place + length piece) [] (splice place place piece text) ≡ text }
 {}
 
 /// A deletion put back again leaves the text as it was, with its properties.
 #[tactic(auto, using(crate::proofs::Undoing::deleted_back))]
 pub fn deletions_are_put_back()
-    ensures { (from to : ℕ) (text : List Cell) → from ≤ to → to ≤ length text → splice from from (part from to text) (splice from to [] text) ≡ text }
+    ensures { (from to : ℕ) (text : List Cell) → from ≤ to → to ≤ length text →
+        splice from from (part from to text) (splice from to [] text) ≡ text }
 {}
 
 /// A new buffer is as the laws of one buffer want it.
@@ -189,7 +207,43 @@ pub fn recording_keeps_boundaries()
 /// In every run of every script: undoing back to a boundary that is still kept gives the text of the moment at which it was
 /// pushed, with its properties, by however many calls.
 pub fn undo_returns()
-    ensures { (program : Program) (bound : ℕ) (script : Script) → UndoReturns program bound (start script) }
+    ensures { (program : Program) (bound : ℕ) (script : Script) →
+        UndoReturns program bound (start script) }
+{}
+
+// BRACKETS
+
+/// Whenever a run comes to the forms of the top level, the depth is 0, there are no scopes and no
+/// kept places, and hooks aren't inhibited: no handler, no block and no change has left anything
+/// over.
+#[tactic(auto, using(crate::proofs::Bracketing::top_is_clear))]
+pub fn nothing_is_left_at_the_top()
+    ensures { (program : Program) (bound : ℕ) (script : Script) →
+        TopIsClear program bound (start script) }
+{}
+
+/// Behind a call, answered or refused, whatever handlers ran in it: as many handlers run as before,
+/// there are as many scopes, hooks are inhibited or not as before, and the same places are kept
+/// below.
+pub fn calls_bracket()
+    ensures { (program : Program) (bound : ℕ) (script : Script) →
+        CallsBracket program bound (start script) }
+{}
+
+/// The same behind a handler.
+pub fn handlers_bracket()
+    ensures { (program : Program) (bound : ℕ) (script : Script) →
+        HandlersBracket program bound (start script) }
+{}
+
+// EDITORS
+
+/// In each state of each run: bounds, point, markers, overlays and kept places lie in their texts;
+/// a buffer's property sets are in order; its undo records have falling serial numbers, and don't
+/// end in a boundary; names of live buffers differ; the current buffer lives.
+pub fn editors_stay_sound()
+    ensures { (program : Program) (bound : ℕ) (script : Script) →
+        EditorsAreSound program bound (start script) }
 {}
 
 // REFUSALS
@@ -198,4 +252,21 @@ pub fn undo_returns()
 #[tactic(auto, using(crate::proofs::Refusing::refusals_leave))]
 pub fn refusals_leave_the_state()
     ensures { (program : Program) (bound : ℕ) → RefusalsLeave program bound }
+{}
+
+/// The same of a whole refused call that a run comes to, with whatever handlers between: what is
+/// left of it is what exchanges left, and what the handlers did that were entered in it. The end of
+/// a handler makes the buffer of its entry current again, if this lives, and empties the hook list
+/// of a function that a fault ended.
+pub fn refused_calls_leave_the_state()
+    ensures { (program : Program) (bound : ℕ) (script : Script) →
+        RefusedCallsLeave program bound (start script) }
+{}
+
+// SCRIPTS
+
+/// The line of the fault of bytes that are no script is one number. (That no bytes are two scripts
+/// is a law of `script_read`.)
+pub fn fault_lines_are_determined()
+    ensures { OneFaultLine }
 {}

@@ -1,6 +1,9 @@
-pub mod LeftLemmas
-pub mod LinkedLemmas
-pub mod RingLemmas
-pub mod SlotLemmas
+pub mod Lists
+pub mod BlockLemmas
+pub mod HomeLemmas
+pub mod LooseLemmas
+pub mod MoveLemmas
 pub mod StepLemmas
-pub mod WalkLemmas
+pub mod LeftLemmas
+pub mod Counting
+pub mod SearchLemmas

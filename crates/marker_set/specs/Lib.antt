@@ -1,4 +1,6 @@
 pub mod Numbered
-pub mod Rings
+pub mod Changes
+pub mod Blocks
+pub mod Homes
 pub mod Room
-pub mod Slots
+pub mod Search

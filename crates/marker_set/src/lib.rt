@@ -1,8 +1,13 @@
 //! Markers by number: places outside the texts that move with every change.
 #![tactic(auto)]
 
+mod cell;
+mod change;
+mod choice;
 mod markers;
+mod part;
 mod room;
+mod search;
 mod slot;
 #[cfg(test)]
 mod tests;

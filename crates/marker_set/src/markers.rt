@@ -1,50 +1,49 @@
 //! All markers of a run, by number.
-ghost use Rattle.std.specs.Prelude.{◌≡◌, ℕ, ◌+◌, ◌-◌, ◌%◌, ◌^◌, ◌<◌, ◌≤◌, [], ◌∷◌, ◌++◌, length, map, false, slice_set, All, OnOk, OnErr, IfOk};
+ghost use Rattle.std.specs.Prelude.{◌≡◌, ℕ, ◌+◌, ◌-◌, ◌^◌, ◌<◌, ◌≤◌, Bool, true, false, [], ◌∷◌};
+ghost use Rattle.std.specs.Prelude.{◌++◌, length, map, slice_set, slice_get, All, IsSome, Some};
+ghost use Rattle.std.specs.Prelude.{None, OnOk, OnErr, IfOk, IfSome, vec_capacity};
 ghost use Rattle.text_model.specs.Marks.{move_marker, marker_left, insertion, deletion};
-ghost use Rattle.marker_set.specs.Numbered.{nowhere, marker_at, spot_of, HasRoomFor};
-ghost use Rattle.marker_set.specs.Rings.{number_at};
-ghost use Rattle.marker_set.specs.Slots.{moved_by, CanMoveIn};
+ghost use Rattle.marker_set.specs.Numbered.{nowhere, marker_at, spot_of, points_into};
+ghost use Rattle.marker_set.specs.Numbered.{numbers_within, HasRoomFor};
+ghost use Rattle.marker_set.specs.Changes.{moved_by, CanMoveIn};
+ghost use Rattle.marker_set.specs.Blocks.{IsFree, moved_block, CanMoveBlock};
+ghost use Rattle.marker_set.specs.Homes.{moved_slot, CanMoveSlot};
 
+use crate::change::Change;
+use crate::choice::{chosen, crowded, partner, spares};
+use crate::part::{CELLS, Part};
 use crate::room::{Room, move_to};
-use crate::slot::{Change, Slot};
+use crate::search::{found_alone, found_parts};
+use crate::slot::{Home, Slot};
 use ek_types::Mem;
 use std::alloc::Global;
 use std::marker::Model;
 
-/// How many rings there are. A run makes at most 256 buffers, so that each has a ring of its own there.
-pub(crate) const BUCKETS: usize = 256;
-
-/// The bucket of a buffer's markers.
-fn bucket_of(buffer: u32) -> usize
-    ensures { result ≡ buffer % 256 }
-{
-    buffer as usize % BUCKETS
-}
+/// As many parts as there may be whatever the number of markers: one for the markers of each kind in each buffer.
+const FEWEST_PARTS: usize = 512;
 
 /// Markers by number, from 0 in the order in which they were made. Places count from 0.
 ///
-/// The markers of one bucket stand in a ring: node `BUCKETS + k` for marker `k`, between the node of the bucket and
-/// itself again. So a change of a buffer walks over its own markers alone, and a marker is set in constant time.
+/// Those of one buffer that lie near one another are kept in one part, so that a change moves them together. One for
+/// which no part has room is kept alone.
 #[derive(Drop)]
 pub struct Markers {
     slots: Vec<Slot>,
-    after: Vec<usize>,
-    before: Vec<usize>,
-    sizes: Vec<usize>,
+    parts: Vec<Part>,
+    some_alone: bool,
 }
 
 impl Model for Markers {
-    ghost use Rattle.std.specs.Prelude.{List, map, length, ◌<◌, ◌^◌};
+    ghost use Rattle.std.specs.Prelude.{List, map};
     ghost use Rattle.text_model.specs.Marks.{Marker};
 
     ghost Value = { List Marker };
 
-    ghost use Rattle.marker_set.specs.Slots.{marker_of};
-    ghost use Rattle.marker_set.specs.Rings.{Linked};
+    ghost use Rattle.marker_set.specs.Homes.{marker_in, Kept};
 
-    ghost view = { λ a. map marker_of a.slots.items };
+    ghost view = { λ a. map (marker_in a.parts.items) a.slots.items };
 
-    ghost invariant = { λ a. (length a.slots.items < 2 ^ 32) × (0 < length a.slots.items → Linked (map marker_of a.slots.items) a.after.items a.before.items a.sizes.items) };
+    ghost invariant = { λ a. Kept a.parts.items a.slots.items a.some_alone };
 }
 
 impl Markers {
@@ -54,9 +53,8 @@ impl Markers {
     {
         Markers {
             slots: Vec::new(alloc),
-            after: Vec::new(alloc),
-            before: Vec::new(alloc),
-            sizes: Vec::new(alloc),
+            parts: Vec::new(alloc),
+            some_alone: false,
         }
     }
 
@@ -75,18 +73,23 @@ impl Markers {
         ensures ok { OnOk result (self.new ≡ self.old ++ nowhere ∷ []) }
         ensures err { OnErr result (self.new ≡ self.old) }
     {
-        if self.slots.is_empty() {
-            self.make_first()
-        } else {
-            self.make_next()
-        }
+        self.have_spare()?;
+        self.slots.reserve(1)?;
+        let number = self.slots.len() as u32;
+        self.slots.push_reserved(Slot::NOWHERE);
+        Ok(number)
     }
 
     /// Takes all the memory that one marker more needs.
     pub fn reserve(&self) -> Mem<Room>
         ensures { IfOk result (λ room. room ≡ length self.now + 1) }
     {
-        Room::new(*self.slots.allocator(), self.slots.len() + 1)
+        let alloc = *self.slots.allocator();
+        if self.lacks_part() {
+            Room::with_part(alloc, self.slots.len() + 1, self.parts.len() + 1)
+        } else {
+            Room::new(alloc, self.slots.len() + 1)
+        }
     }
 
     /// Makes a marker that points nowhere and doesn't advance, in the room that was reserved for it, and gives its number. It
@@ -98,86 +101,65 @@ impl Markers {
         ensures markers { self.new ≡ self.old ++ nowhere ∷ [] }
     {
         let number = self.count();
-        if number == 0 {
-            self.make_first_in(room);
-        } else {
-            self.make_next_in(room);
-        }
+        let Room { slots, part, parts } = room;
+        self.add_reserved(part, parts);
+        self.make_in(slots);
         number
     }
 
-    /// Makes the first marker in room, with the nodes of the buckets that stand there.
-    fn make_first_in(&mut self, room: Room)
-        requires none { self.old ≡ [] }
-        requires fits { 0 < room }
-        ensures { self.new ≡ nowhere ∷ [] }
-    {
-        let Room {
-            mut slots,
-            mut after,
-            mut before,
-            sizes,
-        } = room;
-        slots.push_reserved(Slot::NOWHERE);
-        after.push_reserved(0);
-        before.push_reserved(0);
-        self.slots = slots;
-        self.after = after;
-        self.before = before;
-        self.sizes = sizes;
-    }
-
     /// Makes one more marker in room, into which all markers are moved.
-    fn make_next_in(&mut self, room: Room)
-        requires some { 0 < length self.old }
+    fn make_in(&mut self, room: Vec<Slot>)
+        requires empty { room.items ≡ [] }
         requires few { length self.old < 2 ^ 32 - 1 }
-        requires fits { length self.old < room }
+        requires fits { length self.old < vec_capacity room }
         ensures { self.new ≡ self.old ++ nowhere ∷ [] }
     {
-        let Room {
-            slots,
-            mut after,
-            mut before,
-            sizes: _,
-        } = room;
-        after.clear();
-        before.clear();
-        move_to(&mut self.slots, slots);
-        move_to(&mut self.after, after);
-        move_to(&mut self.before, before);
+        move_to(&mut self.slots, room);
         self.slots.push_reserved(Slot::NOWHERE);
-        self.after.push_reserved(0);
-        self.before.push_reserved(0);
     }
 
-    /// Makes the first marker, and the nodes of the buckets with it.
-    fn make_first(&mut self) -> Mem<u32>
-        requires { self.old ≡ [] }
-        ensures number { IfOk result (λ k. k ≡ 0) }
-        ensures ok { OnOk result (self.new ≡ nowhere ∷ []) }
-        ensures err { OnErr result (self.new ≡ self.old) }
+    /// Adds an empty part where there is room for all parts, into which these are moved.
+    fn add_reserved(&mut self, part: Option<Part>, room: Vec<Part>)
+        requires free { IfSome part IsFree }
+        requires empty { room.items ≡ [] }
+        ensures { self.new ≡ self.old }
     {
-        let room = self.reserve()?;
-        self.make_first_in(room);
-        Ok(0)
+        let Some(part) = part else {
+            return;
+        };
+        if room.capacity() <= self.parts.len() {
+            return;
+        }
+        move_to(&mut self.parts, room);
+        self.parts.push_reserved(part);
     }
 
-    /// Makes one more marker.
-    fn make_next(&mut self) -> Mem<u32>
-        requires some { 0 < length self.old }
-        requires room { length self.old < 2 ^ 32 - 1 }
-        ensures number { IfOk result (λ k. k ≡ length self.old) }
-        ensures ok { OnOk result (self.new ≡ self.old ++ nowhere ∷ []) }
-        ensures err { OnErr result (self.new ≡ self.old) }
+    /// Whether fewer than two parts are empty, and there aren't many for so few markers: a marker may be set, and then
+    /// be told whether it advances. Whatever this says, markers point where they should.
+    fn lacks_part(&self) -> bool {
+        let few = self.parts.len() < FEWEST_PARTS + self.slots.len() / (CELLS / 8);
+        few && spares(self.parts.as_slice()) < 2
+    }
+
+    /// Takes memory for one more part where it is wanted.
+    fn have_spare(&mut self) -> Mem<()>
+        ensures { self.new ≡ self.old }
     {
-        self.slots.reserve(1)?;
-        self.after.reserve(1)?;
-        self.before.reserve(1)?;
-        let number = self.slots.len() as u32;
-        self.slots.push_reserved(Slot::NOWHERE);
-        self.after.push_reserved(0);
-        self.before.push_reserved(0);
-        Ok(number)
+        if self.lacks_part() {
+            self.add_part()
+        } else {
+            Ok(())
+        }
+    }
+
+    /// Adds an empty part.
+    fn add_part(&mut self) -> Mem<()>
+        ensures { self.new ≡ self.old }
+    {
+        self.parts.reserve(1)?;
+        let part = Part::new(*self.slots.allocator())?;
+        self.parts.push_reserved(part);
+        Ok(())
     }
 
     /// Where marker `k` points: a buffer and a place in it, or nowhere.
@@ -185,52 +167,146 @@ impl Markers {
         requires { k < length self.now }
         ensures { spot_of result ≡ (marker_at self.now k).spot }
     {
-        self.slots[k as usize].spot
+        match self.slots[k as usize].home {
+            Home::Nowhere => None,
+            Home::Alone { buffer, place } => Some((buffer, place)),
+            Home::Packed { part, cell } => self.parts[part].spot(cell),
+        }
     }
 
     /// Points marker `k` to a place in a buffer, or nowhere. Whether it advances stays as it was.
     pub fn set(&mut self, k: u32, to: Option<(u32, usize)>)
         requires { k < length self.old }
-        ensures { self.new ≡ slice_set self.old k (record (marker_at self.old k) { spot = spot_of to }) }
+        ensures { self.new ≡ slice_set self.old k
+            (record (marker_at self.old k) { spot = spot_of to }) }
     {
+        let home = self.slots[k as usize].home;
         self.leave(k as usize);
+        self.join_small(home);
         if let Some(spot) = to {
             self.join(k as usize, spot);
         }
     }
 
-    /// Points marker `k` nowhere, out of its ring.
+    /// Points marker `k` nowhere, out of its part.
     fn leave(&mut self, k: usize)
         requires { k < length self.old }
         ensures { self.new ≡ slice_set self.old k (record (marker_at self.old k) { spot = None }) }
     {
-        let Some((buffer, _)) = self.slots[k].spot else {
-            return;
-        };
-        let node = BUCKETS + k;
-        let next = self.after[node];
-        let last = self.before[node];
-        self.after[last] = next;
-        self.before[next] = last;
-        self.sizes[bucket_of(buffer)] -= 1;
-        self.slots[k].spot = None;
+        if let Home::Packed { part, cell } = self.slots[k].home {
+            self.slots[k].home = Home::Nowhere;
+            self.parts[part].clear(cell);
+        } else {
+            self.slots[k].home = Home::Nowhere;
+        }
     }
 
-    /// Points marker `k`, which points nowhere, to a place in a buffer, at the end of the ring there.
+    /// Points marker `k`, which points nowhere, to a place in a buffer: in a part with room, or else alone.
     fn join(&mut self, k: usize, spot: (u32, usize))
         requires made { k < length self.old }
         requires free { (marker_at self.old k).spot ≡ None }
-        ensures { self.new ≡ slice_set self.old k (record (marker_at self.old k) { spot = spot_of (Some spot) }) }
+        ensures { self.new ≡ slice_set self.old k
+            (record (marker_at self.old k) { spot = spot_of (Some spot) }) }
     {
-        let bucket = bucket_of(spot.0);
-        let last = self.before[bucket];
-        let node = BUCKETS + k;
-        self.after[last] = node;
-        self.after[node] = bucket;
-        self.before[node] = last;
-        self.before[bucket] = node;
-        self.sizes[bucket] += 1;
-        self.slots[k].spot = Some(spot);
+        let advances = self.slots[k].advances;
+        self.make_room(advances, spot);
+        let part = chosen(self.parts.as_slice(), advances, spot);
+        if !self.enter(k, part, spot) {
+            self.stand_alone(k, spot);
+        }
+    }
+
+    /// Points marker `k`, which points nowhere, to a place in a buffer, and keeps it in a part if that takes it. Says
+    /// whether it did.
+    fn enter(&mut self, k: usize, part: Option<usize>, spot: (u32, usize)) -> bool
+        requires made { k < length self.old }
+        requires free { (marker_at self.old k).spot ≡ None }
+        ensures put { result ≡ true → self.new ≡ slice_set self.old k
+            (record (marker_at self.old k) { spot = spot_of (Some spot) }) }
+        ensures left { result ≡ false → self.new ≡ self.old }
+    {
+        let Some(part) = part else {
+            return false;
+        };
+        if part >= self.parts.len() {
+            return false;
+        }
+        let advances = self.slots[k].advances;
+        let Some(cell) = self.parts[part].take(k as u32, advances, spot) else {
+            return false;
+        };
+        self.slots[k].home = Home::Packed { part, cell };
+        true
+    }
+
+    /// Points marker `k`, which points nowhere, to a place in a buffer, in no part.
+    fn stand_alone(&mut self, k: usize, spot: (u32, usize))
+        requires made { k < length self.old }
+        requires free { (marker_at self.old k).spot ≡ None }
+        ensures { self.new ≡ slice_set self.old k
+            (record (marker_at self.old k) { spot = spot_of (Some spot) }) }
+    {
+        self.some_alone = true;
+        self.slots[k].home = Home::Alone {
+            buffer: spot.0,
+            place: spot.1,
+        };
+    }
+
+    /// Splits the part that is nearest to a spot, where it is full and another is empty.
+    fn make_room(&mut self, advances: bool, spot: (u32, usize))
+        ensures { self.new ≡ self.old }
+    {
+        let Some((part, middle, spare)) = crowded(self.parts.as_slice(), advances, spot) else {
+            return;
+        };
+        for cell in 0..CELLS {
+            self.shift(part, cell, Some(middle), spare);
+        }
+        self.narrow(part);
+    }
+
+    /// Finds closer bounds for a part. The markers stay.
+    fn narrow(&mut self, part: usize)
+        ensures { self.new ≡ self.old }
+    {
+        if part < self.parts.len() {
+            self.parts[part].narrow();
+        }
+    }
+
+    /// Puts the markers of a part in which few are left into another near them.
+    fn join_small(&mut self, left: Home)
+        ensures { self.new ≡ self.old }
+    {
+        let Home::Packed { part, .. } = left else {
+            return;
+        };
+        let Some(other) = partner(self.parts.as_slice(), part) else {
+            return;
+        };
+        for cell in 0..CELLS {
+            self.shift(part, cell, None, other);
+        }
+    }
+
+    /// Takes the marker of a cell to another part, where it lies behind a place, if one is given.
+    fn shift(&mut self, part: usize, cell: usize, middle: Option<usize>, spare: usize)
+        ensures { self.new ≡ self.old }
+    {
+        if part >= self.parts.len() {
+            return;
+        }
+        let Some(k) = self.parts[part].behind(cell, middle) else {
+            return;
+        };
+        let Some(spot) = self.place(k) else {
+            return;
+        };
+        self.leave(k as usize);
+        if !self.enter(k as usize, Some(spare), spot) {
+            self.stand_alone(k as usize, spot);
+        }
     }
 
     /// Whether marker `k` advances at an insertion.
@@ -246,7 +322,19 @@ impl Markers {
         requires { k < length self.old }
         ensures { self.new ≡ slice_set self.old k (record (marker_at self.old k) { advances = after }) }
     {
-        self.slots[k as usize].advances = after;
+        let spot = self.place(k);
+        self.leave(k as usize);
+        self.turn(k as usize, after);
+        self.set(k, spot);
+    }
+
+    /// Says whether marker `k`, which points nowhere, advances at an insertion.
+    fn turn(&mut self, k: usize, after: bool)
+        requires made { k < length self.old }
+        requires free { (marker_at self.old k).spot ≡ None }
+        ensures { self.new ≡ slice_set self.old k (record (marker_at self.old k) { advances = after }) }
+    {
+        self.slots[k].advances = after;
     }
 
     /// `n` characters were put in at `at` of a buffer: its markers behind `at` go on by `n`, and so do those just there
@@ -267,38 +355,47 @@ impl Markers {
         self.note(buffer, Change::Deletion { from, to });
     }
 
-    /// A buffer's text was changed: its markers move, found along the ring of its bucket.
+    /// A buffer's text was changed: its markers move, part by part.
     fn note(&mut self, buffer: u32, change: Change)
         requires { All (CanMoveIn buffer change) self.old }
         ensures { self.new ≡ map (moved_by buffer change) self.old }
     {
-        if self.slots.is_empty() {
-            return;
+        note_parts(self.parts.as_mut_slice(), buffer, change);
+        if self.some_alone {
+            note_alone(self.slots.as_mut_slice(), buffer, change);
         }
-        let mut node = bucket_of(buffer);
-        'ring: for _ in 0..self.sizes[node] {
-            node = self.after[node];
-            let slot = &mut self.slots[node - BUCKETS];
-            *slot = slot.moved(buffer, change);
-        }
+    }
+
+    /// The markers of a buffer that stand between two places or at one of them, by rising number.
+    pub fn within(&self, buffer: u32, from: usize, to: usize) -> Mem<Vec<u32>>
+        ensures { IfOk result (λ numbers. numbers.items ≡ numbers_within buffer from to self.now) }
+    {
+        let mut numbers = Vec::new(*self.slots.allocator());
+        let parts = self.parts.as_slice();
+        found_parts(parts, buffer, from, to, &mut numbers)?;
+        let slots = self.slots.as_slice();
+        found_alone(slots, self.some_alone, buffer, from, to, &mut numbers)?;
+        numbers.sort_unstable();
+        Ok(numbers)
     }
 
     /// A buffer was killed: its markers point nowhere. Whether they advance stays as it was.
     pub fn drop_buffer(&mut self, buffer: u32)
         ensures { self.new ≡ map (marker_left buffer) self.old }
     {
-        for k in 0..self.slots.len() {
+        for k in 0..self.count() {
             self.leave_killed(k, buffer);
         }
     }
 
     /// Points marker `k` nowhere where it points into a killed buffer.
-    fn leave_killed(&mut self, k: usize, buffer: u32)
+    fn leave_killed(&mut self, k: u32, buffer: u32)
         requires { k < length self.old }
         ensures { self.new ≡ slice_set self.old k (marker_left buffer (marker_at self.old k)) }
     {
-        if self.slots[k].points_into(buffer) {
-            self.leave(k);
+        let spot = self.place(k);
+        if lies_in(buffer, spot) {
+            self.leave(k as usize);
         }
     }
 
@@ -307,11 +404,50 @@ impl Markers {
         ensures { IfOk result (λ copy. copy ≡ self.now) }
     {
         let alloc = *self.slots.allocator();
+        let slots = Vec::from_slice(alloc, self.slots.as_slice())?;
+        let parts = copy_parts(alloc, self.parts.as_slice())?;
         Ok(Markers {
-            slots: Vec::from_slice(alloc, self.slots.as_slice())?,
-            after: Vec::from_slice(alloc, self.after.as_slice())?,
-            before: Vec::from_slice(alloc, self.before.as_slice())?,
-            sizes: Vec::from_slice(alloc, self.sizes.as_slice())?,
+            slots,
+            parts,
+            some_alone: self.some_alone,
         })
     }
+}
+
+/// Whether a spot lies in a buffer.
+fn lies_in(buffer: u32, spot: Option<(u32, usize)>) -> bool
+    ensures { result ≡ points_into buffer (spot_of spot) }
+{
+    spot.is_some_and(|(own, _)| own == buffer)
+}
+
+/// Moves the markers of all parts.
+fn note_parts(parts: &mut [Part], buffer: u32, change: Change)
+    requires { All (CanMoveBlock buffer change) parts.old }
+    ensures { parts.new ≡ map (moved_block buffer change) parts.old }
+{
+    for part in parts.iter_mut() {
+        part.note(buffer, change);
+    }
+}
+
+/// Moves the markers that are kept alone.
+fn note_alone(slots: &mut [Slot], buffer: u32, change: Change)
+    requires { All (CanMoveSlot buffer change) slots.old }
+    ensures { slots.new ≡ map (moved_slot buffer change) slots.old }
+{
+    for slot in slots.iter_mut() {
+        *slot = slot.moved(buffer, change);
+    }
+}
+
+/// The same parts again.
+fn copy_parts(alloc: Global, parts: &[Part]) -> Mem<Vec<Part>>
+    ensures { IfOk result (λ copy. copy.items ≡ parts.now) }
+{
+    let mut copy = Vec::new(alloc);
+    for part in parts.iter() {
+        copy.push(part.copy()?)?;
+    }
+    Ok(copy)
 }

@@ -1,21 +1,19 @@
 //! Room for a marker that is still to be made.
-ghost use Rattle.std.specs.Prelude.{◌≡◌, ℕ, ◌+◌, ◌^◌, ◌<◌, ◌≤◌, [], length, vec_capacity, IfOk};
-ghost use Rattle.marker_set.specs.Rings.{number_at};
+ghost use Rattle.std.specs.Prelude.{◌≡◌, ◌<◌, ◌≤◌, [], length, vec_capacity, IfOk, OnOk};
 
-use crate::markers::BUCKETS;
+use crate::part::Part;
 use crate::slot::Slot;
 use ek_types::Mem;
 use std::alloc::Global;
 use std::marker::Model;
 use std::mem;
 
-/// Room for markers: seen as their number. It has no markers, and the nodes of the buckets alone.
+/// Room for markers: seen as their number. There may be a part for them, and room for it among the other parts.
 #[derive(Drop)]
 pub struct Room {
     pub(crate) slots: Vec<Slot>,
-    pub(crate) after: Vec<usize>,
-    pub(crate) before: Vec<usize>,
-    pub(crate) sizes: Vec<usize>,
+    pub(crate) part: Option<Part>,
+    pub(crate) parts: Vec<Part>,
 }
 
 impl Model for Room {
@@ -27,36 +25,31 @@ impl Model for Room {
 
     ghost view = { λ r. vec_capacity r.slots };
 
-    ghost invariant = { λ r. IsRoom r.slots.items r.after.items r.before.items r.sizes.items (vec_capacity r.slots) (vec_capacity r.after) (vec_capacity r.before) };
+    ghost invariant = { λ r. IsRoom r.slots.items r.part r.parts.items };
 }
 
 impl Room {
     /// Room for `n` markers.
     pub(crate) fn new(alloc: Global, n: usize) -> Mem<Room>
-        requires { n ≤ 2 ^ 32 }
         ensures { IfOk result (λ room. room ≡ n) }
     {
         Ok(Room {
             slots: Vec::with_capacity(alloc, n)?,
-            after: bucket_nodes(alloc, n)?,
-            before: bucket_nodes(alloc, n)?,
-            sizes: vec![in alloc; 0; BUCKETS]?,
+            part: None,
+            parts: Vec::new(alloc),
         })
     }
-}
 
-/// The nodes of the buckets, each a ring of its own, with room for `n` nodes more.
-fn bucket_nodes(alloc: Global, n: usize) -> Mem<Vec<usize>>
-    requires { n ≤ 2 ^ 32 }
-    ensures length { IfOk result (λ nodes. length nodes.items ≡ 256) }
-    ensures own { IfOk result (λ nodes. (s : ℕ) → s < 256 → number_at nodes.items s ≡ s) }
-    ensures capacity { IfOk result (λ nodes. vec_capacity nodes ≡ 256 + n) }
-{
-    let mut nodes = Vec::with_capacity(alloc, BUCKETS + n)?;
-    for s in 0..BUCKETS {
-        nodes.push_reserved(s);
+    /// Room for `n` markers and one part more, among `n_parts` parts.
+    pub(crate) fn with_part(alloc: Global, n: usize, n_parts: usize) -> Mem<Room>
+        ensures { IfOk result (λ room. room ≡ n) }
+    {
+        Ok(Room {
+            slots: Vec::with_capacity(alloc, n)?,
+            part: Some(Part::new(alloc)?),
+            parts: Vec::with_capacity(alloc, n_parts)?,
+        })
     }
-    Ok(nodes)
 }
 
 /// Moves items into empty room, which takes the place of where they were. It takes no memory.

@@ -1,5 +1,6 @@
 //! Kept places: what the blocks of a script and a change under way come back to.
-ghost use Rattle.std.specs.Prelude.{◌≡◌, ◌↔◌, ◌≤◌, List, [], ◌∷◌, map, All, IfOk, OnOk, OnErr, IfSome, IfNone, IsNone, option_map};
+ghost use Rattle.std.specs.Prelude.{◌≡◌, ◌↔◌, ◌≤◌, List, [], ◌∷◌, map, All, IfOk, OnOk, OnErr};
+ghost use Rattle.std.specs.Prelude.{IfSome, IfNone, IsNone, option_map};
 ghost use Rattle.text_model.specs.Marks.{move_saved, insertion, deletion};
 ghost use Rattle.narrow_region.specs.Kept.{head_of, kept_of, HasRoomFor, IsOrdered};
 

@@ -1,5 +1,6 @@
 //! Stretches with the numbers of their overlays, and the bounds of many of them.
-ghost use Rattle.std.specs.Prelude.{◌≡◌, false, min, max, filter, ◌+◌, ◌<◌, ℕ, nat_lt, nat_le, ◌==◌, ◌||◌, ◌&&◌, true, not, is_some, unwrap_or};
+ghost use Rattle.std.specs.Prelude.{◌≡◌, false, min, max, filter, ◌+◌, ◌<◌, ℕ, nat_lt, nat_le};
+ghost use Rattle.std.specs.Prelude.{◌==◌, ◌||◌, ◌&&◌, true, not, is_some, unwrap_or};
 ghost use Rattle.text_model.specs.OverlayQuestions.{least, greatest};
 ghost use Rattle.overlay_set.specs.Numbered.{next_or, previous_or};
 ghost use Rattle.overlay_set.specs.Entries.{Holds, ends_at, passes, is_same};
@@ -61,7 +62,8 @@ impl Entry {
     #[tactic(auto, using(crate::proofs::ChangeLemmas::stays))]
     pub(crate) fn is_touched(self, buffer: u32, change: Change) -> bool
         ensures exact { result ≡ touches buffer change self }
-        ensures stays { result ≡ false → (o : Overlay) → moved_by buffer change (with_span o self.stretch) ≡ with_span o self.stretch }
+        ensures stays { result ≡ false → (o : Overlay) →
+            moved_by buffer change (with_span o self.stretch) ≡ with_span o self.stretch }
     {
         let (own, start, end) = self.stretch;
         own == buffer
@@ -74,7 +76,8 @@ impl Entry {
 
     /// The nearest of its places behind `i` and of one that was found, where it stands in the buffer.
     pub(crate) fn nearer_next(self, buffer: u32, i: usize, found: Option<usize>) -> Option<usize>
-        ensures { (last : ℕ) → next_or last result ≡ least (next_or last found) (filter (λ x. nat_lt (i + 1) x) (ends_at buffer self)) }
+        ensures { (last : ℕ) → next_or last result ≡
+            least (next_or last found) (filter (λ x. nat_lt (i + 1) x) (ends_at buffer self)) }
     {
         let (own, start, end) = self.stretch;
         if own != buffer {
@@ -90,7 +93,9 @@ impl Entry {
         i: usize,
         found: Option<usize>,
     ) -> Option<usize>
-        ensures { (first : ℕ) → previous_or first result ≡ greatest (previous_or first found) (filter (λ x. nat_lt x (i + 1)) (ends_at buffer self)) }
+        ensures { (first : ℕ) → previous_or first result ≡
+            greatest (previous_or first found)
+            (filter (λ x. nat_lt x (i + 1)) (ends_at buffer self)) }
     {
         let (own, start, end) = self.stretch;
         if own != buffer {
@@ -130,14 +135,16 @@ impl Range {
 impl Range {
     /// Whether a number of the range may lie behind `i` and before one that was found.
     fn may_come_next(self, i: usize, found: Option<usize>) -> bool
-        ensures { result ≡ (nat_lt i self.most && (not (is_some found) || nat_lt self.least (unwrap_or found 0))) }
+        ensures { result ≡ (nat_lt i self.most &&
+            (not (is_some found) || nat_lt self.least (unwrap_or found 0))) }
     {
         i < self.most && found.is_none_or(|other| self.least < other)
     }
 
     /// Whether a number of the range may lie before `i` and behind one that was found.
     fn may_come_before(self, i: usize, found: Option<usize>) -> bool
-        ensures { result ≡ (nat_lt self.least i && (not (is_some found) || nat_lt (unwrap_or found 0) self.most)) }
+        ensures { result ≡ (nat_lt self.least i &&
+            (not (is_some found) || nat_lt (unwrap_or found 0) self.most)) }
     {
         self.least < i && found.is_none_or(|other| other < self.most)
     }
@@ -205,7 +212,9 @@ impl Bounds {
 
     /// Whether an entry of the buffer may begin or end behind `i` and before a place that was found.
     pub(crate) fn may_come_next(self, buffer: u32, i: usize, found: Option<usize>) -> bool
-        ensures { (e : Entry) → Holds self e → result ≡ false → (last : ℕ) → least (next_or last found) (filter (λ x. nat_lt (i + 1) x) (ends_at buffer e)) ≡ next_or last found }
+        ensures { (e : Entry) → Holds self e → result ≡ false → (last : ℕ) →
+            least (next_or last found) (filter (λ x. nat_lt (i + 1) x) (ends_at buffer e)) ≡
+            next_or last found }
     {
         self.buffers.holds(buffer as usize)
             && (self.starts.may_come_next(i, found) || self.ends.may_come_next(i, found))
@@ -213,7 +222,9 @@ impl Bounds {
 
     /// Whether an entry of the buffer may begin or end before `i` and behind a place that was found.
     pub(crate) fn may_come_before(self, buffer: u32, i: usize, found: Option<usize>) -> bool
-        ensures { (e : Entry) → Holds self e → result ≡ false → (first : ℕ) → greatest (previous_or first found) (filter (λ x. nat_lt x (i + 1)) (ends_at buffer e)) ≡ previous_or first found }
+        ensures { (e : Entry) → Holds self e → result ≡ false → (first : ℕ) →
+            greatest (previous_or first found) (filter (λ x. nat_lt x (i + 1)) (ends_at buffer e)) ≡
+            previous_or first found }
     {
         self.buffers.holds(buffer as usize)
             && (self.starts.may_come_before(i, found) || self.ends.may_come_before(i, found))

@@ -79,7 +79,8 @@ pub(crate) fn move_in(tree: &mut Tree, slots: &mut [Slot], buffer: u32, change: 
     requires made { All (IsMade (length slots.old)) tree.old }
     requires can { All (CanMoveEntry buffer change) tree.old }
     ensures tree { tree.new ≡ flat_map (moved_entry buffer change (map overlay_of slots.old)) tree.old }
-    ensures slots { map overlay_of slots.new ≡ move_all buffer change (map overlay_of slots.old) tree.old }
+    ensures slots { map overlay_of slots.new ≡ move_all buffer change (map overlay_of slots.old)
+        tree.old }
 {
     let old = mem::replace(tree, Tree::new());
     *tree = moved(old, slots, buffer, change);
@@ -111,8 +112,10 @@ fn moved(tree: Tree, slots: &mut [Slot], buffer: u32, change: Change) -> Tree
 fn move_slot(slots: &mut [Slot], entry: Entry, buffer: u32, change: Change) -> Option<Stretch>
     requires made { entry.number < length slots.old }
     requires can { CanMoveEntry buffer change entry }
-    ensures stretch { entry_of entry.number (span_of result) ≡ moved_entry buffer change (map overlay_of slots.old) entry }
-    ensures slots { map overlay_of slots.new ≡ move_all buffer change (map overlay_of slots.old) (entry ∷ []) }
+    ensures stretch { entry_of entry.number (span_of result) ≡
+        moved_entry buffer change (map overlay_of slots.old) entry }
+    ensures slots { map overlay_of slots.new ≡ move_all buffer change (map overlay_of slots.old)
+        (entry ∷ []) }
 {
     if !entry.is_touched(buffer, change) {
         return Some(entry.stretch);

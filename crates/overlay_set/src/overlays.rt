@@ -1,11 +1,15 @@
 //! All overlays of a run, by number.
-ghost use Rattle.std.specs.Prelude.{◌≡◌, ℕ, ◌+◌, ◌-◌, ◌^◌, ◌<◌, ◌≤◌, false, [], ◌∷◌, ◌++◌, length, map, Some, None, option_map, slice_set, All, OnOk, OnErr, IfOk};
+ghost use Rattle.std.specs.Prelude.{◌≡◌, ℕ, ◌+◌, ◌-◌, ◌^◌, ◌<◌, ◌≤◌, false, [], ◌∷◌, ◌++◌, length};
+ghost use Rattle.std.specs.Prelude.{map, Some, None, option_map, slice_set, All, OnOk, OnErr, IfOk};
 ghost use Rattle.text_model.specs.Properties.{get, put};
-ghost use Rattle.text_model.specs.Marks.{Overlay, move_overlay, evaporated, overlay_left, insertion, deletion};
-ghost use Rattle.text_model.specs.OverlayQuestions.{overlays_where, covers, lies_within, winner, next_end, previous_end};
+ghost use Rattle.text_model.specs.Marks.{Overlay, move_overlay, evaporated, overlay_left};
+ghost use Rattle.text_model.specs.Marks.{insertion, deletion};
+ghost use Rattle.text_model.specs.OverlayQuestions.{overlays_where, covers, lies_within, winner};
+ghost use Rattle.text_model.specs.OverlayQuestions.{next_end, previous_end};
 ghost use Rattle.ek_types.specs.Property.{prop_of};
 ghost use Rattle.ek_types.specs.Listing.{items_of};
-ghost use Rattle.overlay_set.specs.Numbered.{overlay_at, span_of, span_at, given_of, numbers_of, next_or, previous_or, HasRoomFor};
+ghost use Rattle.overlay_set.specs.Numbered.{overlay_at, span_of, span_at, given_of, numbers_of};
+ghost use Rattle.overlay_set.specs.Numbered.{next_or, previous_or, HasRoomFor};
 ghost use Rattle.overlay_set.specs.Slots.{test_of, with_span, moved_by, overlay_of, CanMoveIn};
 ghost use Rattle.overlay_set.specs.Entries.{HoldSame};
 
@@ -39,7 +43,8 @@ impl Model for Overlays {
 
     ghost view = { λ a. map overlay_of a.slots.items };
 
-    ghost invariant = { λ a. (length a.slots.items < 2 ^ 32) × HoldSame a.tree (entries_from 0 (map overlay_of a.slots.items)) };
+    ghost invariant = { λ a. (length a.slots.items < 2 ^ 32) ×
+        HoldSame a.tree (entries_from 0 (map overlay_of a.slots.items)) };
 }
 
 impl Overlays {
@@ -67,7 +72,13 @@ impl Overlays {
         requires room { length self.old < 2 ^ 32 - 1 }
         requires ordered { from ≤ to }
         ensures number { IfOk result (λ k. k ≡ length self.old) }
-        ensures ok { OnOk result (self.new ≡ self.old ++ record { span = Some (span_at (buffer, from, to)); front_advance = front; rear_advance = rear; props = [] } ∷ []) }
+        ensures ok { OnOk result (self.new ≡ self.old ++
+            record {
+              span = Some (span_at (buffer, from, to));
+              front_advance = front;
+              rear_advance = rear;
+              props = [];
+            } ∷ []) }
         ensures err { OnErr result (self.new ≡ self.old) }
     {
         let alloc = *self.slots.allocator();
@@ -90,7 +101,8 @@ impl Overlays {
     pub fn shift(&mut self, k: u32, buffer: u32, from: usize, to: usize) -> Mem<()>
         requires made { k < length self.old }
         requires ordered { from ≤ to }
-        ensures ok { OnOk result (self.new ≡ slice_set self.old k (record (overlay_at self.old k) { span = Some (span_at (buffer, from, to)) })) }
+        ensures ok { OnOk result (self.new ≡ slice_set self.old k
+            (record (overlay_at self.old k) { span = Some (span_at (buffer, from, to)) })) }
         ensures err { OnErr result (self.new ≡ self.old) }
     {
         let stretch = (buffer, from, to);
@@ -104,7 +116,8 @@ impl Overlays {
     fn stand(&mut self, node: Box<Node>)
         requires made { node.value.entry.number < length self.old }
         requires away { (overlay_at self.old node.value.entry.number).span ≡ None }
-        ensures { self.new ≡ slice_set self.old node.value.entry.number (with_span (overlay_at self.old node.value.entry.number) node.value.entry.stretch) }
+        ensures { self.new ≡ slice_set self.old node.value.entry.number
+            (with_span (overlay_at self.old node.value.entry.number) node.value.entry.stretch) }
     {
         let Entry { number, stretch } = node.entry;
         put(&mut self.tree, node);
@@ -134,7 +147,11 @@ impl Overlays {
     /// where it is empty and now evaporates. A refusal leaves it as it was.
     pub fn put(&mut self, k: u32, name: Sym, v: Option<&PropVal>) -> Mem<()>
         requires { k < length self.old }
-        ensures ok { OnOk result (self.new ≡ slice_set self.old k (record (overlay_at self.old k) { props = put (overlay_at self.old k).props name.0 (given_of (option_map (λ p. prop_of p.now) v.entry)) })) }
+        ensures ok { OnOk result (self.new ≡ slice_set self.old k
+            (record (overlay_at self.old k) {
+              props = put (overlay_at self.old k).props name.0
+                  (given_of (option_map (λ p. prop_of p.now) v.entry));
+            })) }
         ensures err { OnErr result (self.new ≡ self.old) }
     {
         let slot = &mut self.slots[k as usize];
@@ -161,7 +178,8 @@ impl Overlays {
     /// The overlays that cover place `i` of a buffer: they begin there or before and end behind it ("Finding
     /// Overlays").
     pub fn at(&self, buffer: u32, i: usize) -> Mem<Numbers>
-        ensures { IfOk result (λ numbers. items_of numbers ≡ numbers_of (overlays_where buffer (covers (i + 1)) self.now)) }
+        ensures { IfOk result (λ numbers. items_of numbers ≡
+            numbers_of (overlays_where buffer (covers (i + 1)) self.now)) }
     {
         self.found(buffer, Question::At { i })
     }
@@ -171,14 +189,17 @@ impl Overlays {
     /// accessible portion ("Finding Overlays").
     pub fn within(&self, buffer: u32, from: usize, to: usize, end: usize) -> Mem<Numbers>
         requires { from ≤ to }
-        ensures { IfOk result (λ numbers. items_of numbers ≡ numbers_of (overlays_where buffer (lies_within (from + 1) (to + 1) (end + 1)) self.now)) }
+        ensures { IfOk result (λ numbers. items_of numbers ≡
+            numbers_of (overlays_where buffer (lies_within (from + 1) (to + 1) (end + 1))
+            self.now)) }
     {
         self.found(buffer, Question::Within { from, to, end })
     }
 
     /// The overlays of a buffer that pass a test.
     fn found(&self, buffer: u32, question: Question) -> Mem<Numbers>
-        ensures { IfOk result (λ numbers. items_of numbers ≡ numbers_of (overlays_where buffer (test_of question) self.now)) }
+        ensures { IfOk result (λ numbers. items_of numbers ≡
+            numbers_of (overlays_where buffer (test_of question) self.now)) }
     {
         let alloc = *self.slots.allocator();
         let mut numbers = Vec::new(alloc);
@@ -229,7 +250,8 @@ impl Overlays {
     /// Properties").
     pub fn note_delete(&mut self, buffer: u32, from: usize, to: usize)
         requires { from ≤ to }
-        ensures { self.new ≡ map (λ o. evaporated buffer (move_overlay buffer false (deletion from to) o)) self.old }
+        ensures { self.new ≡ map (λ o. evaporated buffer
+            (move_overlay buffer false (deletion from to) o)) self.old }
     {
         self.note(buffer, Change::Deletion { from, to });
     }

@@ -1,5 +1,6 @@
 //! Questions to a tree of entries. A part is left aside where its bounds show that nothing in it counts.
-ghost use Rattle.std.specs.Prelude.{◌≡◌, ℕ, ◌+◌, ◌<◌, nat_lt, All, ◌∷◌, [], ◌++◌, length, map, filter, option_to_list, OnOk};
+ghost use Rattle.std.specs.Prelude.{◌≡◌, ℕ, ◌+◌, ◌<◌, nat_lt, All, ◌∷◌, [], ◌++◌, length, map};
+ghost use Rattle.std.specs.Prelude.{filter, option_to_list, OnOk};
 ghost use Rattle.std.specs.List.{flat_map};
 ghost use Rattle.text_model.specs.OverlayQuestions.{least, greatest};
 ghost use Rattle.overlay_set.specs.Numbered.{next_or, previous_or};
@@ -15,7 +16,8 @@ use ek_types::{Mem, Sym};
 impl Tree {
     /// Adds the numbers of a buffer's entries that pass a test.
     pub(crate) fn found(&self, buffer: u32, question: Question, numbers: &mut Vec<u32>) -> Mem<()>
-        ensures { OnOk result (numbers.new.items ≡ numbers.old.items ++ numbers_in (filter (passes buffer question) self.now)) }
+        ensures { OnOk result (numbers.new.items ≡ numbers.old.items ++
+            numbers_in (filter (passes buffer question) self.now)) }
     {
         match &self.root {
             Link::Empty => Ok(()),
@@ -61,7 +63,9 @@ impl Tree {
 
     /// The nearest place behind `i` where an entry of the buffer begins or ends, and the nearest so far.
     pub(crate) fn next_change(&self, buffer: u32, i: usize, nearest: Option<usize>) -> Option<usize>
-        ensures { (last : ℕ) → next_or last result ≡ least (next_or last nearest) (filter (λ x. nat_lt (i + 1) x) (flat_map (ends_at buffer) self.now)) }
+        ensures { (last : ℕ) → next_or last result ≡
+            least (next_or last nearest) (filter (λ x. nat_lt (i + 1) x)
+            (flat_map (ends_at buffer) self.now)) }
     {
         match &self.root {
             Link::Empty => nearest,
@@ -79,7 +83,9 @@ impl Tree {
 
     /// The nearest place before `i` where an entry of the buffer begins or ends, and the nearest so far.
     pub(crate) fn prev_change(&self, buffer: u32, i: usize, nearest: Option<usize>) -> Option<usize>
-        ensures { (first : ℕ) → previous_or first result ≡ greatest (previous_or first nearest) (filter (λ x. nat_lt x (i + 1)) (flat_map (ends_at buffer) self.now)) }
+        ensures { (first : ℕ) → previous_or first result ≡
+            greatest (previous_or first nearest)
+            (filter (λ x. nat_lt x (i + 1)) (flat_map (ends_at buffer) self.now)) }
     {
         match &self.root {
             Link::Empty => nearest,
@@ -98,7 +104,8 @@ impl Tree {
 
 /// Adds the number of an entry that passes a test.
 fn add_where(entry: Entry, buffer: u32, question: Question, numbers: &mut Vec<u32>) -> Mem<()>
-    ensures { OnOk result (numbers.new.items ≡ numbers.old.items ++ numbers_in (filter (passes buffer question) (entry ∷ []))) }
+    ensures { OnOk result (numbers.new.items ≡ numbers.old.items ++
+        numbers_in (filter (passes buffer question) (entry ∷ []))) }
 {
     if entry.passes(buffer, question) {
         numbers.push(entry.number)?;

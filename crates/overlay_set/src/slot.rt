@@ -1,8 +1,11 @@
 //! One overlay as it is kept, and how a change of a text moves it.
-ghost use Rattle.std.specs.Prelude.{◌≡◌, ℕ, ◌+◌, ◌≤◌, ◌&&◌, nat_lt, true, false, [], ◌∷◌, filter, Some, is_some, option_map, IfOk};
+ghost use Rattle.std.specs.Prelude.{◌≡◌, ℕ, ◌+◌, ◌≤◌, ◌&&◌, nat_lt, true, false, [], ◌∷◌, filter};
+ghost use Rattle.std.specs.Prelude.{Some, is_some, option_map, IfOk};
 ghost use Rattle.text_model.specs.Properties.{get, put};
-ghost use Rattle.text_model.specs.Marks.{Span, move_overlay, evaporated, evaporate, insertion, deletion};
-ghost use Rattle.text_model.specs.OverlayQuestions.{covers, overlaps, stands_in, rank, start_of, end_of, outranks, least, greatest};
+ghost use Rattle.text_model.specs.Marks.{Span, move_overlay, evaporated, evaporate, insertion};
+ghost use Rattle.text_model.specs.Marks.{deletion};
+ghost use Rattle.text_model.specs.OverlayQuestions.{covers, overlaps, stands_in, rank, start_of};
+ghost use Rattle.text_model.specs.OverlayQuestions.{end_of, outranks, least, greatest};
 ghost use Rattle.ek_types.specs.Property.{prop_of};
 ghost use Rattle.overlay_set.specs.Numbered.{span_at, span_of, given_of, next_or, previous_or};
 ghost use Rattle.overlay_set.specs.Slots.{overlay_of, with_span, moved_by, test_of, CanMoveIn};
@@ -147,7 +150,8 @@ impl Slot {
     fn after_insert(&self, stretch: Stretch, at: usize, n: usize, all: bool) -> Stretch
         requires start { n + stretch.1 ≤ usize.MAX }
         requires end { n + stretch.2 ≤ usize.MAX }
-        ensures { Some (span_at result) ≡ (move_overlay stretch.0 all (insertion at n) (with_span (overlay_of self.now) stretch)).span }
+        ensures { Some (span_at result) ≡ (move_overlay stretch.0 all (insertion at n)
+            (with_span (overlay_of self.now) stretch)).span }
     {
         let (buffer, start, end) = stretch;
         let start_advances = all || (self.front && (self.rear || start != end));
@@ -159,7 +163,9 @@ impl Slot {
     /// Where a stretch of the overlay goes at a deletion in its buffer, if anywhere.
     fn after_delete(&self, stretch: Stretch, from: usize, to: usize) -> Option<Stretch>
         requires { from ≤ to }
-        ensures { span_of result ≡ (evaporated stretch.0 (move_overlay stretch.0 false (deletion from to) (with_span (overlay_of self.now) stretch))).span }
+        ensures { span_of result ≡ (evaporated stretch.0
+            (move_overlay stretch.0 false (deletion from to)
+            (with_span (overlay_of self.now) stretch))).span }
     {
         let (buffer, start, end) = stretch;
         let start = place_after_delete(from, to, start);
@@ -174,7 +180,8 @@ impl Slot {
     /// Where it goes from a stretch at a change of a buffer, if anywhere.
     pub fn moved(&self, stretch: Stretch, buffer: u32, change: Change) -> Option<Stretch>
         requires { CanMoveIn buffer change (with_span (overlay_of self.now) stretch) }
-        ensures { record (overlay_of self.now) { span = span_of result } ≡ moved_by buffer change (with_span (overlay_of self.now) stretch) }
+        ensures { record (overlay_of self.now) { span = span_of result } ≡
+            moved_by buffer change (with_span (overlay_of self.now) stretch) }
     {
         match change {
             _ if stretch.0 != buffer => Some(stretch),
@@ -186,7 +193,8 @@ impl Slot {
 
     /// Its properties with one given anew, or taken away where `v` is none or nil.
     pub fn props_with(&self, name: Sym, v: Option<&PropVal>) -> Mem<PropSet>
-        ensures { IfOk result (λ set. set ≡ put self.now.props name.0 (given_of (option_map (λ p. prop_of p.now) v.entry))) }
+        ensures { IfOk result (λ set. set ≡ put self.now.props name.0
+            (given_of (option_map (λ p. prop_of p.now) v.entry))) }
     {
         match v {
             Some(value) => self.props.with(name, value),
@@ -209,7 +217,8 @@ impl Slot {
 
 /// The nearer of a place, where it lies behind `i`, and one that was found.
 pub(crate) fn nearer_behind(i: usize, place: usize, found: Option<usize>) -> Option<usize>
-    ensures { (last : ℕ) → next_or last result ≡ least (next_or last found) (filter (λ x. nat_lt (i + 1) x) ((place + 1) ∷ [])) }
+    ensures { (last : ℕ) → next_or last result ≡
+        least (next_or last found) (filter (λ x. nat_lt (i + 1) x) ((place + 1) ∷ [])) }
 {
     match found {
         Some(other) if place <= i || other <= place => found,
@@ -220,7 +229,8 @@ pub(crate) fn nearer_behind(i: usize, place: usize, found: Option<usize>) -> Opt
 
 /// The nearer of a place, where it lies before `i`, and one that was found.
 pub(crate) fn nearer_before(i: usize, place: usize, found: Option<usize>) -> Option<usize>
-    ensures { (first : ℕ) → previous_or first result ≡ greatest (previous_or first found) (filter (λ x. nat_lt x (i + 1)) ((place + 1) ∷ [])) }
+    ensures { (first : ℕ) → previous_or first result ≡
+        greatest (previous_or first found) (filter (λ x. nat_lt x (i + 1)) ((place + 1) ∷ [])) }
 {
     match found {
         Some(other) if i <= place || place <= other => found,

@@ -61,7 +61,19 @@ impl Model for Process {
 
     ghost use Rattle.process_table.specs.Meaning.{status_of, filter_of};
 
-    ghost view = { λ p. record { name = p.name.items; child = p.child; status = status_of p.status; buffer = p.buffer; mark = p.mark; filter = filter_of p.filter; sentinel = option_map number_of p.sentinel; bytes = p.decoder; drained = p.drained; closed = p.closed; listed = p.listed } };
+    ghost view = { λ p. record {
+      name = p.name.items;
+      child = p.child;
+      status = status_of p.status;
+      buffer = p.buffer;
+      mark = p.mark;
+      filter = filter_of p.filter;
+      sentinel = option_map number_of p.sentinel;
+      bytes = p.decoder;
+      drained = p.drained;
+      closed = p.closed;
+      listed = p.listed;
+    } };
 }
 
 impl Process {
@@ -210,7 +222,8 @@ impl Process {
     pub(crate) fn feed(&mut self, bytes: &[u8], out: &mut Chars)
         requires { length self.old.bytes + length bytes.now ≤ out.old.spare }
         ensures items { out.new.items ≡ out.old.items ++ characters (self.old.bytes ++ bytes.now) }
-        ensures spare { out.new.spare + length (characters (self.old.bytes ++ bytes.now)) ≡ out.old.spare }
+        ensures spare { out.new.spare + length (characters (self.old.bytes ++ bytes.now)) ≡
+            out.old.spare }
         ensures process { self.new ≡ with_held (tail (self.old.bytes ++ bytes.now)) self.old }
     {
         self.decoder.feed(bytes, out);

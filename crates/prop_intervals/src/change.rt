@@ -27,9 +27,11 @@ pub(crate) fn edited_runs(
 ) -> Mem<Edited>
     requires order { from ≤ to }
     requires within { to ≤ size tree.now }
-    ensures sets { IfOk result (λ e. sets_of e.runs ≡ map (edited (edit_of edit.now)) (drop from (take to (sets_of tree.now)))) }
+    ensures sets { IfOk result (λ e. sets_of e.runs ≡
+        map (edited (edit_of edit.now)) (drop from (take to (sets_of tree.now)))) }
     ensures apart { IfOk result (λ e. AreApart e.runs) }
-    ensures changed { IfOk result (λ e. e.changed ≡ not (same_list same_set (drop from (take to (sets_of tree.now))) (sets_of e.runs))) }
+    ensures changed { IfOk result (λ e. e.changed ≡
+        not (same_list same_set (drop from (take to (sets_of tree.now))) (sets_of e.runs))) }
 {
     let mut runs = Tree::new();
     let mut changed = false;

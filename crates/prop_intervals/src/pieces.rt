@@ -1,5 +1,6 @@
 //! The runs of a piece.
-ghost use Rattle.std.specs.Prelude.{◌≡◌, ◌+◌, ◌-◌, ◌<◌, ◌≤◌, IfOk, length, replicate, take, ◌++◌, ◌^◌, true, slice_get, Some};
+ghost use Rattle.std.specs.Prelude.{◌≡◌, ◌+◌, ◌-◌, ◌<◌, ◌≤◌, IfOk, length, replicate, take, ◌++◌};
+ghost use Rattle.std.specs.Prelude.{◌^◌, true, slice_get, Some};
 ghost use Rattle.text_model.specs.Properties.{PropSet as Pairs};
 ghost use Rattle.prop_intervals.specs.Runs.{size, sets_of, AreApart};
 ghost use Rattle.prop_intervals.specs.Sets.{sets_in};
@@ -27,7 +28,8 @@ fn end_of_run(piece: &Piece, i: usize) -> usize
     requires { i < length piece.now }
     ensures behind { i < result }
     ensures within { result ≤ length piece.now }
-    ensures all { (set : Pairs) → slice_get (sets_in piece.now) i ≡ Some set → take result (sets_in piece.now) ≡ take i (sets_in piece.now) ++ replicate (result - i) set }
+    ensures all { (set : Pairs) → slice_get (sets_in piece.now) i ≡ Some set →
+        take result (sets_in piece.now) ≡ take i (sets_in piece.now) ++ replicate (result - i) set }
 {
     let n = piece.len();
     let set = piece.props(i);

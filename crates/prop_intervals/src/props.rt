@@ -1,5 +1,7 @@
 //! The property sets of a text.
-ghost use Rattle.std.specs.Prelude.{ℕ, ◌≡◌, ◌≢◌, ◌↔◌, ◌+◌, ◌-◌, ◌<◌, ◌≤◌, [], ◌++◌, IfOk, OnOk, OnErr, MatchBool, false, length, map, take, drop, slice_get, Some, option_map, not};
+ghost use Rattle.std.specs.Prelude.{ℕ, ◌≡◌, ◌≢◌, ◌↔◌, ◌+◌, ◌-◌, ◌<◌, ◌≤◌, [], ◌++◌, IfOk, OnOk};
+ghost use Rattle.std.specs.Prelude.{OnErr, MatchBool, false, length, map, take, drop, slice_get};
+ghost use Rattle.std.specs.Prelude.{Some, option_map, not};
 ghost use Rattle.text_model.specs.Properties.{edited, same_list, same_set};
 ghost use Rattle.text_model.specs.Ordered.{IsProper};
 ghost use Rattle.text_model.specs.PropertyQuestions.{next_change, previous_change};
@@ -91,7 +93,8 @@ impl Props {
     pub fn splice(&mut self, from: usize, to: usize, with: &Piece) -> Mem<()>
         requires order { from ≤ to }
         requires within { to ≤ length self.old }
-        ensures ok { OnOk result (self.new ≡ take from self.old ++ (sets_in with.now ++ drop to self.old)) }
+        ensures ok { OnOk result (self.new ≡ take from self.old ++
+            (sets_in with.now ++ drop to self.old)) }
         ensures err { OnErr result (self.new ≡ self.old) }
     {
         if from == to && self.grow(from, with) {
@@ -104,7 +107,8 @@ impl Props {
     fn put(&mut self, from: usize, to: usize, with: &Piece) -> Mem<()>
         requires order { from ≤ to }
         requires within { to ≤ length self.old }
-        ensures ok { OnOk result (self.new ≡ take from self.old ++ (sets_in with.now ++ drop to self.old)) }
+        ensures ok { OnOk result (self.new ≡ take from self.old ++
+            (sets_in with.now ++ drop to self.old)) }
         ensures err { OnErr result (self.new ≡ self.old) }
     {
         let middle = runs_of(self.alloc, with)?;
@@ -116,7 +120,8 @@ impl Props {
     pub fn change(&mut self, from: usize, to: usize, edit: &PropEdit) -> Mem<bool>
         requires order { from ≤ to }
         requires within { to ≤ length self.old }
-        ensures ok { OnOk result (self.new ≡ take from self.old ++ (map (edited (edit_of edit.now)) (drop from (take to self.old)) ++ drop to self.old)) }
+        ensures ok { OnOk result (self.new ≡ take from self.old ++
+            (map (edited (edit_of edit.now)) (drop from (take to self.old)) ++ drop to self.old)) }
         ensures changed { IfOk result (λ b. b ≡ not (same_list same_set self.old self.new)) }
         ensures equal { IfOk result (λ b. b ≡ false ↔ self.new ≡ self.old) }
         ensures err { OnErr result (self.new ≡ self.old) }
@@ -134,7 +139,8 @@ impl Props {
     /// such place.
     pub fn next_change(&self, i: usize, name: Option<Sym>) -> Option<usize>
         requires { i ≤ length self.now }
-        ensures { result ≡ next_change i (length self.now) (changes_of (option_map number_of name) self.now) }
+        ensures { result ≡ next_change i (length self.now)
+            (changes_of (option_map number_of name) self.now) }
     {
         questions::next_change(&self.tree, i, name)
     }
@@ -151,7 +157,8 @@ impl Props {
     /// Puts a piece in by making a run longer, if all its characters have the set of a run that is there.
     fn grow(&mut self, at: usize, with: &Piece) -> bool
         requires { at ≤ length self.old }
-        ensures { MatchBool result (self.new ≡ take at self.old ++ (sets_in with.now ++ drop at self.old)) (self.new ≡ self.old) }
+        ensures { MatchBool result (self.new ≡ take at self.old ++
+            (sets_in with.now ++ drop at self.old)) (self.new ≡ self.old) }
     {
         let n = with.len();
         let size = self.tree.len();

@@ -21,7 +21,8 @@ fn differ(a: &PropSet, b: &PropSet, name: Option<Sym>) -> bool
 /// The first place behind another where the sets or the values change.
 pub(crate) fn next_change(tree: &Tree, i: usize, name: Option<Sym>) -> Option<usize>
     requires { i ≤ size tree.now }
-    ensures { result ≡ next_change i (length (sets_of tree.now)) (changes_of (option_map number_of name) (sets_of tree.now)) }
+    ensures { result ≡ next_change i (length (sets_of tree.now))
+        (changes_of (option_map number_of name) (sets_of tree.now)) }
 {
     let size = tree.len();
     if i == size {

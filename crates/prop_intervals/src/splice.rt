@@ -44,7 +44,8 @@ fn put_between(
     requires fits { size tree + size middle < 2 ^ 64 }
     requires first { SetAt tree from first.value.set }
     requires second { SetAt tree to second.value.set }
-    ensures sets { sets_of result ≡ take from (sets_of tree) ++ (sets_of middle ++ drop to (sets_of tree)) }
+    ensures sets { sets_of result ≡ take from (sets_of tree) ++
+        (sets_of middle ++ drop to (sets_of tree)) }
     ensures apart { AreApart result }
 {
     let (head, back) = cut(tree, to, second);
@@ -64,7 +65,8 @@ pub(crate) fn replace(
     requires within { to ≤ size tree.old }
     requires apart { AreApart tree.old }
     requires apart_too { AreApart middle }
-    ensures ok { OnOk result (sets_of tree.new ≡ take from (sets_of tree.old) ++ (sets_of middle ++ drop to (sets_of tree.old))) }
+    ensures ok { OnOk result (sets_of tree.new ≡ take from (sets_of tree.old) ++
+        (sets_of middle ++ drop to (sets_of tree.old))) }
     ensures err { OnErr result (tree.new ≡ tree.old) }
     ensures apart { AreApart tree.new }
 {

@@ -73,7 +73,8 @@ fn replaced(props: &mut Props, from: usize, to: usize, text: &Piece, size: usize
     requires within { to ≤ length props.old }
     requires size { size ≡ length props.old }
     requires fits { length props.old + length text.now < 2 ^ 40 }
-    ensures { IfOk result (λ n. (n ≡ length props.new) × (n + (to - from) ≡ length props.old + length text.now)) }
+    ensures { IfOk result (λ n. (n ≡ length props.new) ×
+        (n + (to - from) ≡ length props.old + length text.now)) }
 {
     props.splice(from, to, text)?;
     Ok(size - (to - from) + text.len())

@@ -5,7 +5,8 @@ ghost use Rattle.ek_types.specs.Listing.{items_of};
 ghost use Rattle.ek_types.specs.Property.{number_of, prop_of, pair_of};
 ghost use Rattle.ek_call.specs.Meaning.{view};
 ghost use Rattle.script_read.specs.PropStrings.{Named, with_property, named_of, set_of};
-ghost use Rattle.script_read.specs.PropSets.{Gathers, Adds, Lists, AreRising, IsGiven, property_of, one_given, set_given};
+ghost use Rattle.script_read.specs.PropSets.{Gathers, Adds, Lists, AreRising, IsGiven, property_of};
+ghost use Rattle.script_read.specs.PropSets.{one_given, set_given};
 
 use ek_call::{Value, Values};
 use ek_types::{Chars, ListOf, Mem, Piece, PropSet, PropVal, Sym, SymList};
@@ -27,7 +28,8 @@ fn characters(alloc: Global, text: &Piece) -> Mem<Chars>
 
 /// The symbols of a list that has nothing else.
 fn symbols(alloc: Global, list: &Values) -> Mem<Option<SymList>>
-    ensures { IfOk result (λ o. option_map (λ names. map number_of (items_of names)) o ≡ symbol_names (values (map view (items_of list.now)))) }
+    ensures { IfOk result (λ o. option_map (λ names. map number_of (items_of names)) o ≡
+        symbol_names (values (map view (items_of list.now)))) }
 {
     let mut names = ListOf::new(alloc);
     for i in 0..list.len() {
@@ -41,7 +43,8 @@ fn symbols(alloc: Global, list: &Values) -> Mem<Option<SymList>>
 
 /// The value of a property, nil being `None`, where a list holds the symbols of one.
 fn symbols_value(alloc: Global, list: &Values) -> Mem<Option<Option<PropVal>>>
-    ensures { IfOk result (λ o. option_map (option_map prop_of) o ≡ as_prop (Items (values (map view (items_of list.now))))) }
+    ensures { IfOk result (λ o. option_map (option_map prop_of) o ≡
+        as_prop (Items (values (map view (items_of list.now))))) }
 {
     if list.len() == 0 {
         return Ok(Some(None));
@@ -70,7 +73,9 @@ fn property_value(alloc: Global, value: &Value) -> Mem<Option<Option<PropVal>>>
 /// Notes a property. Answers whether its name is new.
 fn note(given: &mut Given, name: Sym, value: Option<PropVal>) -> Mem<bool>
     requires { IsGiven value }
-    ensures { (named : Named) → Gathers given.old.entries named → IfOk result (λ new. Adds new (with_property (number_of name) (Some (option_map prop_of value)) named) given.new.entries) }
+    ensures { (named : Named) → Gathers given.old.entries named →
+        IfOk result (λ new. Adds new (with_property (number_of name)
+        (Some (option_map prop_of value)) named) given.new.entries) }
 {
     let before = given.insert(name.0, value)?;
     Ok(before.is_none())
@@ -78,7 +83,9 @@ fn note(given: &mut Given, name: Sym, value: Option<PropVal>) -> Mem<bool>
 
 /// Notes the property of this name and value, where they can be one. Answers whether they are and the name is new.
 fn note_property(alloc: Global, given: &mut Given, name: &Value, value: &Value) -> Mem<bool>
-    ensures { (named : Named) → Gathers given.old.entries named → IfOk result (λ new. Adds new (property_of (view name.now) (view value.now) named) given.new.entries) }
+    ensures { (named : Named) → Gathers given.old.entries named →
+        IfOk result (λ new. Adds new (property_of (view name.now) (view value.now) named)
+        given.new.entries) }
 {
     let Some(name) = name.symbol() else {
         return Ok(false);
@@ -109,7 +116,8 @@ fn gathered(alloc: Global, list: &Values) -> Mem<Option<Given>>
 
 /// Puts a property behind others, unless it is nil.
 fn push_given(pairs: &mut Vec<(Sym, PropVal)>, name: u32, value: Option<PropVal>) -> Mem<()>
-    ensures { OnOk result (map pair_of pairs.new.items ≡ map pair_of pairs.old.items ++ one_given name value) }
+    ensures { OnOk result (map pair_of pairs.new.items ≡ map pair_of pairs.old.items ++
+        one_given name value) }
 {
     if let Some(value) = value {
         pairs.push((Sym(name), value))?;

@@ -13,7 +13,8 @@ use std::alloc::Global;
 fn with_one(onto: PropSet, set: &PropSet, i: usize, side: Side) -> Mem<PropSet>
     requires within { i < length set.now }
     requires proper { IsProper set.now }
-    ensures { IfOk result (λ s. put_all s (offered side set.now (drop (i + 1) set.now)) ≡ put_all onto (offered side set.now (drop i set.now))) }
+    ensures { IfOk result (λ s. put_all s (offered side set.now (drop (i + 1) set.now)) ≡
+        put_all onto (offered side set.now (drop i set.now))) }
 {
     let (name, value) = set.at(i);
     if side.offers(set, name) {
@@ -48,7 +49,8 @@ fn offered_by_after(alloc: Global, after: Option<&PropSet>) -> Mem<PropSet>
 
 /// A set with what the character before the insertion offers put into it.
 fn with_before(onto: PropSet, before: Option<&PropSet>) -> Mem<PropSet>
-    ensures { IfOk result (λ s. s ≡ put_all onto (offered_by_before (option_map (λ t. t.now) before.entry))) }
+    ensures { IfOk result (λ s. s ≡ put_all onto
+        (offered_by_before (option_map (λ t. t.now) before.entry))) }
 {
     match before {
         Some(set) => with_offered(onto, set, Side::Before),
@@ -64,7 +66,8 @@ fn with_before(onto: PropSet, before: Option<&PropSet>) -> Mem<PropSet>
 /// are never offered. Where both offer a property, the value of the one before is taken. The names of the set that is
 /// answered rise, and nil is never a value.
 pub fn inherited(alloc: Global, before: Option<&PropSet>, after: Option<&PropSet>) -> Mem<PropSet>
-    ensures exact { IfOk result (λ set. set ≡ inherited (option_map (λ s. s.now) before.entry) (option_map (λ s. s.now) after.entry)) }
+    ensures exact { IfOk result (λ set. set ≡ inherited (option_map (λ s. s.now) before.entry)
+        (option_map (λ s. s.now) after.entry)) }
     ensures proper { IfOk result IsProper }
 {
     let set = with_before(offered_by_after(alloc, after)?, before)?;

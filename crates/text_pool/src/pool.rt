@@ -1,5 +1,7 @@
 //! The pool, and the blocks that it lends out.
-ghost use Rattle.std.specs.Prelude.{◌≡◌, ◌↔◌, ℕ, ◌+◌, ◌<◌, ◌≤◌, [], ◌++◌, take, drop, max, Some, None, OnOk, OnErr, IsNone, IfNone, IfSome, OnSome, slice_index, slice_set};
+ghost use Rattle.std.specs.Prelude.{◌≡◌, ◌↔◌, ℕ, ◌+◌, ◌<◌, ◌≤◌, [], ◌++◌, take, drop, max, Some};
+ghost use Rattle.std.specs.Prelude.{None, OnOk, OnErr, IsNone, IfNone, IfSome, OnSome, slice_index};
+ghost use Rattle.std.specs.Prelude.{slice_set};
 ghost use Rattle.slab.specs.Slab.{HasRoomFor};
 ghost use Rattle.text_pool.specs.Pool.{Pooled, cells_at, cells, IsLive, live, SameOthers};
 

@@ -59,7 +59,8 @@ impl<K: Sink> Printer<'_, K> {
 
     /// Writes what stands in front of a text, of the current buffer or another.
     fn text_word(&mut self, current: bool)
-        ensures { Prints K.state self.old self.new (if current then codes " current\ntext " else codes "\ntext ") }
+        ensures { Prints K.state self.old self.new
+            (if current then codes " current\ntext " else codes "\ntext ") }
     {
         if current {
             self.put(b" current\ntext ");
@@ -89,7 +90,9 @@ impl<K: Sink> Printer<'_, K> {
 
     /// Writes the lines of the buffer of a number, and nothing where it doesn't live.
     fn numbered_buffer(&mut self, id: u32, names: &Names)
-        ensures { Prints K.state self.old self.new (shown_live names.now.symbols.now (editor_of names.now.editor.now).current (id, live (editor_of names.now.editor.now) id)) }
+        ensures { Prints K.state self.old self.new
+            (shown_live names.now.symbols.now (editor_of names.now.editor.now).current
+            (id, live (editor_of names.now.editor.now) id)) }
     {
         if let Some(text) = names.editor.text(id) {
             self.buffer_lines(&text, id == names.editor.current(), names.symbols);
@@ -97,7 +100,9 @@ impl<K: Sink> Printer<'_, K> {
     }
 
     pub(crate) fn buffers(&mut self, names: &Names)
-        ensures { Prints K.state self.old self.new (flat_map (shown_live names.now.symbols.now (editor_of names.now.editor.now).current) (enumerate_from 0 (editor_of names.now.editor.now).buffers)) }
+        ensures { Prints K.state self.old self.new
+            (flat_map (shown_live names.now.symbols.now (editor_of names.now.editor.now).current)
+            (enumerate_from 0 (editor_of names.now.editor.now).buffers)) }
     {
         for id in 0..names.editor.count() {
             self.numbered_buffer(id, names);

@@ -1,7 +1,8 @@
 //! The lines of a run, and its dump. All calls are for every value, whatever it names: an object that isn't known is printed as the
 //! definitions say. A failure of the sink leaves a front of the bytes in it.
 ghost use Rattle.std.specs.Prelude.{ℕ, map, option_map};
-ghost use Rattle.plain_machine.specs.Lines.{Replied, Entered, Left, KilledLast, Dumped, fault_words, kind_word, handler_word, shown};
+ghost use Rattle.plain_machine.specs.Lines.{Replied, Entered, Left, KilledLast, Dumped};
+ghost use Rattle.plain_machine.specs.Lines.{fault_words, kind_word, handler_word, shown};
 ghost use Rattle.ek_types.specs.Listing.{items_of};
 ghost use Rattle.ek_types.specs.Property.{number_of};
 ghost use Rattle.ek_call.specs.Meaning.{view, reply_of};
@@ -36,7 +37,8 @@ impl<K: Sink> Printer<'_, K> {
     }
 
     fn reply(&mut self, reply: &Reply, names: &Names)
-        ensures { Prints K.state self.old self.new (reply_words names.now.symbols.now (state_of names.now) (reply_of reply.now)) }
+        ensures { Prints K.state self.old self.new
+            (reply_words names.now.symbols.now (state_of names.now) (reply_of reply.now)) }
     {
         match reply {
             Reply::Value(value) => {
@@ -62,7 +64,8 @@ impl<K: Sink> Printer<'_, K> {
     }
 
     fn handler(&mut self, handler: Option<Sym>, symbols: &Symbols)
-        ensures { Prints K.state self.old self.new (handler_word symbols.now (option_map number_of handler)) }
+        ensures { Prints K.state self.old self.new
+            (handler_word symbols.now (option_map number_of handler)) }
     {
         match handler {
             Some(name) => self.symbol(name, symbols),
@@ -72,7 +75,9 @@ impl<K: Sink> Printer<'_, K> {
 
     /// Writes some values, with a blank in front of each.
     fn arguments(&mut self, args: &Values, names: &Names)
-        ensures { Prints K.state self.old self.new (led (map (shown names.now.symbols.now (state_of names.now)) (map view (items_of args.now)))) }
+        ensures { Prints K.state self.old self.new
+            (led (map (shown names.now.symbols.now (state_of names.now))
+            (map view (items_of args.now)))) }
     {
         if args.len() > 0 {
             self.put(b" ");
@@ -88,7 +93,8 @@ pub fn reply<K: Sink>(
     names: &Names,
     sink: &mut K,
 ) -> Result<(), SinkFault>
-    ensures { Tells names.now (K.state sink.old) (K.state sink.new) result (Replied depth (reply_of reply.now)) }
+    ensures { Tells names.now (K.state sink.old) (K.state sink.new) result
+        (Replied depth (reply_of reply.now)) }
 {
     let mut out = Printer::new(sink);
     out.margin(depth);
@@ -106,7 +112,9 @@ pub fn entry<K: Sink>(
     names: &Names,
     sink: &mut K,
 ) -> Result<(), SinkFault>
-    ensures { (n : ℕ) → Tells names.now (K.state sink.old) (K.state sink.new) result (Entered depth (kind_of kind n) (option_map number_of handler) (map view (items_of args.now))) }
+    ensures { (n : ℕ) → Tells names.now (K.state sink.old) (K.state sink.new) result
+        (Entered depth (kind_of kind n) (option_map number_of handler)
+        (map view (items_of args.now))) }
 {
     let mut out = Printer::new(sink);
     out.margin(depth);
@@ -126,7 +134,8 @@ pub fn exit<K: Sink>(
     names: &Names,
     sink: &mut K,
 ) -> Result<(), SinkFault>
-    ensures { Tells names.now (K.state sink.old) (K.state sink.new) result (Left depth (option_map number_of handler)) }
+    ensures { Tells names.now (K.state sink.old) (K.state sink.new) result
+        (Left depth (option_map number_of handler)) }
 {
     let mut out = Printer::new(sink);
     out.margin(depth);

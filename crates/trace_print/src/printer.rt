@@ -21,7 +21,8 @@ pub(crate) struct Printer<'a, K> {
 
 /// Writes some bytes unless a write failed, and says whether one has failed now.
 fn write<K: Sink>(failed: bool, sink: &mut K, bytes: &[u8]) -> bool
-    ensures { Continues (outcome failed) (outcome result) (K.state sink.old) (K.state sink.new) bytes.now }
+    ensures { Continues (outcome failed) (outcome result) (K.state sink.old) (K.state sink.new)
+        bytes.now }
 {
     failed || write_all(sink, bytes).is_err()
 }

@@ -13,7 +13,8 @@ use ek_types::{PropSet, Sink, Symbols};
 impl<K: Sink> Printer<'_, K> {
     /// Writes the ends of a run and its properties, with a blank in front of each, unless it has none.
     fn run(&mut self, from: usize, to: usize, set: &PropSet, symbols: &Symbols)
-        ensures { Prints K.state self.old self.new (led (run_words symbols.now ((set.now, from, to) ∷ []))) }
+        ensures { Prints K.state self.old self.new
+            (led (run_words symbols.now ((set.now, from, to) ∷ []))) }
     {
         if set.len() > 0 {
             self.put(b" ");
@@ -27,7 +28,8 @@ impl<K: Sink> Printer<'_, K> {
 
     /// Writes all runs that have properties.
     fn runs<T: Sets>(&mut self, text: &T, symbols: &Symbols)
-        ensures { Prints K.state self.old self.new (led (run_words symbols.now (stretches same_set 0 (T.sets text.now)))) }
+        ensures { Prints K.state self.old self.new
+            (led (run_words symbols.now (stretches same_set 0 (T.sets text.now)))) }
     {
         let mut at = 0;
         while at < text.size() {
@@ -38,7 +40,8 @@ impl<K: Sink> Printer<'_, K> {
     }
 
     pub(crate) fn string<T: Characters + Sets>(&mut self, text: &T, symbols: &Symbols)
-        ensures { Prints K.state self.old self.new (string_words symbols.now (T.chars text.now) (T.sets text.now)) }
+        ensures { Prints K.state self.old self.new
+            (string_words symbols.now (T.chars text.now) (T.sets text.now)) }
     {
         if has_properties(text) {
             self.put(b"#(");

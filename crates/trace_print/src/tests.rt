@@ -3,6 +3,8 @@ ghost use Rattle.std.specs.Prelude.{◌≡◌, ◌<◌, true};
 ghost use Rattle.editor_model.specs.Editor.{is_live};
 ghost use Rattle.buffer_table.specs.Kept.{editor_of};
 
+mod dumps;
+
 use crate::printer::Printer;
 use crate::{Kind, Names, dump, entry, exit, kill, reply};
 use buffer_table::Editor;
@@ -98,6 +100,48 @@ fn each_escape(rt: HostRuntime) {
     );
 }
 
+/// A control character or raw byte as it is written: a mark and three octal digits.
+fn put_octal(bytes: &mut Vec<u8>, byte: u8) -> Mem<()> {
+    for digit in [
+        b'\\',
+        b'0' + byte / 64,
+        b'0' + byte / 8 % 8,
+        b'0' + byte % 8,
+    ] {
+        bytes.push(digit)?;
+    }
+    Ok(())
+}
+
+/// All control characters but the tab and the line feed, and all raw bytes, as characters and as they are written.
+fn octal(alloc: Global) -> Mem<(Chars, Vec<u8>)> {
+    let mut text = Chars::new(alloc);
+    let mut written = Vec::new(alloc);
+    written.push(b'"')?;
+    for code in 0u8..=255 {
+        if code >= 0x80 {
+            text.push(Ch::Raw(code))?;
+            put_octal(&mut written, code)?;
+        } else if code == 0x7F || code < 0x20 && code != 9 && code != 10 {
+            text.push(Ch::Scalar(char::from(code)))?;
+            put_octal(&mut written, code)?;
+        }
+    }
+    written.push(b'"')?;
+    Ok((text, written))
+}
+
+#[test]
+fn each_control_character_and_raw_byte(rt: HostRuntime) {
+    let (text, expected) = octal(rt.alloc()).expect(&rt, "a text");
+    let mut sink = new_sink(&rt, rt.alloc(), 1000, 1000);
+    let mut out = Printer::new(&mut sink);
+    out.quoted(&text);
+    let written = out.finish();
+    assert!(rt; written.is_ok());
+    assert_eq!(rt; sink.bytes(), expected.as_slice());
+}
+
 #[test]
 fn nothing_behind_a_failure(rt: HostRuntime) {
     let mut sink = new_sink(&rt, rt.alloc(), 4, 2);
@@ -118,7 +162,10 @@ fn lines(names: &Names, values: Values, sink: &mut MemorySink) -> Result<(), Sin
     entry(1, Kind::After, None, &none, names, sink)?;
     exit(1, None, names, sink)?;
     exit(0, Some(EVAPORATE), names, sink)?;
-    kill(0, names, sink)
+    kill(0, names, sink)?;
+    reply(17, &Reply::Value(Value::Nil), names, sink)?;
+    entry(16, Kind::Filter, None, &none, names, sink)?;
+    exit(16, None, names, sink)
 }
 
 #[test]
@@ -146,6 +193,9 @@ fn each_printed_form_and_line(rt: HostRuntime) {
   < default
 < evaporate
 kill #<process c>
+                                  = nil
+                                > filter default
+                                < default
 "
             .as_slice()
     );

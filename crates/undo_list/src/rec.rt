@@ -97,7 +97,8 @@ impl Rec {
     /// Extends an insertion that ended at `from` to `to`, and says whether it was one.
     pub(crate) fn extend(&mut self, from: usize, to: usize) -> bool
         ensures extends { result ≡ ends_at from (rec_of self.old) }
-        ensures rec { rec_of self.new ≡ (if result then lengthened to (rec_of self.old) else rec_of self.old) }
+        ensures rec { rec_of self.new ≡ (if result then lengthened to (rec_of self.old) else
+            rec_of self.old) }
     {
         match self {
             Rec::Inserted(_, end) if *end == from => {

@@ -1,7 +1,10 @@
 //! Records with their serial numbers, and the cut of the oldest.
-ghost use Rattle.std.specs.Prelude.{◌≡◌, ℕ, ◌+◌, ◌<◌, ◌≤◌, [], ◌∷◌, length, drop, OnOk, OnErr, IfOk, IsOk, IfSome, IfNone, filter, nat_lt, nat_le, if◌then◌else◌, true, slice_get, Some};
+ghost use Rattle.std.specs.Prelude.{◌≡◌, ℕ, ◌+◌, ◌<◌, ◌≤◌, [], ◌∷◌, length, drop, OnOk, OnErr};
+ghost use Rattle.std.specs.Prelude.{IfOk, IsOk, IfSome, IfNone, filter, nat_lt, nat_le};
+ghost use Rattle.std.specs.Prelude.{if◌then◌else◌, true, slice_get, Some};
 ghost use Rattle.text_model.specs.Undo as undo;
-ghost use Rattle.text_model.specs.Undo.{is_boundary, without_oldest_group, fits, cut, extends, in_front, kept_characters};
+ghost use Rattle.text_model.specs.Undo.{is_boundary, without_oldest_group, fits, cut, extends};
+ghost use Rattle.text_model.specs.Undo.{in_front, kept_characters};
 ghost use Rattle.undo_list.specs.Records.{entry_of, AreFalling};
 ghost use Rattle.undo_list.specs.Plans.{planned_from};
 
@@ -44,7 +47,10 @@ impl Model for Records {
     ghost use Rattle.text_model.specs.Undo.{kept_characters};
     ghost use Rattle.undo_list.specs.Records.{entry_of};
 
-    ghost view = { λ r. record { entries = map entry_of r.entries.items; spare = deque_capacity r.entries - deque_len r.entries } };
+    ghost view = { λ r. record {
+      entries = map entry_of r.entries.items;
+      spare = deque_capacity r.entries - deque_len r.entries;
+    } };
 
     ghost invariant = { λ r. r.kept ≡ kept_characters (map entry_of r.entries.items) };
 }
@@ -117,7 +123,9 @@ impl Records {
     /// Extends the newest record to `to`, where it is an insertion that ended at `from`.
     pub fn extend(&mut self, from: usize, to: usize) -> bool
         ensures extends { result ≡ extends (undo.Inserted from to) self.old.entries }
-        ensures entries { (serial : ℕ) → self.new.entries ≡ (if result then in_front (undo.Inserted from to) serial self.old.entries else self.old.entries) }
+        ensures entries { (serial : ℕ) → self.new.entries ≡
+            (if result then in_front (undo.Inserted from to) serial self.old.entries else
+            self.old.entries) }
         ensures spare { self.new.spare ≡ self.old.spare }
     {
         match self.entries.front_mut() {
@@ -130,7 +138,8 @@ impl Records {
     fn pop(&mut self) -> Option<bool>
         ensures none { IfNone result (self.old.entries ≡ []) }
         ensures same { IfNone result (self.new.entries ≡ self.old.entries) }
-        ensures some { IfSome result (λ last. without_oldest_group self.old.entries ≡ (if last then self.new.entries else without_oldest_group self.new.entries)) }
+        ensures some { IfSome result (λ last. without_oldest_group self.old.entries ≡
+            (if last then self.new.entries else without_oldest_group self.new.entries)) }
         ensures len { IfSome result (λ _. length self.new.entries + 1 ≡ length self.old.entries) }
         ensures spare { self.old.spare ≤ self.new.spare }
     {
@@ -153,7 +162,8 @@ impl Records {
 
     /// Takes groups away until the rest keeps within the limits.
     pub fn cut(&mut self)
-        ensures entries { (turns : ℕ) → length self.old.entries ≤ turns → self.new.entries ≡ cut turns self.old.entries }
+        ensures entries { (turns : ℕ) → length self.old.entries ≤ turns →
+            self.new.entries ≡ cut turns self.old.entries }
         ensures fits { fits self.new.entries ≡ true }
         ensures spare { self.old.spare ≤ self.new.spare }
     {
@@ -164,7 +174,8 @@ impl Records {
 
     /// How many records there are in front of those whose serial number is below `below`.
     pub fn newer(&self, below: u64) -> usize
-        ensures exact { (bound : ℕ) → AreFalling bound self.now.entries → drop result self.now.entries ≡ filter (λ e. nat_lt e.serial below) self.now.entries }
+        ensures exact { (bound : ℕ) → AreFalling bound self.now.entries →
+            drop result self.now.entries ≡ filter (λ e. nat_lt e.serial below) self.now.entries }
         ensures within { result ≤ length self.now.entries }
     {
         self.entries.partition_point(

@@ -1,6 +1,9 @@
 //! The undo state of a buffer.
-ghost use Rattle.std.specs.Prelude.{◌≡◌, ℕ, ◌+◌, ◌<◌, ◌≤◌, true, false, if◌then◌else◌, [], length, take, drop, Ok, Err, OnOk, OnErr, IfOk, IsOk, IsErr, slice_get, Some, None};
-ghost use Rattle.text_model.specs.Undo.{extends, pushed, with_boundary, started, without_pending, disabled, enabled, pass, passed, trial};
+ghost use Rattle.std.specs.Prelude.{◌≡◌, ℕ, ◌+◌, ◌<◌, ◌≤◌, true, false, if◌then◌else◌, [], length};
+ghost use Rattle.std.specs.Prelude.{take, drop, Ok, Err, OnOk, OnErr, IfOk, IsOk, IsErr, slice_get};
+ghost use Rattle.std.specs.Prelude.{Some, None};
+ghost use Rattle.text_model.specs.Undo.{extends, pushed, with_boundary, started, without_pending};
+ghost use Rattle.text_model.specs.Undo.{disabled, enabled, pass, passed, trial};
 ghost use Rattle.text_model.specs.Commit.{fresh_group};
 ghost use Rattle.undo_list.specs.Records.{rec_of};
 ghost use Rattle.undo_list.specs.Plans.{planned};
@@ -37,9 +40,19 @@ impl Model for Undo {
     ghost use Rattle.text_model.specs.Undo.{fits};
     ghost use Rattle.undo_list.specs.Records.{AreFalling};
 
-    ghost view = { λ u. record { state = record { on = u.on; entries = u.records.entries; next = u.next; pending_below = u.pending_below }; spare = min u.records.spare (serials_left u.next) } };
+    ghost view = { λ u. record {
+      state = record {
+        on = u.on;
+        entries = u.records.entries;
+        next = u.next;
+        pending_below = u.pending_below;
+      };
+      spare = min u.records.spare
+          (serials_left u.next);
+    } };
 
-    ghost invariant = { λ u. AreFalling u.next u.records.entries × (fits u.records.entries ≡ true) × (u.on ≡ false → u.records.entries ≡ []) };
+    ghost invariant = { λ u. AreFalling u.next u.records.entries × (fits u.records.entries ≡ true) ×
+        (u.on ≡ false → u.records.entries ≡ []) };
 }
 
 impl Undo {
@@ -66,7 +79,10 @@ impl Undo {
     /// The record at a place, the newest at 0, with its serial number.
     pub fn at(&self, i: usize) -> (&Rec, u64)
         requires { i < length self.now.state.entries }
-        ensures { slice_get self.now.state.entries i ≡ Some (record { what = rec_of result.0.now; serial = result.1 }) }
+        ensures { slice_get self.now.state.entries i ≡ Some (record {
+          what = rec_of result.0.now;
+          serial = result.1;
+        }) }
     {
         let entry = self.records.at(i);
         (&entry.what, entry.serial)
@@ -97,7 +113,8 @@ impl Undo {
         ensures err { OnErr result (self.new.state ≡ self.old.state) }
         ensures had { 0 < self.old.spare → IsOk result }
         ensures spare { self.old.spare ≤ self.new.spare + 1 }
-        ensures spent { serials_left self.old.state.next ≡ 0 → self.old.state.on ≡ true → extends (rec_of rec) self.old.state.entries ≡ false → IsErr result }
+        ensures spent { serials_left self.old.state.next ≡ 0 → self.old.state.on ≡ true →
+            extends (rec_of rec) self.old.state.entries ≡ false → IsErr result }
     {
         if !self.on {
             return Ok(());
@@ -112,7 +129,8 @@ impl Undo {
     fn extends_newest(&mut self, rec: &Rec) -> bool
         requires { self.old.state.on ≡ true }
         ensures extends { result ≡ extends (rec_of rec.now) self.old.state.entries }
-        ensures state { self.new.state ≡ (if result then pushed (rec_of rec.now) self.old.state else self.old.state) }
+        ensures state { self.new.state ≡ (if result then pushed (rec_of rec.now) self.old.state else
+            self.old.state) }
         ensures spare { self.new.spare ≡ self.old.spare }
     {
         match rec {
@@ -148,7 +166,8 @@ impl Undo {
         ensures err { OnErr result (self.new.state ≡ self.old.state) }
         ensures had { 0 < self.old.spare → IsOk result }
         ensures spare { self.old.spare ≤ self.new.spare + 1 }
-        ensures spent { serials_left self.old.state.next ≡ 0 → fresh_group self.old.state.entries ≡ false → IsErr result }
+        ensures spent { serials_left self.old.state.next ≡ 0 →
+            fresh_group self.old.state.entries ≡ false → IsErr result }
     {
         if self.records.len() == 0 || self.records.at(0).what.is_boundary() {
             return Ok(());
@@ -159,7 +178,8 @@ impl Undo {
     /// Makes all records pending. It is refused where recording is off, as `Disabled`, and changes nothing then.
     pub fn start(&mut self) -> Result<(), Refused>
         ensures result { result ≡ (if self.old.state.on then Ok tt else Err Refused.Disabled) }
-        ensures state { self.new.state ≡ (if self.old.state.on then started self.old.state else self.old.state) }
+        ensures state { self.new.state ≡ (if self.old.state.on then started self.old.state else
+            self.old.state) }
         ensures spare { self.new.spare ≡ self.old.spare }
     {
         if !self.on {
@@ -197,8 +217,12 @@ impl Undo {
 
     /// The places of the records of a plan of this list, its boundaries among them: from the first to before the second.
     pub fn passed(&self, plan: &Plan) -> (usize, usize)
-        ensures records { (groups min max : ℕ) → 1 ≤ groups → planned groups min max self.now.state ≡ Ok plan.now → drop result.0 (take result.1 self.now.state.entries) ≡ passed groups self.now.state }
-        ensures inside { (groups min max : ℕ) → 1 ≤ groups → planned groups min max self.now.state ≡ Ok plan.now → trial min max (passed groups self.now.state) ≡ None }
+        ensures records { (groups min max : ℕ) → 1 ≤ groups →
+            planned groups min max self.now.state ≡ Ok plan.now →
+            drop result.0 (take result.1 self.now.state.entries) ≡ passed groups self.now.state }
+        ensures inside { (groups min max : ℕ) → 1 ≤ groups →
+            planned groups min max self.now.state ≡ Ok plan.now →
+            trial min max (passed groups self.now.state) ≡ None }
         ensures order { result.0 ≤ result.1 }
         ensures within { result.1 ≤ length self.now.state.entries }
     {
@@ -210,7 +234,9 @@ impl Undo {
     /// Makes the records of a plan of this list, its boundaries among them, pending no longer. Nothing else changes.
     pub fn pass(&mut self, plan: &Plan)
         ensures state { self.new.state ≡ record self.old.state { pending_below = plan.now.last } }
-        ensures groups { (groups min max : ℕ) → 1 ≤ groups → planned groups min max self.old.state ≡ Ok plan.now → self.new.state ≡ pass (passed groups self.old.state) self.old.state }
+        ensures groups { (groups min max : ℕ) → 1 ≤ groups →
+            planned groups min max self.old.state ≡ Ok plan.now →
+            self.new.state ≡ pass (passed groups self.old.state) self.old.state }
         ensures spare { self.new.spare ≡ self.old.spare }
     {
         self.pending_below = plan.last;

@@ -28,5 +28,6 @@ pub fn all_in_pieces()
 pub fn any_cutting()
     ensures given { (pieces : List (List ℕ)) → given_for [] pieces ≡ characters (concat pieces) }
     ensures held { (pieces : List (List ℕ)) → held_after [] pieces ≡ tail (concat pieces) }
-    ensures finished { (pieces : List (List ℕ)) → given_for [] pieces ++ all_characters (held_after [] pieces) ≡ all_characters (concat pieces) }
+    ensures finished { (pieces : List (List ℕ)) → given_for [] pieces ++
+        all_characters (held_after [] pieces) ≡ all_characters (concat pieces) }
 {}

@@ -61,7 +61,8 @@ impl Aim {
 
     /// The first of all processes that may be asked.
     fn first_of_all(self, table: &Processes) -> Option<u32>
-        ensures { result ≡ find (is_eligible (with_table table.now) (waiting_for self)) (range_with_len 0 (length table.now)) }
+        ensures { result ≡ find (is_eligible (with_table table.now) (waiting_for self))
+            (range_with_len 0 (length table.now)) }
     {
         (0..table.count()).find(|p| self.may_ask(table, *p))
     }

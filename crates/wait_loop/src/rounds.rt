@@ -33,18 +33,30 @@ impl Model for Wait {
 
     ghost Value = { KeptWait };
 
-    ghost view = { λ w. record { waiting = record { target = w.aim.target; just = w.aim.just; rounds = w.rounds; asking = drop w.at w.asking.items; counted = w.heard }; room = vec_capacity w.asking } };
+    ghost view = { λ w. record {
+      waiting = record {
+        target = w.aim.target;
+        just = w.aim.just;
+        rounds = w.rounds;
+        asking = drop w.at w.asking.items;
+        counted = w.heard;
+      };
+      room =
+          vec_capacity w.asking;
+    } };
 
     ghost invariant = { λ w. w.at ≤ length w.asking.items };
 }
 
 impl Wait {
-    ghost use Rattle.std.specs.Prelude.{◌≡◌, ◌↔◌, ◌⊎◌, ◌<◌, ◌≤◌, [], true, false, length, IfOk, IfNone, MatchOption};
+    ghost use Rattle.std.specs.Prelude.{◌≡◌, ◌↔◌, ◌⊎◌, ◌<◌, ◌≤◌, [], true, false, length, IfOk};
+    ghost use Rattle.std.specs.Prelude.{IfNone, MatchOption};
     ghost use Rattle.plain_machine.specs.State.{State};
     ghost use Rattle.plain_machine.specs.Waits.{is_eligible, eligible, from_eligible};
     ghost use Rattle.process_table.specs.Table.{StandsFor, with_table};
     ghost use Rattle.wait_loop.specs.KeptWaits.{new_waiting, noted};
-    ghost use Rattle.wait_loop.specs.Rounds.{IfAsk, IfDone, GivesNil, Takes, BeginsRound, AsksNext, Leads};
+    ghost use Rattle.wait_loop.specs.Rounds.{IfAsk, IfDone, GivesNil, Takes, BeginsRound, AsksNext};
+    ghost use Rattle.wait_loop.specs.Rounds.{Leads};
 
     /// A wait for the process `target`, or for any, of at most so many rounds. It asks its target alone where it is for
     /// `just` this one. It has places for `room` processes.
@@ -85,11 +97,14 @@ impl Wait {
         ensures heard { (result ≡ Step.Done true) ↔ (self.old.waiting.counted ≡ true) }
         ensures nil { (result ≡ Step.Done false) ↔ GivesNil (with_table table.now) self.old.waiting }
         ensures done { IfDone result (self.new ≡ self.old) }
-        ensures asks { IfAsk result (λ p. AsksNext (with_table table.now) self.old.waiting p self.new.waiting) }
-        ensures eligible { IfAsk result (λ p. is_eligible (with_table table.now) self.old.waiting p ≡ true) }
+        ensures asks { IfAsk result (λ p. AsksNext (with_table table.now) self.old.waiting p
+            self.new.waiting) }
+        ensures eligible { IfAsk result (λ p. is_eligible (with_table table.now) self.old.waiting
+            p ≡ true) }
         ensures made { IfAsk result (λ p. p < length table.now) }
         ensures room { self.new.room ≡ self.old.room }
-        ensures machine { (s : State) → StandsFor table.now s.processes → Leads s self.old.waiting result self.new.waiting }
+        ensures machine { (s : State) → StandsFor table.now s.processes →
+            Leads s self.old.waiting result self.new.waiting }
     {
         if self.heard {
             return Step::Done(true);
@@ -108,7 +123,9 @@ impl Wait {
 
     /// Takes the first eligible process of those left in this round; where there is none, nothing changes.
     fn take(&mut self, table: &Processes) -> Option<u32>
-        ensures taken { MatchOption result (from_eligible (with_table table.now) self.old.waiting self.old.waiting.asking ≡ []) (λ p. Takes (with_table table.now) self.old.waiting p self.new.waiting) }
+        ensures taken { MatchOption result (from_eligible (with_table table.now) self.old.waiting
+            self.old.waiting.asking ≡ []) (λ p. Takes (with_table table.now) self.old.waiting p
+            self.new.waiting) }
         ensures none { IfNone result (self.new ≡ self.old) }
         ensures room { self.new.room ≡ self.old.room }
     {
@@ -121,8 +138,11 @@ impl Wait {
     /// Begins a round and takes the first process of it; where there is none or no round is left, nothing changes.
     fn begin(&mut self, table: &Processes) -> Option<u32>
         requires room { length table.now ≤ self.old.room }
-        requires over { from_eligible (with_table table.now) self.old.waiting self.old.waiting.asking ≡ [] }
-        ensures begun { MatchOption result ((eligible (with_table table.now) self.old.waiting ≡ []) ⊎ (self.old.waiting.rounds ≡ 0)) (λ p. BeginsRound (with_table table.now) self.old.waiting p self.new.waiting) }
+        requires over { from_eligible (with_table table.now) self.old.waiting
+            self.old.waiting.asking ≡ [] }
+        ensures begun { MatchOption result ((eligible (with_table table.now) self.old.waiting ≡
+            []) ⊎ (self.old.waiting.rounds ≡ 0))
+            (λ p. BeginsRound (with_table table.now) self.old.waiting p self.new.waiting) }
         ensures none { IfNone result (self.new ≡ self.old) }
         ensures room { self.new.room ≡ self.old.room }
     {

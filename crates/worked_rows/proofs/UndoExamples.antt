@@ -86,3 +86,24 @@ point_before_calls =
 
 pub point_before : answers [] point_before_calls ≡ no ∷ no ∷ is (num 2) ∷ no ∷ is (num 5) ∷ no ∷ no ∷ is (num 2) ∷ no ∷ no ∷ Refused UndoOutside ∷ []
 point_before = refl
+
+-- insertions one behind the other are one record
+abbrev merged_calls : Calls
+merged_calls =
+    (Prim.Insert, text (codes "ab") ∷ []) ∷
+    (Prim.Insert, text (codes "cd") ∷ []) ∷
+    (Prim.BufferUndoList, []) ∷ []
+
+pub merged_insertions : answers [] merged_calls ≡ no ∷ no ∷ is (list (Dotted (values (num 1 ∷ [])) (num 5) ∷ Dotted (values (T ∷ [])) (num 0) ∷ [])) ∷ []
+merged_insertions = refl
+
+-- a boundary isn't pushed on another
+abbrev boundaries_calls : Calls
+boundaries_calls =
+    (Prim.Insert, text (codes "a") ∷ []) ∷
+    (Prim.UndoBoundary, []) ∷
+    (Prim.UndoBoundary, []) ∷
+    (Prim.BufferUndoList, []) ∷ []
+
+pub one_boundary : answers [] boundaries_calls ≡ no ∷ no ∷ no ∷ is (list (Nil ∷ Dotted (values (num 1 ∷ [])) (num 2) ∷ Dotted (values (T ∷ [])) (num 0) ∷ [])) ∷ []
+one_boundary = refl

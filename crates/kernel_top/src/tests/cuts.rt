@@ -1,15 +1,17 @@
-//! A child's bytes in pieces: whatever the pieces are, the entries of the filter spell the same text, and the buffer
-//! gets the same.
+//! A child's bytes in pieces: whatever the pieces are, the entries of the filter spell the same
+//! text, and the buffer gets the same.
 
-use super::playing::{check_run, one_child};
+use super::playing::{check_run, one_child, play};
+use host_link::Ended;
 use std::alloc::Global;
 use std::test::Fail;
 
-/// Characters of one to four bytes, and malformed bytes: one that stands in no character, and fronts of a character
-/// before a letter, before a byte that can only follow, and at the end.
+/// Characters of one to four bytes, and malformed bytes: one that stands in no character, and
+/// fronts of a character before a letter, before a byte that can only follow, and at the end.
 const OUTPUT: &[u8] = b"a\xC3\xA9\xE2\x82\xAC\xF0\x9D\x84\x9E\xFF\xC3A\xE2\x82A\x80\xF0\x9D\x84";
 
-/// How many bytes are in the first piece, the text of its entry, and that of the entry of the second piece.
+/// How many bytes are in the first piece, the text of its entry, and that of the entry of the
+/// second piece.
 const CUTS: [(usize, &str, &str); 19] = [
     (1, "a", r"é€𝄞\377\303A\342\202A\200"),
     (2, "a", r"é€𝄞\377\303A\342\202A\200"),
@@ -179,4 +181,73 @@ process 0 #<process c> exit 0
         want.as_str(),
         exchanges.as_slice(),
     )
+}
+
+/// The pieces of what a sorting child writes, with their texts as they are shown.
+type Pieces = &'static [(&'static [u8], &'static str)];
+
+/// Each cutting of the four bytes.
+const CUTTINGS: [Pieces; 8] = [
+    &[(b"a\nb\n", r"a\nb\n")],
+    &[(b"a", "a"), (b"\nb\n", r"\nb\n")],
+    &[(b"a\n", r"a\n"), (b"b\n", r"b\n")],
+    &[(b"a\nb", r"a\nb"), (b"\n", r"\n")],
+    &[(b"a", "a"), (b"\n", r"\n"), (b"b\n", r"b\n")],
+    &[(b"a", "a"), (b"\nb", r"\nb"), (b"\n", r"\n")],
+    &[(b"a\n", r"a\n"), (b"b", "b"), (b"\n", r"\n")],
+    &[(b"a", "a"), (b"\n", r"\n"), (b"b", "b"), (b"\n", r"\n")],
+];
+
+/// The lines behind the last piece.
+const SORTED: &str = r#"> sentinel s #<process sorted> "exited abnormally with code 3\n"
+< s
+= nil
+= 3
+buffer *scratch* point 1 min 1 max 1 modified nil current
+text ""
+buffer out point 5 min 1 max 5 modified t
+text "a\nb\n"
+marker 0 #<marker at 5 in out>
+process 0 #<process sorted> exit 3
+"#;
+
+/// Whatever the pieces are that the system makes of a child's output, the text is the same, and the
+/// end comes last.
+#[test]
+fn the_output_of_a_sort_in_each_cutting(rt: HostRuntime) -> Result<(), Fail> {
+    for pieces in CUTTINGS {
+        let mut script = String::from_str(
+            rt.alloc(),
+            "(defhandler s (p m))\n(setq p (start-process \"sorted\" \"out\" \"sort\"))(set-process-sentinel p 's)",
+        )?;
+        let mut lines = String::from_str(rt.alloc(), "= #<process sorted>\n= s\n")?;
+        let mut exchanges = b"spawn sort: started 0\n".to_vec(rt.alloc())?;
+        let mut reads = Vec::new(rt.alloc());
+        for (bytes, text) in pieces {
+            script.push_str("(accept-process-output p)")?;
+            write!(
+                lines,
+                "> filter default #<process sorted> \"{text}\"\n< default\n= t\n"
+            )?;
+            exchanges.extend_from_slice(b"read 0: bytes ")?;
+            exchanges.extend_from_slice(bytes)?;
+            exchanges.extend_from_slice(b"\n")?;
+            reads.push(*bytes)?;
+        }
+        script.push_str("(accept-process-output p)(process-exit-status p)")?;
+        lines.push_str(SORTED)?;
+        exchanges.extend_from_slice(b"read 0: end\nend 0: code 3\n")?;
+        let mut plays = Vec::new(rt.alloc());
+        plays.push(play(rt.alloc(), reads.as_slice(), &[Ended::Code(3)])?)?;
+        check_run(
+            &rt,
+            rt.alloc(),
+            "a sort",
+            script.as_str(),
+            plays,
+            lines.as_str(),
+            exchanges.as_slice(),
+        )?;
+    }
+    Ok(())
 }

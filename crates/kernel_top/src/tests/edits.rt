@@ -4,7 +4,7 @@ use super::playing::{Row, check_rows};
 use std::test::Fail;
 
 /// Scripts without a child.
-const ROWS: [Row; 12] = [
+pub const ROWS: [Row; 12] = [
     Row {
         shows: "the empty script writes the dump",
         script: "",

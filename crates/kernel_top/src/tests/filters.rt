@@ -4,7 +4,8 @@ use super::playing::{Child, Row, check_rows, check_run, one_child};
 use std::alloc::Global;
 use std::test::Fail;
 
-const ROWS: [Row; 7] = [
+/// Runs, each with its lines and its exchanges.
+pub const ROWS: [Row; 7] = [
     Row {
         shows: "a character that is cut across reads",
         script: r#"(defhandler f (p s))(defhandler g (p s))

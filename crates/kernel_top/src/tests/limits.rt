@@ -67,3 +67,65 @@ process 0 #<process c> run 0
         exchanges.as_bytes(),
     )
 }
+
+/// The characters of the largest text.
+const LARGEST_TEXT: usize = 4_194_304;
+
+/// A text that fits when it is prepared doesn't where the output that its hook waits for has filled
+/// the buffer meanwhile. What comes then is refused too: by preparing, and by the default handlers.
+#[test]
+fn output_fills_a_buffer_inside_a_hook(rt: HostRuntime) -> Result<(), Fail> {
+    let letters = "x".repeat(rt.alloc(), LARGEST_TEXT / 64)?;
+    let doubled = "(insert-buffer-substring \"out\")".repeat(rt.alloc(), 4)?;
+    let script = format!(in rt.alloc();
+        "(defhandler h (b e) (accept-process-output p))
+(setq p (start-process \"c\" \"out\" \"cat\"))(set-buffer \"out\")(insert \"{letters}\"){doubled}
+(insert-buffer-substring \"out\" 1 1048577)(insert-buffer-substring \"out\" 1 1048577)
+(insert-buffer-substring \"out\" 1 1048576)(buffer-size)(add-hook 'before-change-functions 'h)
+(insert \"z\")(insert \"z\")(accept-process-output p)(goto-char 1)(char-after)(buffer-size)(kill-buffer)"
+    )?;
+    let lines = repeated(
+        rt.alloc(),
+        "= #<process c>\n= #<buffer out>\n",
+        "= nil\n",
+        8,
+        "= 4194303
+= (h)
+> before h 4194304 4194304
+  > filter default #<process c> \"y\"
+  < default
+  = t
+< h
+! 15 buffer-full
+! 15 buffer-full
+> filter default #<process c> \"w\"
+  ! 15 buffer-full
+< default
+= t
+= 1
+= 121
+= 4194304
+> sentinel default #<process c> \"killed\\n\"
+  ! 15 buffer-full
+< default
+= t
+buffer *scratch* point 1 min 1 max 1 modified nil current
+text \"\"
+marker 0 #<marker in no buffer>
+process 0 #<process c> signal nil
+",
+    )?;
+    check_run(
+        &rt,
+        rt.alloc(),
+        "output fills a buffer inside a hook",
+        script.as_str(),
+        one_child(rt.alloc(), &[b"y", b"w"])?,
+        lines.as_str(),
+        b"spawn cat: started 0
+read 0: bytes y
+read 0: bytes w
+kill 0: killed
+",
+    )
+}

@@ -1,10 +1,11 @@
 //! A run over a source, a sink and a host in memory.
+ghost use Rattle.std.specs.Prelude.{◌≡◌, []};
 
 use super::shown::shown;
 use crate::{Status, run};
-use ek_types::{ListOf, MemorySink, MemorySource};
-use handler_code::NoNatives;
-use host_link::{Answer, Answers, Ended, Host, MemoryHost, Play};
+use ek_types::{Copied, ListOf, MemorySink, MemorySource};
+use handler_code::{Natives, NoNatives};
+use host_link::{Answer, Answers, Ended, Exchanges, Host, MemoryHost, Play};
 use std::alloc::Global;
 use std::process::Abort;
 use std::test::Fail;
@@ -46,12 +47,13 @@ pub struct Child {
     pub ends: &'static [Ended],
 }
 
-/// What a run came to: its status, what was written, and a line for each exchange.
+/// What a run came to: its status, what was written, a line for each exchange, and the exchanges themselves.
 #[derive(Drop)]
 pub struct Ran {
     pub status: Status,
     pub written: Vec<u8>,
     pub exchanges: Vec<u8>,
+    pub told: Exchanges,
 }
 
 /// A run that is done: what it shows, its script, its children, its lines and its exchanges.
@@ -128,6 +130,54 @@ pub fn one_child(alloc: Global, reads: &[&[u8]]) -> Result<Vec<Play>, Fail> {
     Ok(plays)
 }
 
+/// Runs these words of the command line over a host that has started no child, with these natives.
+pub fn run_over<N: Natives>(
+    alloc: Global,
+    words: &[&str],
+    script: &str,
+    mut host: MemoryHost,
+    setting: Setting,
+    natives: &N,
+) -> Result<Ran, Fail>
+    requires { host.kills ≡ [] }
+{
+    let Setting { from, to, room, .. } = setting;
+    let words = given(alloc, words)?;
+    let bytes = script.as_bytes().to_vec(alloc)?;
+    let mut source = MemorySource::new(bytes, from.piece.max(1), failing(alloc, from.fails)?);
+    let mut sink = MemorySink::new(alloc, room, to.piece.max(1), failing(alloc, to.fails)?)?;
+    let status = run(
+        alloc,
+        words.as_slice(),
+        &mut source,
+        &mut sink,
+        &mut host,
+        natives,
+    );
+    let Some(told) = host.told() else {
+        return Err(Fail::from("the host tells nothing"));
+    };
+    Ok(Ran {
+        status,
+        written: sink.bytes().to_vec(alloc)?,
+        exchanges: shown(alloc, told)?,
+        told: told.copy()?,
+    })
+}
+
+/// Runs a script by these words of the command line, with these natives.
+pub fn run_natives<N: Natives>(
+    alloc: Global,
+    words: &[&str],
+    script: &str,
+    plays: Vec<Play>,
+    setting: Setting,
+    natives: &N,
+) -> Result<Ran, Fail> {
+    let host = MemoryHost::new(plays, failing(alloc, setting.host_fails)?);
+    run_over(alloc, words, script, host, setting, natives)
+}
+
 /// Runs a script by these words of the command line.
 pub fn run_words(
     alloc: Global,
@@ -136,33 +186,7 @@ pub fn run_words(
     plays: Vec<Play>,
     setting: Setting,
 ) -> Result<Ran, Fail> {
-    let Setting {
-        from,
-        to,
-        room,
-        host_fails,
-    } = setting;
-    let words = given(alloc, words)?;
-    let bytes = script.as_bytes().to_vec(alloc)?;
-    let mut source = MemorySource::new(bytes, from.piece.max(1), failing(alloc, from.fails)?);
-    let mut sink = MemorySink::new(alloc, room, to.piece.max(1), failing(alloc, to.fails)?)?;
-    let mut host = MemoryHost::new(plays, failing(alloc, host_fails)?);
-    let status = run(
-        alloc,
-        words.as_slice(),
-        &mut source,
-        &mut sink,
-        &mut host,
-        &NoNatives,
-    );
-    let Some(exchanges) = host.told() else {
-        return Err(Fail::from("the host tells nothing"));
-    };
-    Ok(Ran {
-        status,
-        written: sink.bytes().to_vec(alloc)?,
-        exchanges: shown(alloc, exchanges)?,
-    })
+    run_natives(alloc, words, script, plays, setting, &NoNatives)
 }
 
 /// Runs a script.
@@ -173,6 +197,22 @@ pub fn run_script(
     setting: Setting,
 ) -> Result<Ran, Fail> {
     run_words(alloc, &["run"], script, plays, setting)
+}
+
+/// Compares a run that is done with its lines and its exchanges.
+pub fn check_ran(
+    rt: &impl Abort,
+    alloc: Global,
+    shows: &str,
+    ran: &Ran,
+    lines: &str,
+    exchanges: &[u8],
+) -> Result<(), Fail> {
+    assert_eq!(rt; ran.status, Status::Done, "{shows}");
+    let written = String::from_utf8_lossy(alloc, ran.written.as_slice())?;
+    assert_eq!(rt; written.as_str(), lines, "{shows}");
+    assert_eq!(rt; ran.exchanges.as_slice(), exchanges, "{shows}");
+    Ok(())
 }
 
 /// Compares the run of a script with its lines and its exchanges.
@@ -186,11 +226,7 @@ pub fn check_run(
     exchanges: &[u8],
 ) -> Result<(), Fail> {
     let ran = run_script(alloc, script, plays, PLAIN)?;
-    assert_eq!(rt; ran.status, Status::Done, "{shows}");
-    let written = String::from_utf8_lossy(alloc, ran.written.as_slice())?;
-    assert_eq!(rt; written.as_str(), lines, "{shows}");
-    assert_eq!(rt; ran.exchanges.as_slice(), exchanges, "{shows}");
-    Ok(())
+    check_ran(rt, alloc, shows, &ran, lines, exchanges)
 }
 
 /// Compares each run with its row.

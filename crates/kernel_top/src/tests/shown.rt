@@ -67,6 +67,13 @@ fn push_exchange(alloc: Global, text: &mut Vec<u8>, x: &Exchange) -> Result<(), 
     push(text, b"\n")
 }
 
+/// The line of an exchange.
+pub fn shown_one(alloc: Global, x: &Exchange) -> Result<Vec<u8>, Fail> {
+    let mut text = Vec::new(alloc);
+    push_exchange(alloc, &mut text, x)?;
+    Ok(text)
+}
+
 /// A line for each exchange.
 pub fn shown(alloc: Global, exchanges: &Exchanges) -> Result<Vec<u8>, Fail> {
     let mut text = Vec::new(alloc);

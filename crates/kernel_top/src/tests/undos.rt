@@ -3,7 +3,8 @@
 use super::playing::{Row, check_rows};
 use std::test::Fail;
 
-const ROWS: [Row; 3] = [
+/// Runs, each with its lines and its exchanges.
+pub const ROWS: [Row; 3] = [
     Row {
         shows: "the undo list as it is printed",
         script: r#"(insert "abcd")(setq m (copy-marker 3))(undo-boundary)(delete-region 2 4)(buffer-undo-list)"#,

@@ -16,7 +16,8 @@ const SILENT: [Child; 2] = [
     },
 ];
 
-const ROWS: [Row; 4] = [
+/// Runs, each with its lines and its exchanges.
+pub const ROWS: [Row; 4] = [
     Row {
         shows: "a wait for just one process asks no other",
         script: r#"(setq p (start-process "p" nil "a"))(setq q (start-process "q" nil "b"))

@@ -4,10 +4,22 @@ use super::playing::{PLAIN, run_script, run_words};
 use crate::Status;
 use std::test::Fail;
 
-const WRONG: [&[&str]; 4] = [&["walk"], &["run", "x"], &[], &["Run"]];
+const WRONG: [&[&str]; 11] = [
+    &["walk"],
+    &["run", "x"],
+    &[],
+    &["Run"],
+    &["drill"],
+    &["drill", "-1"],
+    &["drill", ""],
+    &["drill", "1a"],
+    &["drill", "12345"],
+    &["drill", "1", "2"],
+    &["run", "1"],
+];
 
 #[test]
-fn only_the_word_run_runs(rt: HostRuntime) -> Result<(), Fail> {
+fn other_words_are_wrong(rt: HostRuntime) -> Result<(), Fail> {
     for words in WRONG {
         let plays = Vec::new(rt.alloc());
         let ran = run_words(rt.alloc(), words, "(insert \"a\")", plays, PLAIN)?;

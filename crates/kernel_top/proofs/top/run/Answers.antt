@@ -1,18 +1,46 @@
-use Rattle.std.proofs.Common.{sym, subst, map, string_bytes}
+use Rattle.std.proofs.Common.{sym, refl, ◌∙◌, map, string_bytes, arith}
 use Rattle.kernel_run.specs.Whole.{program_with}
-use Rattle.kernel_top.specs.Reading.{IsAll}
-use Rattle.kernel_top.proofs.Outcomes.{came_from, completes}
+use Rattle.kernel_top.proofs.Outcomes.{quiet, came_drilled, came_unknown, drill_reads_nothing, unknown, completes}
 use Rattle.kernel_top.proofs.top.run.Goals as goal
 
-pub returns-in-Ok-clause-outcome : goal.returns-in-Ok-clause-outcome
-returns-in-Ok-clause-outcome g c =
-    let all : IsAll c.as_slice.result.now (g.S.Source.state c.args.source.now) (g.S.Source.state c.read_all.new.source) =
-    subst (λ l. IsAll l (g.S.Source.state c.args.source.now) (g.S.Source.state c.read_all.new.source)) (sym c.as_slice.ensures.value) c.in-Ok.ensures.all in
-    came_from g.H.Host.state g.H.Host.made (λ script. program_with g.N.Natives.names g.N.Natives.does script c.args.natives.now) (map string_bytes c.args.words.now) c.as_slice.result.now c.run_bytes.result c.args.host.now c.run_bytes.new.host
-    (g.S.Source.state c.args.source.now) (g.S.Source.state c.read_all.new.source) (g.K.Sink.state c.args.sink.now) (g.K.Sink.state c.run_bytes.new.sink) (c.is_run.ensures.0 c.if-not-is_run.false) all c.run_bytes.ensures.outcome
+pub returns-then-is_run-clause-outcome : goal.returns-then-is_run-clause-outcome
+returns-then-is_run-clause-outcome g c = c.run_source.ensures.outcome (map string_bytes c.args.words.now) (sym c.is_run.ensures ∙ c.if-is_run.true)
 
-pub returns-in-Ok-clause-complete : goal.returns-in-Ok-clause-complete
-returns-in-Ok-clause-complete g c =
-    let so = returns-in-Ok-clause-outcome g c in
-    completes _ (map string_bytes c.args.words.now) so.read so.written so.exchanges (g.S.Source.state c.args.source.now) (g.S.Source.state c.read_all.new.source) (g.K.Sink.state c.args.sink.now) (g.K.Sink.state c.run_bytes.new.sink) _ _ so.taken c.run_bytes.result so.outcome
-    (λ e. absurd (c.run_bytes.ensures.no_read e)) c.run_bytes.ensures.write_fault.rose
+pub returns-then-is_run-clause-untouched : goal.returns-then-is_run-clause-untouched
+returns-then-is_run-clause-untouched g c = λ e. absurd (c.run_source.ensures.known e)
+
+pub returns-then-is_run-clause-complete : goal.returns-then-is_run-clause-complete
+returns-then-is_run-clause-complete g c =
+    let so = returns-then-is_run-clause-outcome g c in
+    completes _ (map string_bytes c.args.words.now) so.read so.written so.exchanges (g.S.Source.state c.args.source.now) (g.S.Source.state c.run_source.new.source) (g.K.Sink.state c.args.sink.now) (g.K.Sink.state c.run_source.new.sink) _ _ so.taken c.run_source.result so.outcome
+    c.run_source.ensures.read_fault.rose c.run_source.ensures.write_fault.rose
+
+pub returns-in-Some-clause-outcome : goal.returns-in-Some-clause-outcome
+returns-in-Some-clause-outcome g c =
+    came_drilled g.H.Host.state g.H.Host.made (λ script. program_with g.N.Natives.names g.N.Natives.does script c.args.natives.now) (map string_bytes c.args.words.now) c.run_drill.result c.args.host.now c.run_drill.new.host
+    (g.S.Source.state c.args.source.now) (g.S.Source.state c.args.source.now) (g.K.Sink.state c.args.sink.now) (g.K.Sink.state c.run_drill.new.sink) c.in-Some.count (sym c.in-Some.ensures) c.run_drill.ensures.outcome
+
+pub returns-in-Some-clause-read_fault : goal.returns-in-Some-clause-read_fault
+returns-in-Some-clause-read_fault g c = record {
+  later = omega arith;
+  rose = λ e. absurd (drill_reads_nothing g.H.Host.state g.H.Host.made (λ script. program_with g.N.Natives.names g.N.Natives.does script c.args.natives.now) c.in-Some.count c.run_drill.result c.args.host.now c.run_drill.new.host
+      (g.K.Sink.state c.args.sink.now) (g.K.Sink.state c.run_drill.new.sink) (g.S.Source.state c.args.source.now) c.run_drill.ensures.outcome e);
+}
+
+pub returns-in-Some-clause-complete : goal.returns-in-Some-clause-complete
+returns-in-Some-clause-complete g c =
+    let so = returns-in-Some-clause-outcome g c in
+    completes _ (map string_bytes c.args.words.now) so.read so.written so.exchanges (g.S.Source.state c.args.source.now) (g.S.Source.state c.args.source.now) (g.K.Sink.state c.args.sink.now) (g.K.Sink.state c.run_drill.new.sink) _ _ so.taken c.run_drill.result so.outcome
+    (returns-in-Some-clause-read_fault g c).rose c.run_drill.ensures.write_fault.rose
+
+pub returns-in-None-clause-outcome : goal.returns-in-None-clause-outcome
+returns-in-None-clause-outcome g c =
+    came_unknown g.H.Host.state g.H.Host.made (λ script. program_with g.N.Natives.names g.N.Natives.does script c.args.natives.now) (map string_bytes c.args.words.now) _ c.args.host.now c.args.host.now
+    (g.S.Source.state c.args.source.now) (g.S.Source.state c.args.source.now) (g.K.Sink.state c.args.sink.now) (g.K.Sink.state c.args.sink.now)
+    (unknown (map string_bytes c.args.words.now) (sym c.is_run.ensures ∙ c.if-is_run.false) c.in-None.ensures) (quiet _ _ _ _)
+
+pub returns-in-None-clause-complete : goal.returns-in-None-clause-complete
+returns-in-None-clause-complete g c =
+    let so = returns-in-None-clause-outcome g c in
+    completes _ (map string_bytes c.args.words.now) so.read so.written so.exchanges (g.S.Source.state c.args.source.now) (g.S.Source.state c.args.source.now) (g.K.Sink.state c.args.sink.now) (g.K.Sink.state c.args.sink.now) _ _ so.taken _ so.outcome
+    (λ e. cc) (λ e. cc)

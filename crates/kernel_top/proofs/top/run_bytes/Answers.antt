@@ -3,7 +3,7 @@ use Rattle.std.proofs.KnownBytes.{Appends-nil}
 use Rattle.ek_call.specs.Meaning.{script_of}
 use Rattle.kernel_run.specs.Whole.{program_with}
 use Rattle.kernel_top.specs.Outcomes.{seen}
-use Rattle.kernel_top.proofs.Outcomes.{quiet, came, is_write_fault, is_no_read_fault}
+use Rattle.kernel_top.proofs.Outcomes.{quiet, came, is_write_fault, is_no_read_fault, is_known}
 use Rattle.kernel_top.proofs.top.run_bytes.Goals as goal
 
 pub returns-in-Err-Line-clause-outcome : goal.returns-in-Err-Line-clause-outcome
@@ -15,7 +15,7 @@ returns-in-Err-Line-clause-outcome g c =
       exchanges = [];
       put = Appends-nil _;
       calls = refl;
-      outcome = λ words source source' run ended. rw c.in-Err-Line.line-is (run, inl ended, record { none = none; at = at }, quiet source source' _ _);
+      so = λ source source' ended. rw c.in-Err-Line.line-is (inl ended, record { none = none; at = at }, quiet source source' _ _);
     }
 
 pub returns-in-Err-NoMemory-clause-outcome : goal.returns-in-Err-NoMemory-clause-outcome
@@ -24,7 +24,7 @@ returns-in-Err-NoMemory-clause-outcome g c = record {
   exchanges = [];
   put = Appends-nil _;
   calls = refl;
-  outcome = λ words source source' run ended. (run, inl (quiet source source' _ _));
+  so = λ source source' ended. inl (quiet source source' _ _);
 }
 
 pub returns-in_default-clause-outcome : goal.returns-in_default-clause-outcome
@@ -33,7 +33,7 @@ returns-in_default-clause-outcome g c = record {
   exchanges = [];
   put = Appends-nil _;
   calls = refl;
-  outcome = λ words source source' run ended. (run, inl (quiet source source' _ _));
+  so = λ source source' ended. inl (quiet source source' _ _);
 }
 
 pub returns-clause-outcome : goal.returns-clause-outcome
@@ -44,9 +44,9 @@ returns-clause-outcome g c =
       exchanges = exchanges;
       put = put;
       calls = calls;
-      outcome = λ words source source' run ended.
-          came (λ script. program_with g.N.Natives.names g.N.Natives.does script c.args.natives.now) (script_of c.in-Ok.script) c.run_script-ended.result words c.args.bytes.now written exchanges
-          (seen source (g.K.Sink.state c.args.sink.now) (g.H.Host.state c.args.host.now)) (seen source' (g.K.Sink.state c.run_script-ended.new.sink) (g.H.Host.state c.run_script-ended.new.host)) run ended c.in-Ok.ensures.script so;
+      so = λ source source' ended.
+          came (λ script. program_with g.N.Natives.names g.N.Natives.does script c.args.natives.now) (script_of c.in-Ok.script) c.run_script-ended.result c.args.bytes.now written exchanges
+          (seen source (g.K.Sink.state c.args.sink.now) (g.H.Host.state c.args.host.now)) (seen source' (g.K.Sink.state c.run_script-ended.new.sink) (g.H.Host.state c.run_script-ended.new.host)) _ ended c.in-Ok.ensures.script so;
     })
 
 pub returns-clause-no_read : goal.returns-clause-no_read
@@ -55,3 +55,6 @@ returns-clause-no_read g c = λ e. is_no_read_fault c.run_script-ended.result (s
 pub returns-clause-write_fault : goal.returns-clause-write_fault
 returns-clause-write_fault g c =
     record { later = c.run_script-ended.ensures.cause.later; rose = λ e. c.run_script-ended.ensures.cause.rose (is_write_fault c.run_script-ended.result (sym c.status_of.ensures ∙ e)) }
+
+pub returns-clause-known : goal.returns-clause-known
+returns-clause-known g c = λ e. is_known c.run_script-ended.result (sym c.status_of.ensures ∙ e)

@@ -9,4 +9,5 @@ pub returns-in-Err-clause-outcome : goal.returns-in-Err-clause-outcome
 returns-in-Err-clause-outcome g c =
     let sink = g.K.Sink.state c.args.sink.now in
     let script = script_of c.args.script.now in
-    ([], [], Appends-nil sink.held, refl, unbegun (program_with g.N.Natives.names g.N.Natives.does script c.args.natives.now) script sink)
+    let program = program_with g.N.Natives.names g.N.Natives.does script c.args.natives.now in
+    ([], [], Appends-nil sink.held, refl, unbegun program script sink (c.undo_returns.ensures program 16 script))

@@ -1,7 +1,7 @@
-use Rattle.std.proofs.Common.{◌<◌, length, refl, ap, arith}
+use Rattle.std.proofs.Common.{◌<◌, length, ap, arith}
 use Rattle.process_table.specs.Meaning.{status_of}
 use Rattle.process_table.specs.Table.{with_status}
-use Rattle.process_table.proofs.Changing.{written, written_stands, invariant_same}
+use Rattle.process_table.proofs.Changing.{written, invariant_same}
 use Rattle.process_table.proofs.Finding.{key}
 use Rattle.process_table.proofs.processes.Processes.note_end.Goals as goal
 
@@ -12,6 +12,3 @@ invariant_of-self c =
 
 pub returns-clause-table : goal.returns-clause-table
 returns-clause-table c = written _ _ _ c.index_mut.result.now _ (with_status (status_of c.args.s)) c.self.view_is c.requires c.index_mut.ensures.value c.note_end.ensures
-
-pub returns-clause-machine : goal.returns-clause-machine
-returns-clause-machine c = written_stands _ _ _ c.index_mut.result.now _ (with_status (status_of c.args.s)) (with_status (status_of c.args.s)) c.self.view_is c.requires c.index_mut.ensures.value c.note_end.ensures (λ y. refl)

@@ -1,6 +1,6 @@
-use Rattle.std.proofs.Common.{◌<◌, length, refl, ap, arith}
+use Rattle.std.proofs.Common.{◌<◌, length, ap, arith}
 use Rattle.plain_machine.specs.Handling.{unlisted}
-use Rattle.process_table.proofs.Changing.{written, written_stands, invariant_unlisted}
+use Rattle.process_table.proofs.Changing.{written, invariant_unlisted}
 use Rattle.plain_machine.specs.State.{Process}
 use Rattle.process_table.proofs.processes.Processes.unlist.Goals as goal
 
@@ -11,6 +11,3 @@ invariant_of-self c =
 
 pub returns-clause-table : goal.returns-clause-table
 returns-clause-table c = written _ _ _ c.index_mut.result.now _ (unlisted) c.self.view_is c.requires c.index_mut.ensures.value c.unlist.ensures
-
-pub returns-clause-machine : goal.returns-clause-machine
-returns-clause-machine c = written_stands _ _ _ c.index_mut.result.now _ (unlisted) (unlisted) c.self.view_is c.requires c.index_mut.ensures.value c.unlist.ensures (λ y. refl)

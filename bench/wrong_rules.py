@@ -1,0 +1,486 @@
+"""Wrong definitions of single rules, and the law or computed row that each is refused by.
+
+Each entry: what is wrong, the file below crates/, the text that is changed, what it is changed to, and what refuses it: laws of
+`machine_laws` by their names, computed rows of `worked_rows` as the file below its proofs/ and the lemma.
+"""
+
+WAITS = "plain_machine/specs/Waits.antt"
+FORMS = "plain_machine/specs/Forms.antt"
+HANDLING = "plain_machine/specs/Handling.antt"
+CALLS = "plain_machine/specs/Calls.antt"
+LINES = "plain_machine/specs/Lines.antt"
+REFUSALS = "plain_machine/specs/Refusals.antt"
+NATIVES = "plain_machine/specs/Natives.antt"
+SHIPPED = "plain_machine/specs/Shipped.antt"
+MARKS = "text_model/specs/Marks.antt"
+UNDO = "text_model/specs/Undo.antt"
+COMMIT = "text_model/specs/Commit.antt"
+COMMITS = "editor_model/specs/Commits.antt"
+TEXT_CALLS = "editor_model/specs/TextCalls.antt"
+UNDO_CALLS = "editor_model/specs/UndoCalls.antt"
+EDITOR = "editor_model/specs/Editor.antt"
+BUFFER_CALLS = "editor_model/specs/BufferCalls.antt"
+
+COMMIT_RULES = [
+    (
+        "kept end of a restriction stays in front of a text put in there",
+        MARKS,
+        "Restriction b (Some (move false ends.0, move true ends.1))",
+        "Restriction b (Some (move false ends.0, move false ends.1))",
+        ["TextRows.kept_end_of_a_restriction_holds"],
+    ),
+    (
+        "kept point goes behind a text put in there",
+        MARKS,
+        "if b == buffer then Excursion b (move false p)",
+        "if b == buffer then Excursion b (move true p)",
+        ["TextRows.kept_point_of_an_excursion_holds"],
+    ),
+    (
+        "end of a pending change goes behind a text put in there",
+        MARKS,
+        "Pending b (move false from) (move false to)",
+        "Pending b (move false from) (move true to)",
+        ["HookRows.ends_of_a_pending_change_holds"],
+    ),
+    (
+        "change made at the ends that it had as it was prepared",
+        FORMS,
+        "at_kept c (Pending b from to ∷ saved) = record c { from = from; to = to }",
+        "at_kept c (Pending b from to ∷ saved) = c",
+        ["HookRows.hook_edits_before_the_change_holds"],
+    ),
+    (
+        "change made in a buffer that a hook function killed",
+        COMMITS,
+        "commit_tests e id (Put piece all point_after widen mark) = refuse BufferKilled (is_live e id) ∷ must_have_room",
+        "commit_tests e id (Put piece all point_after widen mark) = must_have_room",
+        ["HookRows.hook_kills_the_buffer_holds"],
+    ),
+    (
+        "markers that don't advance go behind an insertion",
+        MARKS,
+        "move (m.advances || all) s.place",
+        "move true s.place",
+        ["TextRows.markers_at_a_tie_holds"],
+    ),
+    (
+        "empty overlay with front-advance alone is turned round",
+        MARKS,
+        "start_advances all o s = all || (o.front_advance && (o.rear_advance || not (s.start == s.end)))",
+        "start_advances all o s = all || o.front_advance",
+        ["OverlayRows.empty_overlays_at_an_insertion_holds"],
+    ),
+    (
+        "overlays that become empty stay",
+        COMMIT,
+        "marks = evaporate_all id (move_marks id false (deletion from to) site.marks);",
+        "marks = move_marks id false (deletion from to) site.marks;",
+        ["OverlayRows.evaporating_overlays_holds"],
+    ),
+    (
+        "mark of a process stays in front of its output",
+        COMMITS,
+        "mark_to mark id (from + length piece)",
+        "mark_to mark id from",
+        ["ProcessRows.default_filter_outside_the_narrowing_holds"],
+    ),
+    (
+        "empty insertion counts as a change",
+        TEXT_CALLS,
+        "insertion id at [] all = Nothing Nil",
+        "insertion id at [] all = Changes (record { buffer = id; from = at; to = at; what = Put [] all true false None; reply = Nil })",
+        ["TextRows.empty_insertion_holds"],
+    ),
+    (
+        "buffer erased in its accessible portion alone",
+        COMMITS,
+        "if widen then widened site.buffer else site.buffer",
+        "site.buffer",
+        ["CommitExamples.erased_is_wide"],
+    ),
+    (
+        "insertion inherits from its neighbours the wrong way round",
+        TEXT_CALLS,
+        "(if p == 0 then None else char_at b (p - 1))) (option_map (λ c. c.1) (char_at b p))",
+        "(char_at b p)) (option_map (λ c. c.1) (if p == 0 then None else char_at b (p - 1)))",
+        ["PropertyRows.stickiness_holds"],
+    ),
+]
+
+HOOK_RULES = [
+    (
+        "fault behind a change leaves the list of after-change functions",
+        HANDLING,
+        "ended_handler (OfAfter b) true s rest = record { state = if_live s b (set_hook_list b after_change_functions [] s); work",
+        "ended_handler (OfAfter b) true s rest = record { state = s; work",
+        ["HookRows.function_behind_a_change_ended_by_a_fault_holds"],
+    ),
+    (
+        "fault before a change leaves the list of before-change functions",
+        HANDLING,
+        "ended_handler (OfBefore b) true s rest = record { state = if_live s b (set_hook_list b before_change_functions [] s); work",
+        "ended_handler (OfBefore b) true s rest = record { state = s; work",
+        ["HookRows.hook_ended_by_a_fault_holds"],
+    ),
+    (
+        "functions behind a change aren't told its old length",
+        FORMS,
+        "(at_place from ∷ at_place to ∷ Int (pos old) ∷ []) rest)",
+        "(at_place from ∷ at_place to ∷ Int (pos 0) ∷ []) rest)",
+        ["HookRows.after_change_arguments_holds"],
+    ),
+    (
+        "functions before a change are told where it begins alone",
+        FORMS,
+        "(at_place c.from ∷ at_place c.to ∷ []) (CommitChange c ∷ rest))",
+        "(at_place c.from ∷ at_place c.from ∷ []) (CommitChange c ∷ rest))",
+        ["HookRows.hook_edits_before_the_change_holds"],
+    ),
+    (
+        "hooks stay inhibited behind a change",
+        FORMS,
+        "bracket false kind names args rest = Hooks kind names args ∷ Calm false ∷ rest",
+        "bracket false kind names args rest = Hooks kind names args ∷ Calm true ∷ rest",
+        ["nothing_is_left_at_the_top"],
+    ),
+    (
+        "functions behind a change are those before it",
+        FORMS,
+        "(hooks_of s.hooks c.buffer).after (at_place from",
+        "(hooks_of s.hooks c.buffer).before (at_place from",
+        ["HookRows.after_change_arguments_holds"],
+    ),
+]
+
+HANDLER_RULES = [
+    (
+        "scopes stay behind their handlers",
+        HANDLING,
+        "record s { depth = s.depth - 1; scopes = drop 1 s.scopes } in",
+        "record s { depth = s.depth - 1 } in",
+        ["nothing_is_left_at_the_top", "ProcessRows.scope_ends_with_its_handler_holds"],
+    ),
+    (
+        "depth stays behind a handler",
+        HANDLING,
+        "record s { depth = s.depth - 1; scopes = drop 1 s.scopes } in",
+        "record s { scopes = drop 1 s.scopes } in",
+        ["nothing_is_left_at_the_top", "ProcessRows.default_handlers_holds"],
+    ),
+    (
+        "default filter leaves its buffer current",
+        HANDLING,
+        "    if_live out c (current c out)\n",
+        "    out\n",
+        ["ProcessRows.real_children_holds"],
+    ),
+    (
+        "fault in a handler ends its block without restoring",
+        FORMS,
+        "dropped f (Leave kept ∷ rest) s = dropped f rest (restored kept s)",
+        "dropped f (Leave kept ∷ rest) s = dropped f rest s",
+        ["nothing_is_left_at_the_top"],
+    ),
+    (
+        "fault goes on outwards from a handler",
+        FORMS,
+        "dropped f (Exit kind handler c faulted ∷ rest) s = record { state = s; work = Exit kind handler c true ∷ rest }",
+        "dropped f (Exit kind handler c faulted ∷ rest) s = dropped f rest s",
+        ["HookRows.hook_ended_by_a_fault_holds"],
+    ),
+    (
+        "parameters bound from the last one",
+        HANDLING,
+        "bound_params (p ∷ params) (v ∷ args) = (p, v) ∷ bound_params params args",
+        "bound_params (p ∷ params) (v ∷ args) = bound_params params args",
+        ["WaitRows.filter_that_waits_holds"],
+    ),
+    (
+        "native called without end",
+        HANDLING,
+        "native program s i args past rest = native_next (nat_lt (length past) 256)",
+        "native program s i args past rest = native_next (nat_lt (length past) 257)",
+        ["NativeRows.native_that_never_ends_holds"],
+    ),
+    (
+        "native may give what was never made",
+        NATIVES,
+        "was_made program s (TheBuffer b) = nat_lt b (length s.editor.buffers)",
+        "was_made program s (TheBuffer b) = true",
+        ["NativeRows.native_gives_a_buffer_never_made_holds"],
+    ),
+    (
+        "empty list of a native isn't nil",
+        NATIVES,
+        "normal (Items End) = Nil",
+        "normal (Items End) = Items End",
+        ["NativeRows.odd_calls_of_a_native_holds"],
+    ),
+    (
+        "shipped filter leaves the mark in front of the text",
+        SHIPPED,
+        "line Anything (λ a. (SetMarker, arg a 3 ∷ arg a 7 ∷ arg a 0 ∷ [])) ∷ []",
+        "line Anything (λ a. (SetMarker, arg a 3 ∷ arg a 4 ∷ arg a 0 ∷ [])) ∷ []",
+        ["NativeRows.shipped_insert_filter_holds"],
+    ),
+]
+
+WAIT_RULES = [
+    (
+        "refused send forgets the bytes that were sent",
+        CALLS,
+        "sent_answer s target rest size Broken = Some (silent (record s { asked = s.asked + 1; sent = s.sent + size })",
+        "sent_answer s target rest size Broken = Some (silent (record s { asked = s.asked + 1; sent = 0 })",
+        ["refusals_leave_the_state"],
+    ),
+    (
+        "refused call sets the count of bytes to 0",
+        CALLS,
+        "unless_fault (Some f) s rest step = on s (Refuse f ∷ rest)",
+        "unless_fault (Some f) s rest step = on (record s { sent = 0 }) (Refuse f ∷ rest)",
+        ["refusals_leave_the_state"],
+    ),
+    (
+        "wait answers t behind a read of any process",
+        WAITS,
+        "counts w p = is_target w.target p",
+        "counts w p = true",
+        ["WaitRows.rounds_and_just_this_one_holds"],
+    ),
+    (
+        "target not asked first",
+        WAITS,
+        "target_first (Some t) all = t ∷ filter (λ p. not (p == t)) all",
+        "target_first (Some t) all = all",
+        ["WaitRows.rounds_and_just_this_one_holds"],
+    ),
+    (
+        "wait for just one process asks the others too",
+        WAITS,
+        "(not w.just || is_target w.target p)",
+        "true",
+        ["WaitRows.rounds_and_just_this_one_holds"],
+    ),
+    (
+        "process whose filter is off is asked",
+        WAITS,
+        "is_heard Off = false",
+        "is_heard Off = true",
+        ["ProcessRows.filter_off_and_on_holds"],
+    ),
+    (
+        "one round fewer",
+        WAITS,
+        "wait_case false true [] (p ∷ more) (suc rounds) s w target rest = on s (Wait (record w { rounds = rounds; asking = p ∷ more })",
+        "wait_case false true [] (p ∷ more) (suc rounds) s w target rest = on s (Wait (record w { rounds = 0; asking = p ∷ more })",
+        ["WaitRows.rounds_and_just_this_one_holds"],
+    ),
+    (
+        "round that begins asks nobody",
+        WAITS,
+        "on s (Wait (record w { rounds = rounds; asking = p ∷ more }) target ∷ rest)",
+        "on s (Wait (record w { rounds = rounds; asking = [] }) target ∷ rest)",
+        ["rounds_ask"],
+    ),
+    (
+        "exit code told as success",
+        WAITS,
+        'exit_text (pos (suc n)) = codes "exited abnormally with code " ++ (decimal (suc n) ++ codes "\\n")',
+        'exit_text (pos (suc n)) = codes "finished\\n"',
+        ["ProcessRows.real_children_holds"],
+    ),
+    (
+        "end that fails leaves the process running",
+        WAITS,
+        "end_answer s w target rest p x Answer.Failed = Some (ends (asked_more s) p x Lost",
+        "end_answer s w target rest p x Answer.Failed = Some (ends (asked_more s) p x Runs",
+        ["ProcessRows.read_and_end_fail_holds"],
+    ),
+    (
+        "kill that fails ends the run",
+        WAITS,
+        "kill_answer next Answer.Failed = Some next",
+        "kill_answer next Answer.Failed = None",
+        ["ProcessRows.kill_that_fails_holds"],
+    ),
+    (
+        "one exchange more than may be",
+        REFUSALS,
+        "may_ask s = nat_lt s.asked most_exchanges",
+        "may_ask s = nat_lt s.asked (most_exchanges + 1)",
+        ["exchanges_stay_few"],
+    ),
+    (
+        "bytes sent into a broken pipe not counted",
+        CALLS,
+        "sent_answer s target rest size Broken = Some (silent (record s { asked = s.asked + 1; sent = s.sent + size })",
+        "sent_answer s target rest size Broken = Some (silent (record s { asked = s.asked + 1 })",
+        ["LimitRows.all_bytes_sent_holds"],
+    ),
+    (
+        "deletion refused at no depth",
+        REFUSALS,
+        "only_where (is_running s (process_of s (arg args 0))) (must_nest bound s) ∷ []",
+        "[]",
+        ["WaitRows.deletion_refused_at_bound_one_holds", "handlers_stay_shallow"],
+    ),
+]
+
+UNDO_RULES = [
+    (
+        "deletion undone moves markers that have moved since",
+        COMMIT,
+        "(if stands_at id place (slice_get before m.0) then marker_less id size m markers else markers)",
+        "(marker_less id size m markers)",
+        ["UndoRows.undo_leaves_a_marker_that_has_moved_holds"],
+    ),
+    (
+        "undo-more stops in front of the boundary",
+        UNDO,
+        "[ true ↦ e ∷ groups n entries | false ↦ e ∷ groups (suc n) entries ]",
+        "[ true ↦ groups n entries | false ↦ e ∷ groups (suc n) entries ]",
+        ["UndoRows.empty_group_first_holds"],
+    ),
+    (
+        "undoing outside the accessible portion is allowed",
+        UNDO_CALLS,
+        "refuse UndoOutside (not (is_some (trial b.begin b.end (undone n b.undo)))) ∷ []",
+        "[]",
+        ["UndoRows.undo_outside_holds"],
+    ),
+    (
+        "records stay where recording is switched off",
+        UNDO,
+        "disabled u = record u { on = false; entries = []; pending_below = 0 }",
+        "disabled u = record u { on = false; pending_below = 0 }",
+        ["recording_keeps_boundaries", "UndoRows.recording_switched_off_holds"],
+    ),
+    (
+        "insertions one behind the other are two records",
+        UNDO,
+        "| Inserted b p ↦ if p == from then record e { what = Inserted b to } ∷ entries else record",
+        "| Inserted b p ↦ record",
+        ["UndoExamples.merged_insertions"],
+    ),
+    (
+        "boundary pushed on a boundary",
+        UNDO,
+        "[ [] ↦ u | e ∷ entries ↦ if is_boundary e.what then u else pushed Boundary u ]",
+        "[ [] ↦ u | e ∷ entries ↦ pushed Boundary u ]",
+        ["UndoExamples.one_boundary"],
+    ),
+    (
+        "undoing an insertion leaves it",
+        COMMIT,
+        "undo_one id (Inserted from to) behind site = deleted id from to (set_point from site)",
+        "undo_one id (Inserted from to) behind site = site",
+        ["UndoRows.undo_in_groups_holds"],
+    ),
+    (
+        "no record of point in front of a deletion elsewhere",
+        COMMIT,
+        "(if fresh_group b.undo.entries && not (b.point == from) then Point b.point ∷ [] else []) ++",
+        "",
+        ["UndoRows.undo_list_as_printed_holds"],
+    ),
+]
+
+EDITOR_RULES = [
+    (
+        "boundary pushed on an empty list of records",
+        UNDO,
+        "with_boundary u = elim u.entries [ [] ↦ u |",
+        "with_boundary u = elim u.entries [ [] ↦ pushed Boundary u |",
+        ["editors_stay_sound"],
+    ),
+    (
+        "killed buffer stays current",
+        EDITOR,
+        "killed id e = after_kill (e.current == id)",
+        "killed id e = after_kill false",
+        ["editors_stay_sound"],
+    ),
+    (
+        "new buffer's name may be taken",
+        BUFFER_CALLS,
+        "(with_buffer (free_name e.buffers (name_of name)) e) (TheBuffer (length e.buffers))",
+        "(with_buffer (name_of name) e) (TheBuffer (length e.buffers))",
+        ["BufferExamples.names", "editors_stay_sound"],
+    ),
+    (
+        "overlays of a killed buffer stay",
+        MARKS,
+        "markers = map (marker_left buffer) marks.markers; overlays = map (overlay_left buffer) marks.overlays }",
+        "markers = map (marker_left buffer) marks.markers }",
+        ["HookRows.hook_kills_the_buffer_holds"],
+    ),
+]
+
+PRINTING_RULES = [
+    (
+        "markers told from 0",
+        LINES,
+        'codes "at " ++ (decimal (s.place + 1)',
+        'codes "at " ++ (decimal s.place',
+        ["TextRows.markers_at_a_tie_holds"],
+    ),
+    (
+        "marker's type not told",
+        LINES,
+        '(if m.advances then codes "(moves after insertion) " else [])',
+        "[]",
+        ["TextRows.markers_at_a_tie_holds"],
+    ),
+    (
+        "raw bytes not told in octal",
+        LINES,
+        "shown_ch (Raw b) = octal b",
+        "shown_ch (Raw b) = b ∷ []",
+        ["ProcessRows.held_tail_at_end_of_output_holds"],
+    ),
+    (
+        "lines not indented",
+        LINES,
+        "indented (suc depth) line = 32 ∷ 32 ∷ indented depth line",
+        "indented (suc depth) line = indented depth line",
+        ["HookRows.hook_edits_before_the_change_holds"],
+    ),
+    (
+        "properties not told",
+        LINES,
+        "| w ∷ words ↦ 35 ∷ bracketed (spaced (string ∷ w ∷ words))",
+        "| w ∷ words ↦ string",
+        ["PropertyRows.stickiness_holds"],
+    ),
+    (
+        "kill at the end not told",
+        LINES,
+        'line symbols s (KilledLast p) = codes "kill " ++ (shown_process s p ++ 10 ∷ [])',
+        "line symbols s (KilledLast p) = []",
+        ["WaitRows.filter_that_waits_holds"],
+    ),
+    (
+        "current buffer not told in the dump",
+        LINES,
+        'codes " current\\ntext "',
+        'codes "\\ntext "',
+        ["TextRows.empty_script_holds"],
+    ),
+    (
+        "status of a process told without its code",
+        LINES,
+        'shown_status (Exited n) = codes "exit " ++ shown_int n',
+        'shown_status (Exited n) = codes "exit"',
+        ["ProcessRows.real_children_holds"],
+    ),
+    (
+        "faults told by the wrong number",
+        LINES,
+        'fault_words ArgsOutOfRange = codes "1 args-out-of-range"',
+        'fault_words ArgsOutOfRange = codes "2 args-out-of-range"',
+        ["TextRows.region_out_of_range_holds"],
+    ),
+]
+
+RULES = COMMIT_RULES + HOOK_RULES + HANDLER_RULES + WAIT_RULES + UNDO_RULES + EDITOR_RULES + PRINTING_RULES

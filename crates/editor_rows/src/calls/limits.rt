@@ -1,0 +1,171 @@
+//! Each limit, and one beyond.
+
+use super::playing::{make, reply};
+use super::words::Word::*;
+use super::words::{Word, arguments, chars};
+use buffer_table::Editor;
+use editor_prims::prepare;
+use ek_call::Prim::*;
+use ek_call::{Fault, Prim, Reply, Value, Values};
+use ek_types::Piece;
+use std::alloc::Global;
+use std::process::Abort;
+
+/// The longest string that is made from a buffer.
+const STRING: i64 = 1_048_576;
+
+/// The longest text.
+const TEXT: i64 = 4_194_304;
+
+fn fault_of(reply: Reply) -> Option<Fault> {
+    match reply {
+        Reply::Fault(fault) => Some(fault),
+        Reply::Value(_) => None,
+    }
+}
+
+/// Why a call is refused.
+fn refused(rt: &impl Abort, editor: &mut Editor, prim: Prim, words: &[Word]) -> Option<Fault> {
+    let args = arguments(editor.allocator(), words).expect(rt, "arguments");
+    fault_of(reply(editor, prim, &args).expect(rt, "a reply"))
+}
+
+/// Makes a call again and again, which is never refused.
+fn repeat(rt: &impl Abort, editor: &mut Editor, count: usize, prim: Prim, words: &[Word]) {
+    for _ in 0..count {
+        assert_eq!(rt; refused(rt, editor, prim, words), None, "{prim:?}");
+    }
+}
+
+/// Why a call is refused that is given a name of so many letters.
+fn refused_name(rt: &impl Abort, editor: &mut Editor, prim: Prim, length: usize) -> Option<Fault> {
+    let alloc = editor.allocator();
+    let name = "n".repeat(alloc, length).expect(rt, "a name");
+    let name = Piece::plain(alloc, chars(alloc, name.as_str()).expect(rt, "a name"));
+    let mut args = Values::new(alloc);
+    args.push(Value::Str(name)).expect(rt, "room");
+    fault_of(reply(editor, prim, &args).expect(rt, "a reply"))
+}
+
+/// The second name of 256 letters gets a number and is longer than that.
+#[test]
+fn names(rt: HostRuntime) {
+    let mut editor = Editor::new(rt.alloc()).expect(&rt, "an editor");
+    for prim in [GetBufferCreate, GenerateNewBuffer, RenameBuffer] {
+        assert_eq!(&rt; refused_name(&rt, &mut editor, prim, 256), None, "{prim:?}");
+        let longer = refused_name(&rt, &mut editor, prim, 257);
+        assert_eq!(&rt; longer, Some(Fault::TooMany), "{prim:?}");
+    }
+    assert_eq!(&rt; refused_name(&rt, &mut editor, GetBuffer, 257), None);
+    editor.close();
+}
+
+/// Killed buffers count, and a buffer that is there isn't made.
+#[test]
+fn buffers(rt: HostRuntime) {
+    let mut editor = Editor::new(rt.alloc()).expect(&rt, "an editor");
+    repeat(&rt, &mut editor, 254, GenerateNewBuffer, &[Str("w")]);
+    repeat(&rt, &mut editor, 1, KillBuffer, &[Buffer(9)]);
+    repeat(&rt, &mut editor, 1, GenerateNewBuffer, &[Str("v")]);
+    for prim in [GenerateNewBuffer, GetBufferCreate] {
+        let more = refused(&rt, &mut editor, prim, &[Str("new")]);
+        assert_eq!(&rt; more, Some(Fault::TooMany), "{prim:?}");
+    }
+    repeat(&rt, &mut editor, 1, GetBufferCreate, &[Str("w<254>")]);
+    editor.close();
+}
+
+#[test]
+fn markers_and_overlays(rt: HostRuntime) {
+    let mut editor = Editor::new(rt.alloc()).expect(&rt, "an editor");
+    repeat(&rt, &mut editor, 65_536, MakeMarker, &[]);
+    for prim in [MakeMarker, PointMarker, CopyMarker] {
+        let more = refused(&rt, &mut editor, prim, &[]);
+        assert_eq!(&rt; more, Some(Fault::TooMany), "{prim:?}");
+    }
+    let places = [Int(1), Int(1)];
+    repeat(&rt, &mut editor, 65_536, MakeOverlay, &places);
+    let more = refused(&rt, &mut editor, MakeOverlay, &places);
+    assert_eq!(&rt; more, Some(Fault::TooMany));
+    repeat(&rt, &mut editor, 1, DeleteOverlay, &[Overlay(65_535)]);
+    repeat(&rt, &mut editor, 1, SetMarker, &[Marker(65_535), Int(1)]);
+    editor.close();
+}
+
+/// Fills the current buffer, which is empty, with the longest string that a buffer gives.
+fn fill(rt: &impl Abort, editor: &mut Editor) {
+    let many = [Str("0123456789abcdef0123456789abcdef0123456789abcdef0123456789abcdef"); 64];
+    repeat(rt, editor, 1, Insert, &many);
+    repeat(rt, editor, 8, InsertBufferSubstring, &[Str("*scratch*")]);
+}
+
+#[test]
+fn strings_made_from_a_buffer(rt: HostRuntime) {
+    let mut editor = Editor::new(rt.alloc()).expect(&rt, "an editor");
+    fill(&rt, &mut editor);
+    repeat(&rt, &mut editor, 1, BufferString, &[]);
+    repeat(&rt, &mut editor, 1, Insert, &[Str("x")]);
+    let exact = [Int(2), Int(STRING + 2)];
+    let beyond = [Int(1), Int(STRING + 2)];
+    repeat(&rt, &mut editor, 1, BufferSubstring, &exact);
+    for prim in [
+        BufferSubstring,
+        BufferSubstringNoProperties,
+        DeleteAndExtractRegion,
+    ] {
+        let longer = refused(&rt, &mut editor, prim, &beyond);
+        assert_eq!(&rt; longer, Some(Fault::TooMany), "{prim:?}");
+    }
+    assert_eq!(&rt;
+        refused(&rt, &mut editor, BufferString, &[]),
+        Some(Fault::TooMany)
+    );
+    let whole = refused(&rt, &mut editor, InsertBufferSubstring, &[Str("*scratch*")]);
+    assert_eq!(&rt; whole, Some(Fault::TooMany));
+    repeat(&rt, &mut editor, 1, DeleteAndExtractRegion, &exact);
+    repeat(&rt, &mut editor, 1, DeleteRegion, &[Int(1), Int(2)]);
+    assert!(&rt; editor.size(0) == 0);
+    editor.close();
+}
+
+/// A buffer is filled to its limit, and five buffers to theirs. An insertion that no longer has room when it is committed is
+/// refused then.
+#[test]
+fn texts(rt: HostRuntime) {
+    let alloc = rt.alloc();
+    let mut editor = Editor::new(alloc).expect(&rt, "an editor");
+    fill(&rt, &mut editor);
+    let part = [Buffer(0), Int(1), Int(STRING + 1)];
+    repeat(&rt, &mut editor, 3, InsertBufferSubstring, &part);
+    assert_eq!(&rt;
+        refused(&rt, &mut editor, Insert, &[Str("x")]),
+        Some(Fault::BufferFull)
+    );
+    repeat(
+        &rt,
+        &mut editor,
+        1,
+        DeleteRegion,
+        &[Int(TEXT), Int(TEXT + 1)],
+    );
+    let args = arguments(alloc, &[Str("x")]).expect(&rt, "a string");
+    let prepared = prepare(&editor, Insert, &args).expect(&rt, "a change");
+    repeat(&rt, &mut editor, 1, Insert, &[Str("x")]);
+    let late = make(&mut editor, prepared).expect(&rt, "a reply");
+    assert_eq!(&rt; fault_of(late), Some(Fault::BufferFull));
+    for name in ["b", "c", "d"] {
+        repeat(&rt, &mut editor, 1, GetBufferCreate, &[Str(name)]);
+        repeat(&rt, &mut editor, 1, SetBuffer, &[Str(name)]);
+        repeat(&rt, &mut editor, 4, InsertBufferSubstring, &part);
+    }
+    repeat(&rt, &mut editor, 1, SetBuffer, &[Buffer(1)]);
+    repeat(&rt, &mut editor, 1, DeleteRegion, &[Int(1), Int(2)]);
+    repeat(&rt, &mut editor, 1, GetBufferCreate, &[Str("e")]);
+    repeat(&rt, &mut editor, 1, SetBuffer, &[Str("e")]);
+    repeat(&rt, &mut editor, 1, Insert, &[Str("x")]);
+    assert_eq!(&rt;
+        refused(&rt, &mut editor, Insert, &[Str("x")]),
+        Some(Fault::BufferFull)
+    );
+    editor.close();
+}

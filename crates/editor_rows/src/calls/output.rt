@@ -1,0 +1,201 @@
+//! The insertion of a process's output at its mark, and changes between whose preparation and commit something happens.
+
+use super::playing::{Call, check_calls, make};
+use super::shown::shown;
+use super::words::Word::*;
+use super::words::{Word, arguments, chars};
+use buffer_table::Editor;
+use editor_prims::{prepare, prepare_output};
+use ek_call::Prim;
+use ek_call::Prim::*;
+use ek_types::Piece;
+use std::process::Abort;
+
+/// Calls in front of an output of two letters in buffer 0 with marker 0 as its mark, and calls behind it.
+struct Output {
+    shows: &'static str,
+    before: &'static [Call],
+    behind: &'static [Call],
+}
+
+const OUTPUTS: [Output; 6] = [
+    Output {
+        shows: "all markers at the mark move, and so does point",
+        before: &[
+            (Insert, &[Str("abcd")], "nil"),
+            (CopyMarker, &[Int(3)], "#<marker at 3 in *scratch*>"),
+            (CopyMarker, &[Int(3)], "#<marker at 3 in *scratch*>"),
+            (
+                MakeOverlay,
+                &[Int(1), Int(3)],
+                "#<overlay from 1 to 3 in *scratch*>",
+            ),
+            (GotoChar, &[Int(3)], "3"),
+        ],
+        behind: &[
+            (BufferString, &[], "\"abxycd\""),
+            (MarkerPosition, &[Marker(0)], "5"),
+            (MarkerPosition, &[Marker(1)], "5"),
+            (OverlayEnd, &[Overlay(0)], "5"),
+            (Point, &[], "5"),
+        ],
+    },
+    Output {
+        shows: "point in front of the mark stays",
+        before: &[
+            (Insert, &[Str("abcd")], "nil"),
+            (CopyMarker, &[Int(3)], "#<marker at 3 in *scratch*>"),
+            (GotoChar, &[Int(2)], "2"),
+        ],
+        behind: &[
+            (Point, &[], "2"),
+            (BufferUndoList, &[], "((3 . 5) (1 . 5) (t . 0))"),
+        ],
+    },
+    Output {
+        shows: "a mark that points nowhere counts as the end of the accessible portion",
+        before: &[
+            (Insert, &[Str("abcd")], "nil"),
+            (NarrowToRegion, &[Int(2), Int(3)], "nil"),
+            (MakeMarker, &[], "#<marker in no buffer>"),
+        ],
+        behind: &[
+            (BufferString, &[], "\"bxy\""),
+            (CopyMarker, &[Marker(0)], "#<marker at 5 in *scratch*>"),
+        ],
+    },
+    Output {
+        shows: "a mark in another buffer counts as the end of the accessible portion",
+        before: &[
+            (Insert, &[Str("abcd")], "nil"),
+            (GetBufferCreate, &[Str("w")], "#<buffer w>"),
+            (MakeMarker, &[], "#<marker in no buffer>"),
+            (
+                SetMarker,
+                &[Marker(0), Int(1), Str("w")],
+                "#<marker at 1 in w>",
+            ),
+            (SetBuffer, &[Str("w")], "#<buffer w>"),
+        ],
+        behind: &[
+            (CurrentBuffer, &[], "#<buffer w>"),
+            (BufferSize, &[], "0"),
+            (CopyMarker, &[Marker(0)], "#<marker at 7 in *scratch*>"),
+        ],
+    },
+    Output {
+        shows: "what comes outside the narrowing stays outside",
+        before: &[
+            (Insert, &[Str("abcdef")], "nil"),
+            (CopyMarker, &[Int(7)], "#<marker at 7 in *scratch*>"),
+            (NarrowToRegion, &[Int(2), Int(4)], "nil"),
+        ],
+        behind: &[
+            (BufferString, &[], "\"bc\""),
+            (BufferSize, &[], "8"),
+            (MarkerPosition, &[Marker(0)], "9"),
+            (Point, &[], "4"),
+        ],
+    },
+    Output {
+        shows: "what comes at the start of the narrowing stands in it",
+        before: &[
+            (Insert, &[Str("abcdef")], "nil"),
+            (NarrowToRegion, &[Int(4), Int(3)], "nil"),
+            (CopyMarker, &[Int(3)], "#<marker at 3 in *scratch*>"),
+        ],
+        behind: &[(BufferString, &[], "\"xyc\""), (PointMin, &[], "3")],
+    },
+];
+
+#[test]
+fn outputs(rt: HostRuntime) {
+    let alloc = rt.alloc();
+    for row in &OUTPUTS {
+        let mut editor = Editor::new(alloc).expect(&rt, "an editor");
+        check_calls(&rt, &mut editor, row.shows, row.before);
+        let text = Piece::plain(alloc, chars(alloc, "xy").expect(&rt, "letters"));
+        let prepared = prepare_output(&editor, 0, 0, text);
+        make(&mut editor, prepared).expect(&rt, "a commit");
+        check_calls(&rt, &mut editor, row.shows, row.behind);
+        editor.close();
+    }
+}
+
+/// A call that is prepared in front of other calls and committed behind them, and its reply.
+struct Late {
+    shows: &'static str,
+    before: &'static [Call],
+    call: (Prim, &'static [Word]),
+    meanwhile: &'static [Call],
+    reply: &'static str,
+    behind: &'static [Call],
+}
+
+const LATE: [Late; 5] = [
+    Late {
+        shows: "the buffer was killed",
+        before: &[
+            (GetBufferCreate, &[Str("w")], "#<buffer w>"),
+            (SetBuffer, &[Str("w")], "#<buffer w>"),
+        ],
+        call: (Insert, &[Str("x")]),
+        meanwhile: &[(KillBuffer, &[Buffer(1)], "t")],
+        reply: "! buffer-killed",
+        behind: &[(BufferSize, &[], "0")],
+    },
+    Late {
+        shows: "another buffer is current",
+        before: &[(GetBufferCreate, &[Str("w")], "#<buffer w>")],
+        call: (Insert, &[Str("x")]),
+        meanwhile: &[(SetBuffer, &[Str("w")], "#<buffer w>")],
+        reply: "nil",
+        behind: &[
+            (CurrentBuffer, &[], "#<buffer w>"),
+            (BufferSize, &[], "0"),
+            (BufferSize, &[Buffer(0)], "1"),
+        ],
+    },
+    Late {
+        shows: "recording was turned off",
+        before: &[(Insert, &[Str("a")], "nil"), (UndoStart, &[], "nil")],
+        call: (UndoMore, &[Int(1)]),
+        meanwhile: &[(BufferDisableUndo, &[], "nil")],
+        reply: "! undo-disabled",
+        behind: &[(BufferSize, &[], "1")],
+    },
+    Late {
+        shows: "a change dropped what was to be undone",
+        before: &[(Insert, &[Str("a")], "nil"), (UndoStart, &[], "nil")],
+        call: (UndoMore, &[Int(1)]),
+        meanwhile: &[(Insert, &[Str("b")], "nil")],
+        reply: "! no-further-undo",
+        behind: &[(BufferString, &[], "\"ab\"")],
+    },
+    Late {
+        shows: "a narrowing leaves a record outside",
+        before: &[(Insert, &[Str("ab")], "nil"), (UndoStart, &[], "nil")],
+        call: (UndoMore, &[Int(1)]),
+        meanwhile: &[(NarrowToRegion, &[Int(1), Int(2)], "nil")],
+        reply: "! undo-outside",
+        behind: &[(BufferSize, &[], "2")],
+    },
+];
+
+#[test]
+fn late_commits(rt: HostRuntime) {
+    let alloc = rt.alloc();
+    for row in &LATE {
+        let mut editor = Editor::new(alloc).expect(&rt, "an editor");
+        check_calls(&rt, &mut editor, row.shows, row.before);
+        let (prim, words) = row.call;
+        let args = arguments(alloc, words).expect(&rt, "arguments");
+        let prepared = prepare(&editor, prim, &args).expect(&rt, "a change");
+        check_calls(&rt, &mut editor, row.shows, row.meanwhile);
+        let reply = make(&mut editor, prepared).expect(&rt, "a reply");
+        let found = shown(&editor, &reply).expect(&rt, "a text");
+        assert_eq!(&rt; found.as_str(), row.reply, "{}", row.shows);
+        check_calls(&rt, &mut editor, row.shows, row.behind);
+        editor.close();
+    }
+}

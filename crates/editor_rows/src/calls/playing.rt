@@ -1,0 +1,89 @@
+//! Calls on an editor.
+
+use super::shown::shown;
+use super::words::{Word, arguments};
+use buffer_table::Editor;
+use editor_prims::{Committed, Prepared, apply, commit, prepare, query};
+use ek_call::{Fault, Prim, Reply, Value, Values};
+use ek_types::Mem;
+use std::alloc::Global;
+use std::process::Abort;
+
+/// A call, its arguments and its reply.
+pub type Call = (Prim, &'static [Word], &'static str);
+
+/// Calls on a new editor, one after the other, and what they show.
+pub struct Row {
+    pub shows: &'static str,
+    pub calls: &'static [Call],
+}
+
+/// Makes a change that was prepared, and gives its reply.
+pub fn make(editor: &mut Editor, prepared: Prepared) -> Mem<Reply> {
+    match prepared {
+        Prepared::Change(change) | Prepared::Quiet(change) => match commit(editor, &change)? {
+            Committed::Done { .. } => Ok(Reply::Value(change.reply)),
+            Committed::Fault(fault) => Ok(Reply::Fault(fault)),
+        },
+        Prepared::Nothing(value) => Ok(Reply::Value(value)),
+        Prepared::Fault(fault) => Ok(Reply::Fault(fault)),
+    }
+}
+
+/// Kills a buffer, which is no call of this crate.
+fn kill(editor: &mut Editor, args: &Values) -> Mem<Reply> {
+    if args.len() > 0 {
+        if let Value::Buffer(id) = args.at(0) {
+            if editor.is_live(*id) && editor.count() < 256 {
+                editor.kill(*id)?;
+                return Ok(Reply::Value(Value::T));
+            }
+        }
+    }
+    Ok(Reply::Fault(Fault::BufferKilled))
+}
+
+fn is_wrong_type(reply: &Reply) -> bool {
+    matches!(reply, Reply::Fault(Fault::WrongType))
+}
+
+/// The reply of a call of any kind: each of the three tables refuses the calls of the others as a wrong type.
+pub fn reply(editor: &mut Editor, prim: Prim, args: &Values) -> Mem<Reply> {
+    if prim == Prim::KillBuffer {
+        return kill(editor, args);
+    }
+    let asked = query(editor, prim, args)?;
+    if !is_wrong_type(&asked) {
+        return Ok(asked);
+    }
+    let set = apply(editor, prim, args)?;
+    if !is_wrong_type(&set) {
+        return Ok(set);
+    }
+    let prepared = prepare(editor, prim, args)?;
+    make(editor, prepared)
+}
+
+/// What a call replies, as a text.
+pub fn said(editor: &mut Editor, prim: Prim, words: &[Word]) -> Mem<String> {
+    let args = arguments(editor.allocator(), words)?;
+    let reply = reply(editor, prim, &args)?;
+    shown(editor, &reply)
+}
+
+/// Compares the replies of calls with those that are expected.
+pub fn check_calls(rt: &impl Abort, editor: &mut Editor, shows: &str, calls: &[Call]) {
+    for (prim, words, expected) in calls {
+        let found = said(editor, *prim, words).expect(rt, "memory");
+        assert_eq!(rt; found.as_str(), *expected, "{shows}: {prim:?}");
+    }
+}
+
+/// Makes the calls of each row on an editor of its own.
+pub fn check_rows(rt: &impl Abort, alloc: Global, rows: &[Row]) {
+    for row in rows {
+        let mut editor = Editor::new(alloc).expect(rt, "an editor");
+        check_calls(rt, &mut editor, row.shows, row.calls);
+        editor.close();
+    }
+}

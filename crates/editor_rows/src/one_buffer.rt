@@ -1,0 +1,5 @@
+//! One buffer from its beginning to its end: each call at its edges.
+
+mod limits;
+mod scene;
+mod texts;

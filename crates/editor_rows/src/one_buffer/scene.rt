@@ -1,0 +1,201 @@
+//! A buffer with its pool.
+ghost use Rattle.std.specs.Prelude.{◌≡◌};
+
+use buffer_core::{Buffer, Marks};
+use ek_types::{Ch, Chars, Piece, PropSet, PropVal, Sym};
+use prop_intervals::PropEdit;
+use std::alloc::Global;
+use std::marker::Model;
+use std::process::Abort;
+use text_pool::Pool;
+
+pub const FACE: Sym = Sym(14);
+
+/// Buffer 0, which holds its text in this pool, with no marks beside it.
+pub struct Scene {
+    buffer: Buffer,
+    marks: Marks,
+    pool: Pool,
+    alloc: Global,
+}
+
+impl Model for Scene {
+    ghost use Rattle.std.specs.Prelude.{length};
+    ghost use Rattle.gap_text.specs.Text.{LiesIn};
+    ghost use Rattle.buffer_core.specs.Standing.{AreWithin};
+
+    ghost Value = { Unit {0} };
+
+    ghost view = { λ _. tt };
+
+    ghost invariant = { λ s. LiesIn s.pool s.buffer.text × AreWithin 0 (length s.buffer.sets) s.marks };
+}
+
+/// So many letters without properties.
+pub fn letters(rt: &impl Abort, alloc: Global, count: usize) -> Piece {
+    let mut chars = Chars::new(alloc);
+    for _ in 0..count {
+        chars.push(Ch::Scalar('x')).expect(rt, "a letter");
+    }
+    Piece::plain(alloc, chars)
+}
+
+/// A text without properties.
+pub fn plain(rt: &impl Abort, alloc: Global, text: &str) -> Piece {
+    let mut chars = Chars::new(alloc);
+    for c in text.chars() {
+        chars.push(Ch::Scalar(c)).expect(rt, "a character");
+    }
+    Piece::plain(alloc, chars)
+}
+
+impl Scene {
+    pub fn new(alloc: Global) -> Scene {
+        Scene {
+            buffer: Buffer::new(alloc),
+            marks: Marks::new(alloc),
+            pool: Pool::new(alloc),
+            alloc,
+        }
+    }
+
+    pub fn put(&mut self, rt: &impl Abort, at: usize, piece: &Piece) {
+        let _bounds = self.buffer.bounds();
+        let size = self.buffer.text().len();
+        assert!(rt; at <= size);
+        let done = self
+            .buffer
+            .replace(0, at, at, piece, false, &mut self.marks, &mut self.pool);
+        assert!(rt; done.is_ok());
+    }
+
+    pub fn insert(&mut self, rt: &impl Abort, at: usize, text: &str) {
+        let piece = plain(rt, self.alloc, text);
+        self.put(rt, at, &piece);
+    }
+
+    pub fn delete(&mut self, rt: &impl Abort, from: usize, to: usize) {
+        let nothing = Piece::plain(self.alloc, Chars::new(self.alloc));
+        let _bounds = self.buffer.bounds();
+        let size = self.buffer.text().len();
+        assert!(rt; from <= to && to <= size);
+        let done = self.buffer.replace(
+            0,
+            from,
+            to,
+            &nothing,
+            false,
+            &mut self.marks,
+            &mut self.pool,
+        );
+        assert!(rt; done.is_ok());
+    }
+
+    /// Gives a part a face, and says whether that changes something.
+    pub fn paint(&mut self, rt: &impl Abort, from: usize, to: usize, face: i64) -> bool {
+        let set = PropSet::empty(self.alloc).with(FACE, &PropVal::Int(face));
+        let edit = PropEdit::Replace(set.expect(rt, "a set"));
+        let _bounds = self.buffer.bounds();
+        let size = self.buffer.text().len();
+        assert!(rt; from <= to && to <= size);
+        self.buffer.reprop(from, to, &edit).expect(rt, "a change")
+    }
+
+    pub fn boundary(&mut self, rt: &impl Abort) {
+        let done = self.buffer.undo_boundary();
+        assert!(rt; done.is_ok());
+    }
+
+    pub fn narrow(&mut self, rt: &impl Abort, from: usize, to: usize) {
+        let _bounds = self.buffer.bounds();
+        let size = self.buffer.text().len();
+        assert!(rt; from <= to && to <= size);
+        self.buffer.narrow(from, to);
+    }
+
+    /// Point goes to a place.
+    pub fn go(&mut self, place: usize) {
+        self.buffer.goto_place(place);
+    }
+
+    /// The start and the end of the accessible portion, and point.
+    pub fn bounds(&self) -> (usize, usize, usize) {
+        let bounds = self.buffer.bounds();
+        (bounds.start, bounds.end, bounds.point)
+    }
+
+    pub fn is_modified(&self) -> bool {
+        self.buffer.modified()
+    }
+
+    /// How many undo records there are.
+    pub fn records(&self) -> usize {
+        self.buffer.undo().len()
+    }
+
+    /// Makes all records pending.
+    pub fn start(&mut self, rt: &impl Abort) {
+        let done = self.buffer.undo_start();
+        assert!(rt; done.is_ok());
+    }
+
+    /// Undoes so many groups of what is pending. Says whether there was anything, inside the accessible portion.
+    pub fn undo(&mut self, rt: &impl Abort, groups: u32) -> bool {
+        assert!(rt; groups > 0);
+        let bounds = self.buffer.bounds();
+        let (start, end) = (bounds.start, bounds.end);
+        match self
+            .buffer
+            .undo()
+            .plan(groups, start, end)
+            .expect(rt, "a plan")
+        {
+            Ok(plan) => {
+                let done = self
+                    .buffer
+                    .apply_plan(0, &plan, &mut self.marks, &mut self.pool);
+                assert!(rt; done.is_ok());
+                true
+            }
+            Err(_) => false,
+        }
+    }
+
+    /// How many characters there are.
+    pub fn size(&self) -> usize {
+        self.buffer.text().len()
+    }
+
+    /// The text, with a face behind each character that has one.
+    pub fn shown(&self, rt: &impl Abort) -> String {
+        let _bounds = self.buffer.bounds();
+        let size = self.buffer.text().len();
+        let piece = self
+            .buffer
+            .substring(0, size, &self.pool)
+            .expect(rt, "a text");
+        let mut text = String::new(self.alloc);
+        for i in 0..piece.len() {
+            if let Ch::Scalar(c) = piece.ch(i) {
+                text.push(c).expect(rt, "room");
+            }
+            if let Some(PropVal::Int(face)) = piece.props(i).get(FACE) {
+                let face = format!(in self.alloc; "{face}").expect(rt, "a number");
+                text.push_str(face.as_str()).expect(rt, "room");
+            }
+        }
+        text
+    }
+
+    /// Gives all blocks back, and says how many are left in the pool.
+    pub fn release(self) -> usize {
+        let Scene {
+            buffer,
+            marks: _,
+            mut pool,
+            alloc: _,
+        } = self;
+        buffer.release(&mut pool);
+        pool.live()
+    }
+}

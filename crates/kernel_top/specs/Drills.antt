@@ -1,0 +1,45 @@
+-- What a drill comes to: its script is run, and what the run says is counted and not written.
+use Rattle.std.specs.Prelude.{◌≡◌, ℕ, ◌%◌, ◌^◌, ◌++◌, All, List, codes, decimal, length, Result, Ok, Err}
+use Rattle.editor_model.specs.Editor.{characters_in}
+use Rattle.plain_machine.specs.Exchanges.{Exchange}
+use Rattle.plain_machine.specs.State.{State, Program}
+use Rattle.plain_machine.specs.Items.{Said}
+use Rattle.plain_machine.specs.Run.{lines}
+use Rattle.plain_machine.specs.WholeRuns.{Ran, BrokenOff}
+use Rattle.plain_machine.specs.Drill.{drill_script, summary}
+use Rattle.kernel_steps.specs.Outside.{deepest}
+use Rattle.kernel_steps.specs.Ending.{IsAnsweredKill}
+use Rattle.kernel_steps.specs.declared.stop.Stop.{Stop}
+use Rattle.kernel_top.specs.Counting.{line_feeds}
+use Rattle.kernel_top.specs.declared.summing.Counts.{Counts}
+
+-- A DRILL
+-- the drill's script has run to its end over just these exchanges, and the line is the summary of that run
+pub record SumsUp (program : Program) (count : ℕ) (exchanges : List Exchange) (line : List ℕ) : Type 0 where
+  pub unwritten : List ℕ
+  pub ran : Ran program deepest (drill_script count) exchanges unwritten
+  pub summed : line ≡ summary count ran.said exchanges ran.last.state
+
+-- the run of the drill's script was broken off, and these exchanges are those that it made and the kills
+pub record BreaksOff (program : Program) (count : ℕ) (exchanges : List Exchange) : Type 0 where
+  pub unwritten : List ℕ
+  pub broken : BrokenOff program deepest (drill_script count) exchanges unwritten
+  pub answered : All IsAnsweredKill broken.kills
+
+-- COUNTS
+-- the counts of a run, each modulo 2^64
+pub record AreCounts (said : List Said) (made : List Exchange) (last : State) (counts : Counts) : Type 0 where
+  pub lines : counts.lines ≡ line_feeds (lines said) % 2 ^ 64
+  pub exchanges : counts.exchanges ≡ length made % 2 ^ 64
+  pub characters : counts.characters ≡ characters_in last.editor.buffers % 2 ^ 64
+
+-- the line that tells them
+abbrev pub line_of : (count : ℕ) → Counts → List ℕ
+line_of count counts =
+    codes "drill " ++ (decimal count ++ (codes ": " ++ (decimal counts.lines ++ (codes " lines, " ++
+    (decimal counts.exchanges ++ (codes " exchanges, " ++ (decimal counts.characters ++ codes " characters\n")))))))
+
+-- the drill's script was run and counted, or that run was broken off
+abbrev pub Counted : Result Counts Stop → Program → (count : ℕ) → List Exchange → Type 0
+Counted (Ok counts) program count exchanges = SumsUp program count exchanges (line_of count counts)
+Counted (Err why) program count exchanges = BreaksOff program count exchanges

@@ -1,0 +1,304 @@
+//! Handlers that set others, wait, start, delete and kill while they are running themselves.
+
+use super::playing::{Child, Row, check_rows, check_run, play};
+use std::test::Fail;
+
+/// Runs, each with its lines and its exchanges.
+pub const ROWS: [Row; 6] = [
+    Row {
+        shows: "a filter that sets another in its place, which gets what was held and comes next",
+        script: r#"(defhandler f (p s) (set-process-filter p 'g)(accept-process-output p))
+(defhandler g (p s))
+(setq p (start-process "c" nil "cat"))(set-process-filter p 'f)(accept-process-output p)(accept-process-output p)"#,
+        children: &[Child {
+            reads: &[b"a\xE2", b"\x82\xACb", b"c"],
+            ends: &[],
+        }],
+        lines: r#"= #<process c>
+= f
+> filter f #<process c> "a"
+  = g
+  > filter g #<process c> "€b"
+  < g
+  = t
+< f
+= t
+> filter g #<process c> "c"
+< g
+= t
+kill #<process c>
+buffer *scratch* point 1 min 1 max 1 modified nil current
+text ""
+marker 0 #<marker in no buffer>
+process 0 #<process c> run 0
+"#,
+        exchanges: b"spawn cat: started 0
+read 0: bytes a\xE2
+read 0: bytes \x82\xACb
+read 0: bytes c
+kill 0: killed
+",
+    },
+    Row {
+        shows: "a filter that is off while it waits",
+        script: r#"(defhandler f (p s) (set-process-filter p t)(accept-process-output p)(set-process-filter p nil))
+(setq p (start-process "c" nil "cat"))(set-process-filter p 'f)(accept-process-output p)(accept-process-output p)"#,
+        children: &[Child {
+            reads: &[b"a", b"b"],
+            ends: &[],
+        }],
+        lines: r#"= #<process c>
+= f
+> filter f #<process c> "a"
+  = t
+  = nil
+  = nil
+< f
+= t
+> filter default #<process c> "b"
+< default
+= t
+kill #<process c>
+buffer *scratch* point 1 min 1 max 1 modified nil current
+text ""
+marker 0 #<marker in no buffer>
+process 0 #<process c> run 0
+"#,
+        exchanges: b"spawn cat: started 0
+read 0: bytes a
+read 0: bytes b
+kill 0: killed
+",
+    },
+    Row {
+        shows: "two filters that wait for each other's process, until one ends",
+        script: r#"(defhandler f (p s) (accept-process-output q))
+(defhandler g (p s) (accept-process-output r))
+(setq r (start-process "r" nil "a"))(setq q (start-process "q" nil "b"))
+(set-process-filter r 'f)(set-process-filter q 'g)(accept-process-output r)"#,
+        children: &[
+            Child {
+                reads: &[b"a", b"c"],
+                ends: &[],
+            },
+            Child {
+                reads: &[b"b", b"d"],
+                ends: &[],
+            },
+        ],
+        lines: r#"= #<process r>
+= #<process q>
+= f
+= g
+> filter f #<process r> "a"
+  > filter g #<process q> "b"
+    > filter f #<process r> "c"
+      > filter g #<process q> "d"
+        > sentinel default #<process r> "finished\n"
+        < default
+        = nil
+      < g
+      = t
+    < f
+    = t
+  < g
+  = t
+< f
+= t
+kill #<process q>
+buffer *scratch* point 1 min 1 max 1 modified nil current
+text ""
+marker 0 #<marker in no buffer>
+marker 1 #<marker in no buffer>
+process 0 #<process r> exit 0
+process 1 #<process q> run 0
+"#,
+        exchanges: b"spawn a: started 0
+spawn b: started 1
+read 0: bytes a
+read 1: bytes b
+read 0: bytes c
+read 1: bytes d
+read 0: end
+read 1: end
+end 0: code 0
+kill 1: killed
+",
+    },
+    Row {
+        shows: "a filter that kills its own buffer",
+        script: r#"(defhandler f (p s) (setq b (process-buffer p))(kill-buffer b)(process-buffer p)(process-mark p))
+(setq p (start-process "c" "out" "cat"))(set-process-filter p 'f)(accept-process-output p)(accept-process-output p)"#,
+        children: &[Child {
+            reads: &[b"a", b"b"],
+            ends: &[],
+        }],
+        lines: r#"= #<process c>
+= f
+> filter f #<process c> "a"
+  = #<buffer out>
+  > sentinel default #<process c> "killed\n"
+  < default
+  = t
+  = #<killed buffer>
+  = #<marker in no buffer>
+< f
+= t
+= nil
+buffer *scratch* point 1 min 1 max 1 modified nil current
+text ""
+marker 0 #<marker in no buffer>
+process 0 #<process c> signal nil
+"#,
+        exchanges: b"spawn cat: started 0
+read 0: bytes a
+kill 0: killed
+",
+    },
+    Row {
+        shows: "a filter that deletes its own process, whose sentinel deletes it once more",
+        script: r#"(defhandler f (p s) (delete-process p)(process-status p)(get-process "c"))
+(defhandler s (p m) (get-process "c")(process-status p)(delete-process p))
+(setq p (start-process "c" nil "cat"))(set-process-filter p 'f)(set-process-sentinel p 's)
+(accept-process-output)(accept-process-output)"#,
+        children: &[Child {
+            reads: &[b"a\xE2", b"\x82\xAC"],
+            ends: &[],
+        }],
+        lines: r#"= #<process c>
+= f
+= s
+> filter f #<process c> "a"
+  > sentinel s #<process c> "killed\n"
+    = #<process c>
+    = signal
+    = nil
+  < s
+  = nil
+  = signal
+  = nil
+< f
+= t
+= nil
+buffer *scratch* point 1 min 1 max 1 modified nil current
+text ""
+marker 0 #<marker in no buffer>
+process 0 #<process c> signal nil
+"#,
+        exchanges: b"spawn cat: started 0
+read 0: bytes a\xE2
+kill 0: killed
+",
+    },
+    Row {
+        shows: "a filter that starts a process, which the wait asks in its next round",
+        script: r#"(defhandler f (p s) (start-process "d" "out" "b"))
+(setq p (start-process "c" nil "a"))(set-process-filter p 'f)
+(setq z (start-process "z" nil "z"))(accept-process-output z)"#,
+        children: &[
+            Child {
+                reads: &[b"x"],
+                ends: &[],
+            },
+            Child {
+                reads: &[b"", b"", b"z"],
+                ends: &[],
+            },
+            Child {
+                reads: &[b"y"],
+                ends: &[],
+            },
+        ],
+        lines: r#"= #<process c>
+= f
+= #<process z>
+> filter f #<process c> "x"
+  = #<process d>
+< f
+> filter default #<process d> "y"
+< default
+> filter default #<process z> "z"
+< default
+= t
+kill #<process c>
+kill #<process z>
+kill #<process d>
+buffer *scratch* point 1 min 1 max 1 modified nil current
+text ""
+buffer out point 2 min 1 max 2 modified t
+text "y"
+marker 0 #<marker in no buffer>
+marker 1 #<marker in no buffer>
+marker 2 #<marker at 2 in out>
+process 0 #<process c> run 0
+process 1 #<process z> run 0
+process 2 #<process d> run 0
+"#,
+        exchanges: b"spawn a: started 0
+spawn z: started 1
+read 1: nothing
+read 0: bytes x
+spawn b: started 2
+read 1: nothing
+read 0: end
+read 2: bytes y
+read 1: bytes z
+kill 0: killed
+kill 1: killed
+kill 2: killed
+",
+    },
+];
+
+#[test]
+fn reentry(rt: HostRuntime) -> Result<(), Fail> {
+    check_rows(&rt, rt.alloc(), &ROWS)
+}
+
+/// How many children end, each of whose sentinels starts the next one. The last one's finds none.
+const CHILDREN: usize = 251;
+
+/// A process is listed while its sentinel is running, so its successor can't have its name, and the
+/// next one can.
+#[test]
+fn a_sentinel_that_starts_its_successor(rt: HostRuntime) -> Result<(), Fail> {
+    let mut plays = Vec::new(rt.alloc());
+    let mut lines = String::from_str(rt.alloc(), "= #<process c>\n= s\n")?;
+    let mut exchanges = String::new(rt.alloc());
+    let mut marks = String::new(rt.alloc());
+    let mut ended = String::new(rt.alloc());
+    for child in 0..CHILDREN {
+        let (name, next) = if child % 2 == 0 {
+            ("c", "c<1>")
+        } else {
+            ("c<1>", "c")
+        };
+        plays.push(play(rt.alloc(), &[], &[])?)?;
+        write!(
+            exchanges,
+            "spawn cat: started {child}\nread {child}: end\nend {child}: code 0\n"
+        )?;
+        write!(lines, "> sentinel s #<process {name}> \"finished\\n\"\n")?;
+        if child < CHILDREN - 1 {
+            write!(lines, "  = #<process {next}>\n  = s\n< s\n")?;
+        }
+        write!(marks, "marker {child} #<marker in no buffer>\n")?;
+        write!(ended, "process {child} #<process {name}> exit 0\n")?;
+    }
+    exchanges.push_str("spawn cat: refused\n")?;
+    lines.push_str(
+        "  ! 12 spawn-failed\n< s\n= nil\nbuffer *scratch* point 1 min 1 max 1 modified nil current\ntext \"\"\n",
+    )?;
+    lines.push_str(marks.as_str())?;
+    lines.push_str(ended.as_str())?;
+    check_run(
+        &rt,
+        rt.alloc(),
+        "successors",
+        r#"(defhandler s (p m) (setq p (start-process "c" nil "cat"))(set-process-sentinel p 's))
+(setq p (start-process "c" nil "cat"))(set-process-sentinel p 's)(accept-process-output)"#,
+        plays,
+        lines.as_str(),
+        exchanges.as_bytes(),
+    )
+}

@@ -1,0 +1,172 @@
+//! A dump with all there is: live, narrowed and killed buffers, markers and overlays in each, and ended processes.
+ghost use Rattle.std.specs.Prelude.{◌≡◌, ◌≤◌, true};
+ghost use Rattle.editor_model.specs.Editor.{is_live};
+ghost use Rattle.buffer_table.specs.Kept.{editor_of};
+
+use super::{EVAPORATE, PRIORITY, letters, mark, new_sink};
+use crate::{Names, dump};
+use buffer_table::Editor;
+use ek_types::{Ch, Mem, Piece, PropSet, PropVal, Sym, SymList, Symbols};
+use process_table::{Processes, Status};
+use std::alloc::Global;
+use std::process::Abort;
+
+const FRONT_STICKY: Sym = Sym(0);
+
+const RUN: Sym = Sym(6);
+
+const EXIT: Sym = Sym(7);
+
+const SIGNAL: Sym = Sym(8);
+
+/// Sets of each kind of value: names, a string, and a number with a name.
+fn sets(alloc: Global) -> Mem<[PropSet; 3]> {
+    let mut names = SymList::new(alloc);
+    names.push(EVAPORATE)?;
+    names.push(PRIORITY)?;
+    let empty = PropSet::empty(alloc);
+    let mut text = letters(alloc, b"x\"")?;
+    text.push(Ch::Raw(0x80))?;
+    Ok([
+        empty.with(FRONT_STICKY, &PropVal::Syms(names))?,
+        empty.with(RUN, &PropVal::Text(text))?,
+        empty
+            .with(EXIT, &PropVal::Sym(SIGNAL))?
+            .with(PRIORITY, &PropVal::Int(-5))?,
+    ])
+}
+
+/// Three letters with a set each.
+fn decorated(alloc: Global) -> Mem<Piece> {
+    let mut text = Piece::plain(alloc, letters(alloc, b"abc")?);
+    for (i, set) in sets(alloc)?.iter().enumerate() {
+        if i < text.len() {
+            text.put(i, i + 1, set)?;
+        }
+    }
+    Ok(text)
+}
+
+/// A new buffer.
+fn buffer(rt: &impl Abort, alloc: Global, editor: &mut Editor, name: &[u8]) -> u32 {
+    let name = letters(alloc, name).expect(rt, "a name");
+    assert!(rt; editor.count() < 9 && editor.find(&name).is_none());
+    editor.make(&name).expect(rt, "a buffer")
+}
+
+fn fill(rt: &impl Abort, editor: &mut Editor, id: u32, text: &Piece) {
+    assert!(rt; editor.is_live(id));
+    editor.replace(id, 0, 0, text, false).expect(rt, "room");
+}
+
+/// An overlay over the first `to` characters of a buffer.
+fn overlay(rt: &impl Abort, editor: &mut Editor, id: u32, to: usize) -> u32 {
+    let size = editor.size(id);
+    assert!(rt; editor.overlay_count() < 9 && editor.is_live(id) && to <= size);
+    let k = editor.make_overlay(id, 0, to, false, false);
+    k.expect(rt, "an overlay")
+}
+
+/// A property of an overlay.
+fn put(rt: &impl Abort, editor: &mut Editor, k: u32, name: Sym, value: &PropVal) {
+    assert!(rt; k < editor.overlay_count());
+    editor.put_overlay(k, name, Some(value)).expect(rt, "room");
+}
+
+/// `*scratch*` with two letters, a marker of each type and an overlay.
+fn furnish_first(rt: &impl Abort, alloc: Global, editor: &mut Editor) {
+    let text = Piece::plain(alloc, letters(alloc, b"ab").expect(rt, "letters"));
+    fill(rt, editor, 0, &text);
+    mark(rt, editor, 0, 1, false);
+    mark(rt, editor, 0, 1, true);
+    overlay(rt, editor, 0, 1);
+    assert!(rt; editor.is_live(0));
+    editor.set_modified(0, false);
+}
+
+/// A buffer of which the second of three characters is accessible, with a marker of each type outside and an overlay.
+fn furnish_second(rt: &impl Abort, alloc: Global, editor: &mut Editor) {
+    let id = buffer(rt, alloc, editor, b"v\"\\\n");
+    fill(rt, editor, id, &decorated(alloc).expect(rt, "a text"));
+    mark(rt, editor, id, 0, false);
+    mark(rt, editor, id, 3, true);
+    let k = overlay(rt, editor, id, 3);
+    put(rt, editor, k, PRIORITY, &PropVal::Int(5));
+    put(rt, editor, k, EVAPORATE, &PropVal::Truth);
+    let size = editor.size(id);
+    assert!(rt; editor.is_live(id) && size == 3);
+    editor.narrow(id, 1, 2);
+    assert!(rt; editor.is_live(id));
+    editor.set_current(id);
+}
+
+/// A killed buffer that had a marker of each type and an overlay.
+fn furnish_third(rt: &impl Abort, alloc: Global, editor: &mut Editor) {
+    let id = buffer(rt, alloc, editor, b"w");
+    mark(rt, editor, id, 0, false);
+    mark(rt, editor, id, 0, true);
+    let k = overlay(rt, editor, id, 0);
+    put(rt, editor, k, PRIORITY, &PropVal::Int(5));
+    assert!(rt; editor.is_live(id) && editor.count() < 9);
+    editor.kill(id).expect(rt, "a death");
+    let k = overlay(rt, editor, 0, 0);
+    assert!(rt; k < editor.overlay_count());
+    editor.remove_overlay(k);
+}
+
+/// A process of each status.
+fn processes(rt: &impl Abort, alloc: Global) -> Processes {
+    let mut table = Processes::new(alloc);
+    for status in [Status::Run, Status::Exit(3), Status::Signal, Status::Failed] {
+        let name = letters(alloc, b"c").expect(rt, "a name");
+        let name = table.free_name(&name).expect(rt, "a name");
+        assert!(rt; table.count() < 9);
+        let p = table.add(&name, 0, None, 0).expect(rt, "a process");
+        assert!(rt; p < table.count());
+        table.note_end(p, status);
+    }
+    table
+}
+
+#[test]
+fn a_dump_of_all_there_is(rt: HostRuntime) {
+    let alloc = rt.alloc();
+    let symbols = Symbols::new(alloc).expect(&rt, "symbols");
+    let processes = processes(&rt, alloc);
+    let mut sink = new_sink(&rt, alloc, 2000, 2000);
+    let mut editor = Editor::new(alloc).expect(&rt, "an editor");
+    furnish_first(&rt, alloc, &mut editor);
+    furnish_second(&rt, alloc, &mut editor);
+    furnish_third(&rt, alloc, &mut editor);
+    let names = Names {
+        editor: &editor,
+        processes: &processes,
+        symbols: &symbols,
+    };
+    let written = dump(&names, &mut sink);
+    assert!(rt; written.is_ok());
+    editor.close();
+    assert_eq!(rt;
+        sink.bytes(),
+        br#"buffer *scratch* point 3 min 1 max 3 modified nil
+text "ab"
+buffer v\"\\\n point 3 min 2 max 3 modified t current
+text #("abc" 0 1 (front-sticky (evaporate priority)) 1 2 (run "x\"\200") 2 3 (priority -5 exit signal))
+marker 0 #<marker at 2 in *scratch*>
+marker 1 #<marker (moves after insertion) at 2 in *scratch*>
+marker 2 #<marker at 1 in v\"\\\n>
+marker 3 #<marker (moves after insertion) at 4 in v\"\\\n>
+marker 4 #<marker in no buffer>
+marker 5 #<marker (moves after insertion) in no buffer>
+overlay 0 #<overlay from 1 to 2 in *scratch*> nil
+overlay 1 #<overlay from 1 to 4 in v\"\\\n> (evaporate t priority 5)
+overlay 2 #<overlay in no buffer> (priority 5)
+overlay 3 #<overlay in no buffer> nil
+process 0 #<process c> run 0
+process 1 #<process c<1>> exit 3
+process 2 #<process c<2>> signal nil
+process 3 #<process c<3>> failed nil
+"#
+            .as_slice()
+    );
+}
