@@ -79,29 +79,41 @@ fn waits(alloc: Global, count: usize) -> Result<String, Fail> {
     Ok(script)
 }
 
-/// The lines of waits that hear these texts, where an empty one enters nothing.
-fn lines(alloc: Global, heard: &[&str]) -> Result<String, Fail> {
-    let mut lines = String::from_str(alloc, "= #<process c>\n")?;
+/// The lines of waits that hear these texts of a process, where an empty one enters nothing.
+fn push_heard(lines: &mut String, process: &str, heard: &[&str]) -> Result<(), Fail> {
     for text in heard {
         if !text.is_empty() {
             write!(
                 lines,
-                "> filter default #<process c> \"{text}\"\n< default\n"
+                "> filter default #<process {process}> \"{text}\"\n< default\n"
             )?;
         }
         lines.push_str("= t\n")?;
     }
+    Ok(())
+}
+
+/// The lines of waits that hear these texts of the process `c`.
+fn lines(alloc: Global, heard: &[&str]) -> Result<String, Fail> {
+    let mut lines = String::from_str(alloc, "= #<process c>\n")?;
+    push_heard(&mut lines, "c", heard)?;
     Ok(lines)
 }
 
-/// The exchanges of a child that gives these bytes and ends.
-fn exchanges(alloc: Global, reads: &[&[u8]]) -> Result<Vec<u8>, Fail> {
-    let mut exchanges = b"spawn cat: started 0\n".to_vec(alloc)?;
+/// The exchanges that give these bytes.
+fn push_reads(exchanges: &mut Vec<u8>, reads: &[&[u8]]) -> Result<(), Fail> {
     for read in reads {
         exchanges.extend_from_slice(b"read 0: bytes ")?;
         exchanges.extend_from_slice(read)?;
         exchanges.extend_from_slice(b"\n")?;
     }
+    Ok(())
+}
+
+/// The exchanges of a child that gives these bytes and ends.
+fn exchanges(alloc: Global, reads: &[&[u8]]) -> Result<Vec<u8>, Fail> {
+    let mut exchanges = b"spawn cat: started 0\n".to_vec(alloc)?;
+    push_reads(&mut exchanges, reads)?;
     exchanges.extend_from_slice(b"read 0: end\nend 0: code 0\n")?;
     Ok(exchanges)
 }
@@ -183,19 +195,46 @@ process 0 #<process c> exit 0
     )
 }
 
-/// The pieces of what a sorting child writes, with their texts as they are shown.
-type Pieces = &'static [(&'static [u8], &'static str)];
+/// The pieces of what a sorting child writes, and their texts as they are shown.
+struct Cutting {
+    reads: &'static [&'static [u8]],
+    texts: &'static [&'static str],
+}
 
 /// Each cutting of the four bytes.
-const CUTTINGS: [Pieces; 8] = [
-    &[(b"a\nb\n", r"a\nb\n")],
-    &[(b"a", "a"), (b"\nb\n", r"\nb\n")],
-    &[(b"a\n", r"a\n"), (b"b\n", r"b\n")],
-    &[(b"a\nb", r"a\nb"), (b"\n", r"\n")],
-    &[(b"a", "a"), (b"\n", r"\n"), (b"b\n", r"b\n")],
-    &[(b"a", "a"), (b"\nb", r"\nb"), (b"\n", r"\n")],
-    &[(b"a\n", r"a\n"), (b"b", "b"), (b"\n", r"\n")],
-    &[(b"a", "a"), (b"\n", r"\n"), (b"b", "b"), (b"\n", r"\n")],
+const CUTTINGS: [Cutting; 8] = [
+    Cutting {
+        reads: &[b"a\nb\n"],
+        texts: &[r"a\nb\n"],
+    },
+    Cutting {
+        reads: &[b"a", b"\nb\n"],
+        texts: &["a", r"\nb\n"],
+    },
+    Cutting {
+        reads: &[b"a\n", b"b\n"],
+        texts: &[r"a\n", r"b\n"],
+    },
+    Cutting {
+        reads: &[b"a\nb", b"\n"],
+        texts: &[r"a\nb", r"\n"],
+    },
+    Cutting {
+        reads: &[b"a", b"\n", b"b\n"],
+        texts: &["a", r"\n", r"b\n"],
+    },
+    Cutting {
+        reads: &[b"a", b"\nb", b"\n"],
+        texts: &["a", r"\nb", r"\n"],
+    },
+    Cutting {
+        reads: &[b"a\n", b"b", b"\n"],
+        texts: &[r"a\n", "b", r"\n"],
+    },
+    Cutting {
+        reads: &[b"a", b"\n", b"b", b"\n"],
+        texts: &["a", r"\n", "b", r"\n"],
+    },
 ];
 
 /// The lines behind the last piece.
@@ -215,30 +254,23 @@ process 0 #<process sorted> exit 3
 /// end comes last.
 #[test]
 fn the_output_of_a_sort_in_each_cutting(rt: HostRuntime) -> Result<(), Fail> {
-    for pieces in CUTTINGS {
+    for Cutting { reads, texts } in CUTTINGS {
         let mut script = String::from_str(
             rt.alloc(),
             "(defhandler s (p m))\n(setq p (start-process \"sorted\" \"out\" \"sort\"))(set-process-sentinel p 's)",
         )?;
-        let mut lines = String::from_str(rt.alloc(), "= #<process sorted>\n= s\n")?;
-        let mut exchanges = b"spawn sort: started 0\n".to_vec(rt.alloc())?;
-        let mut reads = Vec::new(rt.alloc());
-        for (bytes, text) in pieces {
+        for _ in reads {
             script.push_str("(accept-process-output p)")?;
-            write!(
-                lines,
-                "> filter default #<process sorted> \"{text}\"\n< default\n= t\n"
-            )?;
-            exchanges.extend_from_slice(b"read 0: bytes ")?;
-            exchanges.extend_from_slice(bytes)?;
-            exchanges.extend_from_slice(b"\n")?;
-            reads.push(*bytes)?;
         }
         script.push_str("(accept-process-output p)(process-exit-status p)")?;
+        let mut lines = String::from_str(rt.alloc(), "= #<process sorted>\n= s\n")?;
+        push_heard(&mut lines, "sorted", texts)?;
         lines.push_str(SORTED)?;
+        let mut exchanges = b"spawn sort: started 0\n".to_vec(rt.alloc())?;
+        push_reads(&mut exchanges, reads)?;
         exchanges.extend_from_slice(b"read 0: end\nend 0: code 3\n")?;
         let mut plays = Vec::new(rt.alloc());
-        plays.push(play(rt.alloc(), reads.as_slice(), &[Ended::Code(3)])?)?;
+        plays.push(play(rt.alloc(), reads, &[Ended::Code(3)])?)?;
         check_run(
             &rt,
             rt.alloc(),
