@@ -1,32 +1,16 @@
 -- Finding a listed process by its name, and names that differ.
 use Rattle.std.proofs.Common.{◌≡◌, ◌≢◌, ℕ, zero, suc, ◌+◌, ◌<◌, ◌≤◌, Bool, true, false, List, [], ◌∷◌, ◌++◌, length, map, drop, refl, ap, sym, ◌∙◌, arith}
 use Rattle.std.specs.Prelude.{◌==◌, ◌&&◌, slice_get, slice_set, Option, Some, None, option_map}
-use Rattle.std.proofs.lemmas.Bool.{eqb-true, and_parts}
+use Rattle.std.proofs.lemmas.Bool.{eqb-true}
 use Rattle.std.proofs.lemmas.Option.{slice_get-map, slice_get_within}
 use Rattle.text_model.specs.Characters.{Ch}
 use Rattle.text_model.specs.Properties.{same_ch}
-use Rattle.text_model.proofs.Sameness.{same_ch-same, same_ch-sound}
 use Rattle.text_model.proofs.Lists.{set_same, set_other, get_front, drop_at}
 use Rattle.editor_model.specs.Editor.{Name, same_name}
+use Rattle.editor_model.proofs.NumberedNames.{same_name-same}
 use Rattle.plain_machine.specs.State.{Process}
 use Rattle.plain_machine.specs.Arguments.{find_process}
 use Rattle.process_table.specs.Table.{NamesDiffer}
-
--- NAMES
-
-pub same_name-refl : (n : Name) → same_name n n ≡ true
-same_name-refl [] = refl
-same_name-refl (c ∷ n) = rw (same_ch-same c, same_name-refl n) refl
-
-pub same_name-sound : (a b : Name) → same_name a b ≡ true → a ≡ b
-same_name-sound [] [] e = refl
-same_name-sound [] (y ∷ ys) e = cc
-same_name-sound (x ∷ xs) [] e = cc
-same_name-sound (x ∷ xs) (y ∷ ys) e =
-    let t : (same_ch x y ≡ true) × (same_name xs ys ≡ true) = and_parts _ _ e in
-    let p : x ≡ y = same_ch-sound x y t.0 in
-    let q : xs ≡ ys = same_name-sound xs ys t.1 in
-    cc
 
 -- WHAT FINDING LOOKS AT
 abbrev pub chosen : (b : Bool) (k : ℕ) → Option ℕ → Option ℕ
@@ -143,7 +127,7 @@ differ_added xs new on free differ q y at listed = go (slice_get xs q) refl
         go_last past =
             let last : (q ≡ length xs) × (new ≡ y) = get_last xs q new y past at in
             let name : new.name ≡ y.name = ap (λ (z : Process). z.name) last.1 in
-            let test : (new.listed && same_name new.name new.name) ≡ true = rw (on, same_name-refl new.name) refl in
+            let test : (new.listed && same_name new.name new.name) ≡ true = rw (on, same_name-same new.name) refl in
             ap (find_process 0 (xs ++ new ∷ [])) (sym name) ∙ find_behind 0 xs (new ∷ []) new.name free ∙ ap (λ b. chosen b (0 + length xs) None) test ∙ ap Some (omega (arith, last.0))
 
 -- STEP BY STEP
