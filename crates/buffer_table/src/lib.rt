@@ -11,8 +11,6 @@ mod questions;
 mod registers;
 mod room;
 mod table;
-#[cfg(test)]
-mod tests;
 mod whole;
 
 pub use editor::Editor;

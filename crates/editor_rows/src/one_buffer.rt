@@ -1,5 +1,5 @@
 //! One buffer from its beginning to its end: each call at its edges.
 
 mod limits;
-mod scene;
+pub mod scene;
 mod texts;

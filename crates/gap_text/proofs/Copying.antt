@@ -7,8 +7,8 @@ use Rattle.gap_text.specs.Text.{Gapped, codes, characters, AreCodes, LiesIn}
 use Rattle.gap_text.proofs.BlockLemmas.{apart_nil, absent_split, apart_sym, distinct_split, live_split}
 use Rattle.gap_text.proofs.Rows.{length_row}
 use Rattle.gap_text.proofs.Moves.{no_change, one_more_change}
-use Rattle.gap_text.proofs.Texts.{made, Spliced}
-use Rattle.gap_text.proofs.Elsewhere.{SameText, same_characters, text_elsewhere, live_elsewhere}
+use Rattle.gap_text.proofs.Texts.{made}
+use Rattle.gap_text.proofs.Elsewhere.{SameText, text_elsewhere, live_elsewhere}
 
 -- the first codes of a text are in the first cells of a row
 pub record Copying (blocks : List ℕ) (source : Gapped) (first pool : Pooled) (count : ℕ) : Type 0 where
@@ -120,12 +120,3 @@ pub still_beside : (first middle last : Pooled) (source : Gapped) (blocks : List
 still_beside first middle last source blocks b others =
     let next = text_elsewhere middle last source blocks others b.apart b.same.lies in
     record { lies = next.lies; codes = next.codes ∙ b.same.codes }
-
--- a text stays where its copy changed and was given back
-pub outlives_a_copy : (first second third last : Pooled) (source : Gapped) (blocks given : List ℕ) → LiesIn first source → LiesIn second source → characters second source ≡ characters first source → OnlyFresh first [] blocks
-    → given ≡ blocks → SameOutside blocks second third → SameOutside given third last → Spliced last source (characters first source)
-outlives_a_copy first second third last source blocks given lies stays same fresh is others last_others =
-    let apart : Apart source.blocks blocks = apart_from_fresh first [] blocks source.blocks fresh lies.blocks (apart_nil source.blocks) in
-    let once = text_elsewhere second third source blocks others apart stays in
-    let twice = text_elsewhere third last source blocks (subst (λ b. SameOutside b third last) is last_others) apart once.lies in
-    record { lies = twice.lies; is = same_characters third last source source twice ∙ same_characters second third source source once ∙ same }

@@ -3,8 +3,6 @@
 
 mod growth;
 mod row;
-#[cfg(test)]
-mod tests;
 mod text;
 
 pub use text::Text;

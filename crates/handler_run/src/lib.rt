@@ -6,8 +6,6 @@ mod answers;
 mod asking;
 mod entry;
 mod slot;
-#[cfg(test)]
-mod tests;
 mod told;
 
 pub use answers::{ended, enter};

@@ -9,8 +9,6 @@ mod part;
 mod room;
 mod search;
 mod slot;
-#[cfg(test)]
-mod tests;
 
 pub use markers::Markers;
 pub use room::Room;

@@ -3,8 +3,6 @@
 
 mod bounds;
 mod kept;
-#[cfg(test)]
-mod tests;
 
 pub use bounds::Bounds;
 pub use kept::{Saved, SavedStack};

@@ -8,8 +8,6 @@ mod moves;
 mod overlays;
 mod search;
 mod slot;
-#[cfg(test)]
-mod tests;
 mod tree;
 
 pub use laws::{overlays_keep_their_ends_in_order, the_winner_wins_over_each_other};

@@ -6,8 +6,6 @@ mod names;
 mod place;
 mod process;
 mod processes;
-#[cfg(test)]
-mod tests;
 
 pub use laws::{changes_stand, processes_stand};
 pub use place::Place;

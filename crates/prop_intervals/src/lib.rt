@@ -10,8 +10,6 @@ mod pieces;
 mod props;
 mod questions;
 mod splice;
-#[cfg(test)]
-mod tests;
 mod tree;
 
 pub use edit::PropEdit;

@@ -4,8 +4,6 @@
 mod inherit;
 mod laws;
 mod side;
-#[cfg(test)]
-mod tests;
 
 pub use inherit::inherited;
 pub use laws::{the_character_before_comes_first, what_neighbours_offer};

@@ -5,8 +5,6 @@ mod laws;
 mod plan;
 mod rec;
 mod records;
-#[cfg(test)]
-mod tests;
 mod undo;
 mod walk;
 

@@ -2,23 +2,14 @@
 ghost use Rattle.std.specs.Prelude.{◌≡◌, ◌<◌, ◌≤◌, [], length};
 ghost use Rattle.handler_run.specs.Answers.{IsRead};
 
-use crate::{Entry, ended, enter, ready};
+use super::processes::one;
 use ek_call::{Value, Values};
-use ek_types::{Ch, Chars, Sym};
+use ek_types::{Ch, Sym};
+use handler_run::{Entry, ended, enter, ready};
 use host_link::{Ended, Got};
 use process_table::{Filter, Processes, Status};
 use std::alloc::Global;
 use std::process::Abort;
-
-/// A process by itself.
-fn one(rt: &impl Abort, alloc: Global) -> Processes
-    ensures { length result ≡ 1 }
-{
-    let mut table = Processes::new(alloc);
-    let name = Chars::new(alloc);
-    table.add(&name, 0, None, 0).expect(rt, "a process");
-    table
-}
 
 /// What is entered for the answer to a read.
 fn read(rt: &impl Abort, alloc: Global, table: &mut Processes, got: Got, bytes: &[u8]) -> Entry

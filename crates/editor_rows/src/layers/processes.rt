@@ -1,9 +1,9 @@
 //! What runs: names after an unlisting, a character cut in two, arguments, and what each call changes.
 ghost use Rattle.std.specs.Prelude.{◌≡◌, ◌+◌, ◌<◌, length};
 
-use crate::{Filter, Processes, Status};
 use ek_call::{Fault, Value};
 use ek_types::{Ch, Chars, Piece, Sym};
+use process_table::{Filter, Processes, Status};
 use std::alloc::Global;
 use std::process::Abort;
 
@@ -60,7 +60,7 @@ fn names_after_an_unlisting(rt: HostRuntime) {
 }
 
 /// A process by itself, which isn't drained.
-fn one(rt: &impl Abort, alloc: Global) -> Processes
+pub fn one(rt: &impl Abort, alloc: Global) -> Processes
     ensures { length result ≡ 1 }
 {
     let mut table = Processes::new(alloc);

@@ -1,5 +1,5 @@
 use Rattle.std.proofs.Common.{◌≡◌, length}
-use Rattle.gap_text.proofs.tests.letters.Given as goal
+use Rattle.editor_rows.proofs.layers.texts.letters.Given as goal
 
 abbrev pub invariant-loop-i : goal.invariant-loop-i
 invariant-loop-i l = length l.text.items ≡ l.i

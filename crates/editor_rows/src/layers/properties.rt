@@ -1,8 +1,8 @@
 //! Worked cases of property sets, and the time of many insertions.
 ghost use Rattle.std.specs.Prelude.{◌≡◌, ◌+◌, ◌-◌, ◌<◌, ◌≤◌, ◌^◌, length, IfOk};
 
-use crate::{PropEdit, Props};
 use ek_types::{Ch, Chars, Mem, Piece, PropSet, PropVal, Sym, SymList};
+use prop_intervals::{PropEdit, Props};
 use std::alloc::Global;
 use std::test::Fail;
 

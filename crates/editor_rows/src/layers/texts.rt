@@ -2,8 +2,8 @@
 ghost use Rattle.std.specs.Prelude.{◌≡◌, length, IfOk};
 ghost use Rattle.gap_text.specs.Text.{LiesIn, characters};
 
-use crate::Text;
 use ek_types::{Ch, Chars, Mem};
+use gap_text::Text;
 use std::alloc::Global;
 use std::process::Abort;
 use text_pool::Pool;

@@ -1,8 +1,8 @@
 //! Worked cases of overlays. Emacs counts positions from 1, and places count from 0.
 ghost use Rattle.std.specs.Prelude.{◌≤◌};
 
-use crate::{Numbers, Overlays};
 use ek_types::{Mem, PropVal, Sym};
+use overlay_set::{Numbers, Overlays};
 use std::process::Abort;
 use std::test::Fail;
 

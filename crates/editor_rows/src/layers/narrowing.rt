@@ -1,7 +1,7 @@
 //! Worked cases of narrowing and of kept places.
 ghost use Rattle.std.specs.Prelude.{◌≡◌, ◌≤◌};
 
-use crate::{Bounds, Saved, SavedStack};
+use narrow_region::{Bounds, Saved, SavedStack};
 use std::test::Fail;
 
 fn bounds(start: usize, end: usize, point: usize) -> Bounds

@@ -1,9 +1,9 @@
 //! Worked cases of what a character inherits.
 
-use crate::inherited;
 use ek_types::{Mem, PropSet, PropVal, Sym, SymList};
 use std::alloc::Global;
 use std::test::Fail;
+use stickiness::inherited;
 
 const FRONT_STICKY: Sym = Sym(0);
 

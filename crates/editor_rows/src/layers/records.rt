@@ -1,17 +1,9 @@
 //! Worked cases of records, limits and plans. Where a serial number is expected, it is counted by hand.
-use crate::{Plan, Rec, Refused, Undo};
-use ek_types::{Ch, Chars, Copied, Piece, PropVal, Sym};
+use crate::one_buffer::scene::letters;
+use ek_types::{Copied, PropVal, Sym};
 use std::alloc::Global;
 use std::process::Abort;
-
-/// So many letters without properties.
-fn letters(rt: &impl Abort, alloc: Global, n: usize) -> Piece {
-    let mut text = Chars::new(alloc);
-    for _ in 0..n {
-        text.push(Ch::Scalar('x')).expect(rt, "a letter");
-    }
-    Piece::plain(alloc, text)
-}
+use undo_list::{Rec, Refused, Undo};
 
 fn put(rt: &impl Abort, undo: &mut Undo, rec: Rec) {
     match rec {
