@@ -12,7 +12,7 @@ use handler_code::{NativeCall, Next};
 use std::alloc::Global;
 
 /// A copy of a value. `None` stands for nil.
-pub fn copied(value: Option<&Value>) -> Mem<Value>
+pub(crate) fn copied(value: Option<&Value>) -> Mem<Value>
     ensures { IfOk result (λ v. view v ≡ unwrap_or (option_map (λ w. view w.now) value.entry) Nil) }
 {
     match value {
@@ -22,7 +22,7 @@ pub fn copied(value: Option<&Value>) -> Mem<Value>
 }
 
 /// A call with no arguments.
-pub fn ask(alloc: Global, prim: Primitive) -> Next
+pub(crate) fn ask(alloc: Global, prim: Primitive) -> Next
     ensures { asked_of result ≡ Some (prim_of prim, []) }
 {
     let args = ListOf::new(alloc);
@@ -30,7 +30,7 @@ pub fn ask(alloc: Global, prim: Primitive) -> Next
 }
 
 /// A call with one argument.
-pub fn ask_with(alloc: Global, prim: Primitive, value: Value) -> Mem<Next>
+pub(crate) fn ask_with(alloc: Global, prim: Primitive, value: Value) -> Mem<Next>
     ensures { IfOk result (λ next. asked_of next ≡ Some (prim_of prim, view value ∷ [])) }
 {
     let mut args = ListOf::new(alloc);
@@ -39,7 +39,7 @@ pub fn ask_with(alloc: Global, prim: Primitive, value: Value) -> Mem<Next>
 }
 
 /// A call with three arguments.
-pub fn ask_with_three(
+pub(crate) fn ask_with_three(
     alloc: Global,
     prim: Primitive,
     first: Value,

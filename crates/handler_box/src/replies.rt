@@ -12,7 +12,7 @@ use ek_call::{Replies, Reply, Value};
 
 /// What the answer of a call has to be.
 #[derive(Clone, Copy, Debug, PartialEq, Eq)]
-pub enum Wanted {
+pub(crate) enum Wanted {
     Buffer,
     Marker,
     Number,
@@ -73,7 +73,7 @@ fn wanted_at(wanted: &[Wanted], i: usize) -> Wanted
 }
 
 /// Whether each reply so far is an answer of the kind that is wanted, and there are no more than are wanted.
-pub fn are_as_wanted(past: &Replies, wanted: &[Wanted]) -> bool
+pub(crate) fn are_as_wanted(past: &Replies, wanted: &[Wanted]) -> bool
     ensures { result ≡ are_kept (map reply_of (items_of past.now)) (map wanted_of wanted.now) }
 {
     if past.len() > wanted.len() {
@@ -95,7 +95,7 @@ fn reply_at(past: &Replies, i: usize) -> Option<&Reply>
 }
 
 /// The answer to the call at a place, counted from 0. `None` stands for nil.
-pub fn answer(past: &Replies, i: usize) -> Option<&Value>
+pub(crate) fn answer(past: &Replies, i: usize) -> Option<&Value>
     ensures { unwrap_or (option_map (λ v. view v.now) result) Nil ≡ arg (answers_of past.now) i }
 {
     let Some(reply) = reply_at(past, i) else {
@@ -108,7 +108,7 @@ pub fn answer(past: &Replies, i: usize) -> Option<&Value>
 }
 
 /// A number, and 0 in the place of anything else.
-pub fn number(value: Option<&Value>) -> i64
+pub(crate) fn number(value: Option<&Value>) -> i64
     ensures { result ≡ number_of (unwrap_or (option_map (λ v. view v.now) value.entry) Nil) }
 {
     let Some(value) = value else {
