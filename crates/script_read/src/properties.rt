@@ -139,7 +139,7 @@ fn set_from(alloc: Global, given: Given) -> Mem<PropSet>
 }
 
 /// The set of a list of names and values, where it is one that gives no name twice.
-pub fn set_of(alloc: Global, list: &Values) -> Mem<Option<PropSet>>
+pub(crate) fn set_of(alloc: Global, list: &Values) -> Mem<Option<PropSet>>
     ensures { IfOk result (λ o. o ≡ set_of (map view (items_of list.now))) }
 {
     let Some(given) = gathered(alloc, list)? else {
