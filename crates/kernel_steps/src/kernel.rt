@@ -221,6 +221,7 @@ pub trait Kernel {
     fn ends_behind(alloc: Global, from: usize, to: usize, old: usize) -> Mem<Values>
         ensures { IfOk result (λ args. map view (items_of args) ≡ ends_behind from to old) };
 
+    /// Where memory is taken from.
     fn allocator(&self) -> Global;
 
     /// The current buffer.
@@ -295,6 +296,7 @@ pub trait Kernel {
         ensures { option_map fault_of result ≡
             refusal_of (P.meant program.now) (state self.now) (prim_of prim) (map view (items_of args.now)) };
 
+    /// All processes by number, with the bytes that their decoders hold.
     fn processes(&self) -> &Processes
         ensures { result.now ≡ (state self.now).processes };
 

@@ -21,9 +21,9 @@ use host_link::Host;
 /// writes the lines and the dump.
 ///
 /// Where it succeeds the lines are those of the plain machine's whole run. A run that was broken
-/// off says how far the machine came; no child lives then. Filters are entered with just what was
-/// read, sentinels come last, and undoing back to a kept boundary gives its text back. The
-/// exchanges are the calls on the host.
+/// off says how far the machine came; each child that lived then was asked to be killed, once.
+/// Filters are entered with just what was read, sentinels come last, and undoing back to a kept
+/// boundary gives its text back. The exchanges are the calls on the host.
 pub fn run_script<M: Kernel, P: Program, H: Host, K: Sink>(
     kernel: &mut M,
     program: &P,

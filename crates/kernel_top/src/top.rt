@@ -110,8 +110,9 @@ fn run_drill<K: Sink, H: Host, N: Natives>(
 /// machine's whole run on the script, whose handlers are its own and the natives. Filters are entered with just what
 /// was read, sentinels come last, and undoing back to a kept boundary gives its text back. The exchanges of the run
 /// are the calls on the host, each with what the host says of itself that it did, and a read has room for 4,096
-/// bytes. A run whose write fails stops at that line; the children that live are killed then, each once. The line of
-/// a drill is the summary of the plain machine's whole run on the drill's script, over just the exchanges made.
+/// bytes. A run whose write fails stops at that line; the children that live are asked to be killed then, each once.
+/// The line of a drill is the summary of the plain machine's whole run on the drill's script, over just the exchanges
+/// made.
 ///
 /// The source doesn't fail where it is known not to (`unfailing`), nor the sink where it has room for what the run
 /// says. No more than one byte behind the longest script, of 1,048,576 bytes, is asked of the source. Bytes that are

@@ -86,7 +86,8 @@ impl<K: Sink> Printer<'_, K> {
     }
 }
 
-/// Writes the line of what a call came to, two blanks further in for each level of depth.
+/// Writes the line of what a call came to, two blanks further in for each level of depth. A sink that failed has a front
+/// of it; so it is with the other lines.
 pub fn reply<K: Sink>(
     depth: u32,
     reply: &Reply,
@@ -157,6 +158,7 @@ pub fn kill<K: Sink>(process: u32, names: &Names, sink: &mut K) -> Result<(), Si
 }
 
 /// Writes the dump: all live buffers with their texts, then all markers, overlays and processes, each by rising number.
+/// A sink that failed has a front of it.
 pub fn dump<K: Sink>(names: &Names, sink: &mut K) -> Result<(), SinkFault>
     ensures { Tells names.now (K.state sink.old) (K.state sink.new) result Dumped }
 {
