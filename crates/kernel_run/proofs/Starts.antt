@@ -16,7 +16,7 @@ use Rattle.plain_machine.specs.Refusals.{must_be_word, must_live_or_be_named, mu
 use Rattle.plain_machine.specs.Calls.{end_of, started, with_process_buffer, process_buffer}
 use Rattle.process_table.specs.Table.{new_process}
 use Rattle.process_table.proofs.Numbering.{first_is_free}
-use Rattle.process_table.proofs.Finding.{same_name-refl}
+use Rattle.editor_model.proofs.NumberedNames.{same_name-same}
 use Rattle.kernel_steps.specs.Waits.{Passes}
 use Rattle.kernel_run.specs.Starting.{MayMake, MayStart, put_end, with_end}
 
@@ -129,7 +129,7 @@ named_lives : (e : Editor) (name : Name) (o : Option ℕ) → find e name ≡ o 
 named_lives e name (Some id) h = ap (λ o. is_live e (unwrap_or o 0)) h ∙ find_lives e name id h
 named_lives e name None h =
     let new : Live = record { name = name; buffer = empty_buffer } in
-    ap (λ o. is_live (with_buffer name e) (unwrap_or o 0)) (found_last 0 e.buffers new name h (same_name-refl name) ∙ ap Some (zero-add (length e.buffers)))
+    ap (λ o. is_live (with_buffer name e) (unwrap_or o 0)) (found_last 0 e.buffers new name h (same_name-same name) ∙ ap Some (zero-add (length e.buffers)))
     ∙ ap (λ o. is_some (unwrap_or o None)) (get_last e.buffers (Some new))
 
 pub given_lives : (e : Editor) (b : Value) → MayMake e b → IfSome (process_buffer (with_process_buffer b e) b) (λ id. is_live (with_process_buffer b e) id ≡ true)
