@@ -268,10 +268,12 @@ fn first_place(
         (part from to (here (editor_of editor.now)).text) }
 {
     let id = editor.current();
-    for i in from..to {
+    let mut i = from;
+    'runs: while i < to {
         if wanted(has, same_option(editor.props_at(id, i).get(name), value)) {
             return Some(i);
         }
+        i = editor.run_end(id, i);
     }
     None
 }

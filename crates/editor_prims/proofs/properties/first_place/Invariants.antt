@@ -1,4 +1,4 @@
-use Rattle.std.proofs.Common.{◌≡◌, take, drop, option_map}
+use Rattle.std.proofs.Common.{◌≡◌, ◌-◌, take, drop, option_map}
 use Rattle.text_model.specs.Properties.{part, get, same_option, same_value}
 use Rattle.text_model.specs.PropertyQuestions.{first_where}
 use Rattle.editor_model.specs.Editor.{here}
@@ -7,7 +7,10 @@ use Rattle.buffer_table.specs.Kept.{editor_of}
 use Rattle.editor_prims.specs.PropertyArguments.{wanted}
 use Rattle.editor_prims.proofs.properties.first_place.Given as goal
 
-abbrev pub invariant-loop-i : goal.invariant-loop-i
-invariant-loop-i l =
+abbrev pub invariant-runs : goal.invariant-runs
+invariant-runs l =
     first_where (λ c. wanted l.has (same_option same_value (get c.1 (number_of l.name)) (option_map (λ v. prop_of v.now) l.value))) l.i (drop l.i (take l.to (here (editor_of l.editor)).text))
     ≡ first_where (λ c. wanted l.has (same_option same_value (get c.1 (number_of l.name)) (option_map (λ v. prop_of v.now) l.value))) l.from (part l.from l.to (here (editor_of l.editor)).text)
+
+abbrev pub decreases-runs : goal.decreases-runs
+decreases-runs l = l.to - l.i
