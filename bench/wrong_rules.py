@@ -8,6 +8,7 @@ WAITS = "plain_machine/specs/Waits.antt"
 FORMS = "plain_machine/specs/Forms.antt"
 HANDLING = "plain_machine/specs/Handling.antt"
 CALLS = "plain_machine/specs/Calls.antt"
+HOOKS = "plain_machine/specs/Hooks.antt"
 LINES = "plain_machine/specs/Lines.antt"
 REFUSALS = "plain_machine/specs/Refusals.antt"
 NATIVES = "plain_machine/specs/Natives.antt"
@@ -18,6 +19,7 @@ COMMIT = "text_model/specs/Commit.antt"
 COMMITS = "editor_model/specs/Commits.antt"
 TEXT_CALLS = "editor_model/specs/TextCalls.antt"
 UNDO_CALLS = "editor_model/specs/UndoCalls.antt"
+PROPERTY_CALLS = "editor_model/specs/PropertyCalls.antt"
 EDITOR = "editor_model/specs/Editor.antt"
 BUFFER_CALLS = "editor_model/specs/BufferCalls.antt"
 
@@ -35,6 +37,13 @@ COMMIT_RULES = [
         "if b == buffer then Excursion b (move false p)",
         "if b == buffer then Excursion b (move true p)",
         ["TextRows.kept_point_of_an_excursion_holds"],
+    ),
+    (
+        "kept point stays at its number",
+        MARKS,
+        "if b == buffer then Excursion b (move false p)",
+        "if b == buffer then Excursion b p",
+        ["editors_stay_sound"],
     ),
     (
         "end of a pending change goes behind a text put in there",
@@ -90,7 +99,21 @@ COMMIT_RULES = [
         TEXT_CALLS,
         "insertion id at [] all = Nothing Nil",
         "insertion id at [] all = Changes (record { buffer = id; from = at; to = at; what = Put [] all true false None; reply = Nil })",
-        ["TextRows.empty_insertion_holds"],
+        ["HookRows.changes_of_nothing_holds"],
+    ),
+    (
+        "empty deletion counts as a change",
+        TEXT_CALLS,
+        "if from == to then Nothing reply",
+        "if false then Nothing reply",
+        ["HookRows.changes_of_nothing_holds"],
+    ),
+    (
+        "property that has its value already counts as a change",
+        PROPERTY_CALLS,
+        "change_of [] c unchanged = Nothing unchanged",
+        "change_of [] c unchanged = Changes c",
+        ["HookRows.changes_of_nothing_holds"],
     ),
     (
         "buffer erased in its accessible portion alone",
@@ -104,11 +127,46 @@ COMMIT_RULES = [
         TEXT_CALLS,
         "(if p == 0 then None else char_at b (p - 1))) (option_map (λ c. c.1) (char_at b p))",
         "(char_at b p)) (option_map (λ c. c.1) (if p == 0 then None else char_at b (p - 1)))",
-        ["PropertyRows.stickiness_holds"],
+        ["PropertyRows.inherited_from_the_front_holds"],
     ),
 ]
 
 HOOK_RULES = [
+    (
+        "fault of a hook function leaves those behind it",
+        HANDLING,
+        "(set_hook_list b before_change_functions [] s); work = without_hooks_item rest }",
+        "(set_hook_list b before_change_functions [] s); work = rest }",
+        ["HookRows.functions_in_a_list_holds"],
+    ),
+    (
+        "hook function stands on its list twice",
+        HOOKS,
+        "if list_any (λ n. n == symbol_of fn) (hook_here s hook) then hook_here s hook else symbol_of fn ∷ hook_here s hook",
+        "symbol_of fn ∷ hook_here s hook",
+        ["HookRows.functions_in_a_list_holds"],
+    ),
+    (
+        "hook function can't be removed",
+        HOOKS,
+        "hook_removed s hook fn = filter (λ n. not (n == symbol_of fn)) (hook_here s hook)",
+        "hook_removed s hook fn = hook_here s hook",
+        ["HookRows.functions_of_a_copy_holds"],
+    ),
+    (
+        "block that inhibits hooks doesn't",
+        FORMS,
+        "opened InhibitHooks s = record s { inhibited = true }",
+        "opened InhibitHooks s = s",
+        ["HookRows.hooks_inhibited_holds"],
+    ),
+    (
+        "hooks stay inhibited behind the block that inhibits them",
+        FORMS,
+        "restored (KeptInhibition old) s = record s { inhibited = old }",
+        "restored (KeptInhibition old) s = s",
+        ["HookRows.hooks_inhibited_holds", "nothing_is_left_at_the_top"],
+    ),
     (
         "fault behind a change leaves the list of after-change functions",
         HANDLING,
@@ -155,6 +213,41 @@ HOOK_RULES = [
 
 HANDLER_RULES = [
     (
+        "name set in a handler is the script's, also where it is a parameter's",
+        FORMS,
+        "| Some old ↦ record s { scopes = with_register name v (scope_of s) ∷ drop 1 s.scopes }",
+        "| Some old ↦ record s { editor = record s.editor { registers = with_register name v s.editor.registers } }",
+        ["HookRows.names_in_a_handler_holds"],
+    ),
+    (
+        "native hides a script's handler of its name",
+        HANDLING,
+        "body_of program s kind (Some name) args rest = named_body program s (handler_def program.handlers name)",
+        "body_of program s kind (Some name) args rest = named_body program s (elim (native_from 0 program.natives name) [ None ↦ handler_def program.handlers name | Some i ↦ None ])",
+        ["NativeRows.handler_hides_a_native_holds"],
+    ),
+    (
+        "process stays listed behind its sentinel",
+        HANDLING,
+        "ended_handler (OfSentinel p) faulted s rest = record { state = change_process p unlisted s; work = rest }",
+        "ended_handler (OfSentinel p) faulted s rest = record { state = s; work = rest }",
+        ["ProcessRows.questions_to_processes_holds"],
+    ),
+    (
+        "block for the current buffer puts nothing back",
+        FORMS,
+        "restored (KeptBuffer b) s = if_live s b (current b s)",
+        "restored (KeptBuffer b) s = s",
+        ["TextRows.buffer_put_back_and_forms_chosen_holds"],
+    ),
+    (
+        "forms of a comparison run where the values differ",
+        FORMS,
+        "elim (equal x y) [ true ↦ on s (Body forms ∷ rest) | false ↦ on s rest ]",
+        "elim (equal x y) [ false ↦ on s (Body forms ∷ rest) | true ↦ on s rest ]",
+        ["TextRows.buffer_put_back_and_forms_chosen_holds"],
+    ),
+    (
         "scopes stay behind their handlers",
         HANDLING,
         "record s { depth = s.depth - 1; scopes = drop 1 s.scopes } in",
@@ -173,7 +266,7 @@ HANDLER_RULES = [
         HANDLING,
         "    if_live out c (current c out)\n",
         "    out\n",
-        ["ProcessRows.real_children_holds"],
+        ["ProcessRows.real_children_holds", "handlers_bracket", "calls_bracket"],
     ),
     (
         "fault in a handler ends its block without restoring",
@@ -190,11 +283,11 @@ HANDLER_RULES = [
         ["HookRows.hook_ended_by_a_fault_holds"],
     ),
     (
-        "parameters bound from the last one",
+        "parameters that have an argument stay unset",
         HANDLING,
         "bound_params (p ∷ params) (v ∷ args) = (p, v) ∷ bound_params params args",
         "bound_params (p ∷ params) (v ∷ args) = bound_params params args",
-        ["WaitRows.filter_that_waits_holds"],
+        ["HookRows.names_in_a_handler_holds", "DrillRows.drill_of_one_line"],
     ),
     (
         "native called without end",
@@ -224,6 +317,13 @@ HANDLER_RULES = [
         "line Anything (λ a. (SetMarker, arg a 3 ∷ arg a 4 ∷ arg a 0 ∷ [])) ∷ []",
         ["NativeRows.shipped_insert_filter_holds"],
     ),
+    (
+        "shipped filter leaves point alone where a difference is no i64",
+        SHIPPED,
+        "(if int_lt y x then goto (x +ℤ (z -ℤ y)) else None)",
+        "(if int_lt y x then (if is_i64 (z -ℤ y) then goto (x +ℤ (z -ℤ y)) else None) else None)",
+        ["NativeExamples.sum_decides"],
+    ),
 ]
 
 WAIT_RULES = [
@@ -246,14 +346,14 @@ WAIT_RULES = [
         WAITS,
         "counts w p = is_target w.target p",
         "counts w p = true",
-        ["WaitRows.rounds_and_just_this_one_holds"],
+        ["WaitRows.target_asked_first_holds"],
     ),
     (
         "target not asked first",
         WAITS,
         "target_first (Some t) all = t ∷ filter (λ p. not (p == t)) all",
         "target_first (Some t) all = all",
-        ["WaitRows.rounds_and_just_this_one_holds"],
+        ["WaitRows.target_asked_first_holds"],
     ),
     (
         "wait for just one process asks the others too",

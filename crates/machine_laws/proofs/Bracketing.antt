@@ -13,6 +13,7 @@ use Rattle.plain_machine.specs.Handling.{unlisted, ended_handler}
 use Rattle.plain_machine.specs.Step.{step, item_step}
 use Rattle.plain_machine.specs.Run.{Reaches, stays, goes, asks, start, given, Calls, Handles}
 use Rattle.machine_laws.specs.Brackets.{Levels, levels, shape, shapes, IsTop, NothingLeft, TopIsClear, CallsBracket, HandlersBracket}
+use Rattle.machine_laws.proofs.Currents.{current_born, call_current, handler_current}
 use Rattle.machine_laws.proofs.GoodEditor.{GoodEditor}
 use Rattle.machine_laws.proofs.GoodConfig.{GoodConfig}
 use Rattle.machine_laws.proofs.Returning.{goes_good, asks_good, start_good, reaches_good}
@@ -92,7 +93,8 @@ editor_good : (program : Program) (bound : ℕ) (script : Script) (before : List
 editor_good program bound script before earlier s work r = (reaches_good program bound (start script) (record { state = s; work = work }) before earlier (start_good script) r).editor
 
 pub calls_bracket : (program : Program) (bound : ℕ) (script : Script) → CallsBracket program bound (start script)
-calls_bracket program bound script before exchanges earlier said s t prim args target rest reply r calls = go reply (calls Nowhere [])
+calls_bracket program bound script before exchanges earlier said s t prim args target rest reply r calls =
+    (go reply (calls Nowhere []), λ n. call_current program bound s t prim args reply exchanges said good (current_born program bound script (record { state = s; work = MakeCall prim args target ∷ rest }) before earlier r) n calls)
   where
     c : Config
     c = record { state = s; work = MakeCall prim args Nowhere ∷ [] }
@@ -105,7 +107,10 @@ calls_bracket program bound script before exchanges earlier said s t prim args t
     go (Reply.Refused f) k = ground_done program bound (levels s) (record { state = t; work = [] }) (ground_run program bound (levels s) good (above (MakeCall prim args Nowhere ∷ []) false refl refl (tt, tt)) k) refl
 
 pub handlers_bracket : (program : Program) (bound : ℕ) (script : Script) → HandlersBracket program bound (start script)
-handlers_bracket program bound script before exchanges earlier said s t kind name args rest faulted r handles = go kind faulted refl refl (ground_run program bound (levels s) good (above (Enter kind name args ∷ []) false refl refl tt) (handles []))
+handlers_bracket program bound script before exchanges earlier said s t kind name args rest faulted r handles = (
+  go kind faulted refl refl (ground_run program bound (levels s) good (above (Enter kind name args ∷ []) false refl refl tt) (handles [])),
+  handler_current program bound s t kind name args faulted exchanges said good (current_born program bound script (record { state = s; work = Enter kind name args ∷ rest }) before earlier r) handles,
+)
   where
     c : Config
     c = record { state = s; work = Enter kind name args ∷ [] }

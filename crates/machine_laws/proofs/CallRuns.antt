@@ -31,7 +31,7 @@ use Rattle.machine_laws.proofs.Levels.{unwound, Floor, exit_of, below, Above, ab
 use Rattle.machine_laws.proofs.RefusedCalls.{Answering, Calming, Standing, Resumes, based, based_depth, Own, own, Comes, stands, enters, answers, replies, Behind, leaves, ends_one, to_answer, AnswerOwn, StepOwn, own_step, Follows, goes_on, enters_one, has_replied, AnswerFollows, StepFollows, follows_step}
 
 -- LEVELS
-abbrev one_deeper : Levels → Levels
+abbrev pub one_deeper : Levels → Levels
 one_deeper l = record l { depth = l.depth + 1; scopes = suc l.scopes }
 
 lowered : (l : Levels) → behind_handler (one_deeper l) ≡ l
@@ -84,7 +84,7 @@ live_editor t b x h = go (is_live t.editor b)
     go true = h
     go false = refl
 
-ended_editor : (kind : Kind) (faulted : Bool) (t : State) (rest : List Item) → (ended_handler kind faulted t rest).state.editor ≡ t.editor
+pub ended_editor : (kind : Kind) (faulted : Bool) (t : State) (rest : List Item) → (ended_handler kind faulted t rest).state.editor ≡ t.editor
 ended_editor (OfFilter p) faulted t rest = refl
 ended_editor (OfSentinel p) faulted t rest = change_editor p unlisted t
 ended_editor (OfBefore b) true t rest = live_editor t b (set_hook_list b before_change_functions [] t) refl
@@ -92,7 +92,7 @@ ended_editor (OfBefore b) false t rest = refl
 ended_editor (OfAfter b) true t rest = live_editor t b (set_hook_list b after_change_functions [] t) refl
 ended_editor (OfAfter b) false t rest = refl
 
-left_current : (v : State) (c : ℕ) → is_live (left_state v c).editor c ≡ true → (left_state v c).editor.current ≡ c
+pub left_current : (v : State) (c : ℕ) → is_live (left_state v c).editor c ≡ true → (left_state v c).editor.current ≡ c
 left_current v c = go (is_live v.editor c) refl
   where
     out : State
@@ -104,7 +104,7 @@ left_current v c = go (is_live v.editor c) refl
 
 -- A HANDLER ENTERED, above its own end
 module _ (program : Program) (s : State) (kind : Kind) (name : Option ℕ) (c : ℕ) (rest : List Item) where
-  abbrev Inside : Config → Type 0
+  abbrev pub Inside : Config → Type 0
   Inside d = Above (one_deeper (levels s)) (exit_of kind name c rest) d
 
   put_inside : (t : State) (p : Prepared) → levels t ≡ one_deeper (levels s) → Inside (put_in t p (Exit kind name c false ∷ rest))
@@ -123,7 +123,7 @@ module _ (program : Program) (s : State) (kind : Kind) (name : Option ℕ) (c : 
   default_inside t (OfBefore b) args e = above [] false refl e tt
   default_inside t (OfAfter b) args e = above [] false refl e tt
 
-  body_inside : (o : Option ℕ) (args : List Value) → Inside (body_of program (record s { depth = s.depth + 1 }) kind o args (Exit kind name c false ∷ rest))
+  pub body_inside : (o : Option ℕ) (args : List Value) → Inside (body_of program (record s { depth = s.depth + 1 }) kind o args (Exit kind name c false ∷ rest))
   body_inside None args = default_inside (record s { depth = s.depth + 1; scopes = [] ∷ s.scopes }) kind args refl
   body_inside (Some n) args = go (handler_def program.handlers n)
     where
@@ -270,10 +270,10 @@ module _ (program : Program) (bound : ℕ) (s : State) where
   same_next : (a b : Next) → Goes a ≡ Goes b → a ≡ b
   same_next a b e = cc
 
-  goes_is : (c : Config) (work : List Item) (m n : Next) → c.work ≡ work → step program bound (record { state = c.state; work = work }) ≡ Goes m → step program bound c ≡ Goes n → m ≡ n
+  pub goes_is : (c : Config) (work : List Item) (m n : Next) → c.work ≡ work → step program bound (record { state = c.state; work = work }) ≡ Goes m → step program bound c ≡ Goes n → m ≡ n
   goes_is c work m n e g h = same_next m n (sym g ∙ subst (λ (w : List Item). IsStep (step program bound (record { state = c.state; work = w })) n) e h)
 
-  never_asks : (c : Config) (work : List Item) (m : Next) (ask : Ask) (k : Answer → Option Next) → c.work ≡ work → step program bound (record { state = c.state; work = work }) ≡ Goes m → step program bound c ≡ Asks ask k → ⊥
+  pub never_asks : (c : Config) (work : List Item) (m : Next) (ask : Ask) (k : Answer → Option Next) → c.work ≡ work → step program bound (record { state = c.state; work = work }) ≡ Goes m → step program bound c ≡ Asks ask k → ⊥
   never_asks c work m ask k e g h = apart (sym g ∙ subst (λ (w : List Item). step program bound (record { state = c.state; work = w }) ≡ Asks ask k) e h)
     where
       apart : Goes m ≡ Asks ask k → ⊥

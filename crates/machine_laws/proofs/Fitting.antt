@@ -194,7 +194,11 @@ module _ (id : ℕ) (all : Bool) (move : Move) where
   markers_moved size new (x ∷ ms) m h = (spot_moved size new (x.advances || all) x.spot m h.0, markers_moved size new ms m h.1)
 
   kept_moved : (size new : ℕ) (k : Saved) → Moving move size new → KeptFits id size k → KeptFits id new (move_saved id move k)
-  kept_moved size new (Excursion b p) m h = by_test (λ x. KeptFits id new x) (b == id) (Excursion b (move false p)) (Excursion b p) (λ e. tt) (λ e. tt)
+  kept_moved size new (Excursion b p) m h = go (b == id) refl
+    where
+      go : (v : Bool) → (b == id) ≡ v → KeptFits id new (if v then Excursion b (move false p) else Excursion b p)
+      go true e = λ k. m.fits false p (h e)
+      go false e = λ k. absurd (false≢true (sym e ∙ k))
   kept_moved size new (Restriction b None) m h = tt
   kept_moved size new (Restriction b (Some ends)) m h = go (b == id) refl
     where
@@ -228,7 +232,11 @@ module _ (id : ℕ) (all : Bool) (move : Move) where
   markers_other j size (x ∷ ms) d h = (spot_other j size (x.advances || all) x.spot d h.0, markers_other j size ms d h.1)
 
   kept_other : (j size : ℕ) (k : Saved) → (j ≡ id → ⊥) → KeptFits j size k → KeptFits j size (move_saved id move k)
-  kept_other j size (Excursion b p) d h = by_test (λ x. KeptFits j size x) (b == id) (Excursion b (move false p)) (Excursion b p) (λ e. tt) (λ e. tt)
+  kept_other j size (Excursion b p) d h = go (b == id) refl
+    where
+      go : (v : Bool) → (b == id) ≡ v → KeptFits j size (if v then Excursion b (move false p) else Excursion b p)
+      go true e = λ k. absurd (d (sym (eqb-true b j k) ∙ eqb-true b id e))
+      go false e = h
   kept_other j size (Restriction b None) d h = tt
   kept_other j size (Restriction b (Some ends)) d h = go (b == id) refl
     where

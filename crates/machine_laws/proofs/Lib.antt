@@ -42,6 +42,7 @@ pub mod Levels
 pub mod Bracketing
 pub mod RefusedCalls
 pub mod CallRuns
+pub mod Currents
 pub mod Carried
 pub mod Lively
 pub mod Parting

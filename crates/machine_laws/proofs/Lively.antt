@@ -162,7 +162,7 @@ copy_here e (TheMarker k) kind h = of_fault _ e _ _ h (same_here e _ refl refl h
 copy_here e _ kind h = h
 
 -- a change of a site leaves which buffer is current
-site_current : (id : ℕ) (f : Site → Site) (e : Editor) → (change_site id f e).current ≡ e.current
+pub site_current : (id : ℕ) (f : Site → Site) (e : Editor) → (change_site id f e).current ≡ e.current
 site_current id f e = go (live e id)
   where
     go : (o : Option Live) → let new : Editor = elim o [

@@ -38,10 +38,10 @@ well_good : (e : Editor) (d : Config) → Well e d → GoodConfig d
 well_good e d w = record { editor = w.advances.good; work = w.work; stack = w.stack }
 
 module _ (program : Program) (bound : ℕ) where
-  goes_well : (c : Config) (n : Next) → GoodConfig c → step program bound c ≡ Goes n → Well c.state.editor n.config
+  pub goes_well : (c : Config) (n : Next) → GoodConfig c → step program bound c ≡ Goes n → Well c.state.editor n.config
   goes_well c n g h = subst (λ x. StepWell c.state x) h (step_well program bound c g)
 
-  asks_well : (c : Config) (ask : Ask) (answer : Answer) (k : Answer → Option Next) (n : Next) → GoodConfig c → step program bound c ≡ Asks ask k → k answer ≡ Some n → Well c.state.editor n.config
+  pub asks_well : (c : Config) (ask : Ask) (answer : Answer) (k : Answer → Option Next) (n : Next) → GoodConfig c → step program bound c ≡ Asks ask k → k answer ≡ Some n → Well c.state.editor n.config
   asks_well c ask answer k n g h e = subst (λ x. AnswerWell c.state x) e ((subst (λ x. StepWell c.state x) h (step_well program bound c g)) answer)
 
   -- a step from a good configuration comes to a good one

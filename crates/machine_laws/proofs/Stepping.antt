@@ -182,8 +182,11 @@ bounds_fit s id g = go ((here s.editor).begin == 0 && ((here s.editor).end == le
     go true = tt
     go false = λ q. (l.order, subst (λ i. (here s.editor).end ≤ size_of s.editor i) (eqb-true s.editor.current id q) l.end)
 
+point_fits : (s : State) (id : ℕ) → GoodEditor s.editor → KeptFits id (size_of s.editor id) (Excursion s.editor.current (here s.editor).point)
+point_fits s id g = λ q. subst (λ i. (here s.editor).point ≤ size_of s.editor i) (eqb-true s.editor.current id q) (lies s.editor s.editor.current g).point
+
 block_well : (k : Block) (forms : Forms) (s : State) (rest : List Item) → Ready s rest → StepWell s (block k forms s rest)
-block_well SaveExcursion forms s rest r = pushed_well s (Excursion s.editor.current (here s.editor).point) (Body forms ∷ Leave KeptExcursion ∷ rest) r.editor (λ id. tt) (tt, (tt, r.fine)) r.stacked
+block_well SaveExcursion forms s rest r = pushed_well s (Excursion s.editor.current (here s.editor).point) (Body forms ∷ Leave KeptExcursion ∷ rest) r.editor (λ id. point_fits s id r.editor) (tt, (tt, r.fine)) r.stacked
 block_well SaveRestriction forms s rest r = pushed_well s (Restriction s.editor.current (bounds_kept (here s.editor))) (Body forms ∷ Leave KeptRestriction ∷ rest) r.editor (λ id. bounds_fit s id r.editor) (tt, (tt, r.fine)) r.stacked
 block_well SaveCurrentBuffer forms s rest r = well_same s s (Body forms ∷ Leave (KeptBuffer s.editor.current) ∷ rest) r.editor refl (tt, (tt, r.fine)) r.stacked
 block_well InhibitHooks forms s rest r = well_same s (record s { inhibited = true }) (Body forms ∷ Leave (KeptInhibition s.inhibited) ∷ rest) r.editor refl (tt, (tt, r.fine)) r.stacked

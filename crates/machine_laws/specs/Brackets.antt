@@ -1,7 +1,8 @@
 -- Brackets: what is raised while a handler runs, a block stands or a change is under way, and is as before behind it.
-use Rattle.std.specs.Prelude.{◌≡◌, ℕ, Bool, false, List, [], ◌∷◌, length, map, Option}
+use Rattle.std.specs.Prelude.{◌≡◌, ℕ, Bool, true, false, List, [], ◌∷◌, length, map, Option}
 use Rattle.text_model.specs.Marks.{Saved, Excursion, Restriction, Pending}
-use Rattle.editor_model.specs.Values.{Value, Reply, Prim, Script}
+use Rattle.editor_model.specs.Values.{Value, Reply, Prim, SetBuffer, Script}
+use Rattle.editor_model.specs.Editor.{is_live}
 use Rattle.plain_machine.specs.Exchanges.{Exchange}
 use Rattle.plain_machine.specs.State.{State, Program}
 use Rattle.plain_machine.specs.Lines.{Kind}
@@ -49,14 +50,23 @@ TopIsClear program bound from =
     (exchanges : List Exchange) (said : List Said) (c : Config) → Reaches program bound from exchanges said c → IsTop c.work → NothingLeft c.state
 
 -- CALLS AND HANDLERS, wherever a run comes to them, with whatever handlers between
+-- the one call that makes the buffer current that it names
+abbrev pub names_current : Prim → Bool
+names_current SetBuffer = true
+names_current _ = false
+
+-- the buffer that was current is so again, unless it was killed
+abbrev pub CurrentAgain : State → State → Type 0
+CurrentAgain s t = is_live t.editor s.editor.current ≡ true → t.editor.current ≡ s.editor.current
+
 abbrev pub CallsBracket : Program → ℕ → Config → Type 0
 CallsBracket program bound from =
     (before exchanges : List Exchange) (earlier said : List Said) (s t : State) (prim : Prim) (args : List Value) (target : Target) (rest : List Item) (reply : Reply) →
     Reaches program bound from before earlier (record { state = s; work = MakeCall prim args target ∷ rest }) →
-    Calls program bound prim args s exchanges said reply t → levels t ≡ levels s
+    Calls program bound prim args s exchanges said reply t → (levels t ≡ levels s) × (names_current prim ≡ false → CurrentAgain s t)
 
 abbrev pub HandlersBracket : Program → ℕ → Config → Type 0
 HandlersBracket program bound from =
     (before exchanges : List Exchange) (earlier said : List Said) (s t : State) (kind : Kind) (handler : Option ℕ) (args : List Value) (rest : List Item) (faulted : Bool) →
     Reaches program bound from before earlier (record { state = s; work = Enter kind handler args ∷ rest }) →
-    Handles program bound kind handler args s exchanges said faulted t → levels t ≡ levels s
+    Handles program bound kind handler args s exchanges said faulted t → (levels t ≡ levels s) × CurrentAgain s t

@@ -22,6 +22,7 @@ OverlaysFit id size [] = Unit {0}
 OverlaysFit id size (o ∷ overlays) = SpanFits id size o.span × OverlaysFit id size overlays
 
 abbrev pub KeptFits : (id size : ℕ) → Saved → Type 0
+KeptFits id size (Excursion b p) = (b == id) ≡ true → p ≤ size
 KeptFits id size (Restriction b (Some ends)) = (b == id) ≡ true → (ends.0 ≤ ends.1) × (ends.1 ≤ size)
 KeptFits id size (Pending b from to) = (b == id) ≡ true → (from ≤ to) × (to ≤ size)
 KeptFits id size _ = Unit {0}

@@ -224,7 +224,7 @@ pub fn nothing_is_left_at_the_top()
 
 /// Behind a call, answered or refused, whatever handlers ran in it: as many handlers run as before,
 /// there are as many scopes, hooks are inhibited or not as before, and the same places are kept
-/// below.
+/// below. The buffer that was current is so again, unless it was killed, or the call names one.
 pub fn calls_bracket()
     ensures { (program : Program) (bound : ℕ) (script : Script) →
         CallsBracket program bound (start script) }

@@ -10,6 +10,7 @@ pub mod LimitRows
 pub mod DrillRows
 mod UndoneRuns
 mod Doing
+mod NativeExamples
 mod BufferExamples
 mod TextExamples
 mod MarkerExamples

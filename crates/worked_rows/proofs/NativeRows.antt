@@ -3,7 +3,7 @@ use Rattle.std.specs.Fmt.{digits}
 use Rattle.std.specs.Char.{encode_utf8}
 use Rattle.std.proofs.Common.{refl}
 use Rattle.worked_rows.specs.Row.{Holds}
-use Rattle.worked_rows.specs.NativeRows.{native_that_never_ends, native_gives_a_buffer_never_made, odd_calls_of_a_native, shipped_insert_filter, shipped_note_sentinel}
+use Rattle.worked_rows.specs.NativeRows.{handler_hides_a_native, native_that_never_ends, native_gives_a_buffer_never_made, odd_calls_of_a_native, shipped_insert_filter, shipped_note_sentinel}
 
 pub shipped_insert_filter_holds : Holds shipped_insert_filter
 unfolding digits encode_utf8
@@ -24,3 +24,7 @@ native_gives_a_buffer_never_made_holds = (refl, refl, refl)
 pub odd_calls_of_a_native_holds : Holds odd_calls_of_a_native
 unfolding digits encode_utf8
 odd_calls_of_a_native_holds = (refl, refl, refl)
+
+pub handler_hides_a_native_holds : Holds handler_hides_a_native
+unfolding digits encode_utf8
+handler_hides_a_native_holds = (refl, refl, refl)

@@ -3,7 +3,7 @@ use Rattle.std.specs.Fmt.{digits}
 use Rattle.std.specs.Char.{encode_utf8}
 use Rattle.std.proofs.Common.{refl}
 use Rattle.worked_rows.specs.Row.{Holds}
-use Rattle.worked_rows.specs.ProcessRows.{AreWhole, eight_cuttings, default_handlers, waits_without_a_process, spawn_refused, spawn_refused_leaves_a_void_name, character_cut_across_reads, held_tail_at_end_of_output, read_and_end_fail, filter_off_and_on, default_filter_outside_the_narrowing, kill_that_fails, real_children, scope_ends_with_its_handler}
+use Rattle.worked_rows.specs.ProcessRows.{questions_to_processes, AreWhole, eight_cuttings, default_handlers, waits_without_a_process, spawn_refused, spawn_refused_leaves_a_void_name, character_cut_across_reads, held_tail_at_end_of_output, read_and_end_fail, filter_off_and_on, default_filter_outside_the_narrowing, kill_that_fails, real_children, scope_ends_with_its_handler}
 
 pub default_handlers_holds : Holds default_handlers
 unfolding digits encode_utf8
@@ -57,3 +57,7 @@ output_in_any_cutting =
 pub scope_ends_with_its_handler_holds : Holds scope_ends_with_its_handler
 unfolding digits encode_utf8
 scope_ends_with_its_handler_holds = (refl, refl, refl)
+
+pub questions_to_processes_holds : Holds questions_to_processes
+unfolding digits encode_utf8
+questions_to_processes_holds = (refl, refl, refl)

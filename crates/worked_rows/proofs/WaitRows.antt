@@ -3,7 +3,7 @@ use Rattle.std.specs.Fmt.{digits}
 use Rattle.std.specs.Char.{encode_utf8}
 use Rattle.std.proofs.Common.{refl}
 use Rattle.worked_rows.specs.Row.{Holds}
-use Rattle.worked_rows.specs.WaitRows.{nesting_bound, filter_that_waits, filter_deletes_another_process, deletion_refused_at_bound_one, rounds_and_just_this_one}
+use Rattle.worked_rows.specs.WaitRows.{target_asked_first, nesting_bound, filter_that_waits, filter_deletes_another_process, deletion_refused_at_bound_one, rounds_and_just_this_one}
 
 pub filter_that_waits_holds : Holds filter_that_waits
 unfolding digits encode_utf8
@@ -24,3 +24,7 @@ rounds_and_just_this_one_holds = (refl, refl, refl)
 pub nesting_bound_holds : Holds nesting_bound
 unfolding digits encode_utf8
 nesting_bound_holds = (refl, refl, refl)
+
+pub target_asked_first_holds : Holds target_asked_first
+unfolding digits encode_utf8
+target_asked_first_holds = (refl, refl, refl)

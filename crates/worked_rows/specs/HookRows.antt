@@ -1,7 +1,7 @@
 -- Worked rows: change hooks.
 use Rattle.std.specs.Prelude.{ℕ, [], ◌∷◌, codes}
-use Rattle.editor_model.specs.Values.{Name, Prim}
-use Rattle.worked_rows.specs.Row.{Row, row, script, call, set, handler, number, string, symbol, before_change_functions, after_change_functions}
+use Rattle.editor_model.specs.Values.{Name, In, InhibitHooks, Prim}
+use Rattle.worked_rows.specs.Row.{Row, row, script, forms, call, set, handler, number, string, symbol, before_change_functions, after_change_functions}
 
 -- A hook function edits the buffer before the change; its ends move along.
 --     (defhandler h (b e) (delete-region 1 2))
@@ -149,4 +149,157 @@ function_behind_a_change_ended_by_a_fault =
     codes "= nil" ∷
     codes "buffer *scratch* point 3 min 1 max 3 modified t current" ∷
     codes "text \"ab\"" ∷ []
+    )
+
+-- A change that would change nothing runs no hook function: an empty text put in, an empty region deleted, a
+-- property that has its value already.
+--     (defhandler h (b e))
+--     (add-hook 'before-change-functions 'h)(insert "")(delete-region 1 1)(insert "a")
+--     (put-text-property 1 2 'face 'bold)(put-text-property 1 2 'face 'bold)
+abbrev pub changes_of_nothing : Row
+changes_of_nothing =
+    let h : ℕ = 14 in let b : ℕ = 15 in let e : ℕ = 16 in
+    let face : ℕ = 17 in let bold : ℕ = 18 in
+    row (script (codes "h" ∷ codes "b" ∷ codes "e" ∷ codes "face" ∷ codes "bold" ∷ []) (handler h (b ∷ e ∷ []) [] ∷ []) (
+    call Prim.AddHook (symbol before_change_functions ∷ symbol h ∷ []) ∷
+    call Prim.Insert (string (codes "") ∷ []) ∷
+    call Prim.DeleteRegion (number 1 ∷ number 1 ∷ []) ∷
+    call Prim.Insert (string (codes "a") ∷ []) ∷
+    call Prim.PutTextProperty (number 1 ∷ number 2 ∷ symbol face ∷ symbol bold ∷ []) ∷
+    call Prim.PutTextProperty (number 1 ∷ number 2 ∷ symbol face ∷ symbol bold ∷ []) ∷ []
+    )) [] (
+    codes "= (h)" ∷
+    codes "= nil" ∷
+    codes "= nil" ∷
+    codes "> before h 1 1" ∷
+    codes "< h" ∷
+    codes "= nil" ∷
+    codes "> before h 1 2" ∷
+    codes "< h" ∷
+    codes "= nil" ∷
+    codes "= nil" ∷
+    codes "buffer *scratch* point 2 min 1 max 2 modified t current" ∷
+    codes "text #(\"a\" 0 1 (face bold))" ∷ []
+    )
+
+-- Functions that stand on a list: one that is added stands in front, once. One that ends by a fault empties the
+-- list, and those behind it aren't entered.
+--     (defhandler g (b e) (goto-char unset))(defhandler h (b e))
+--     (add-hook 'before-change-functions 'g)(add-hook 'before-change-functions 'h)
+--     (add-hook 'before-change-functions 'g)(insert "a")
+--     (add-hook 'before-change-functions 'h)(add-hook 'before-change-functions 'g)(insert "b")(insert "c")
+abbrev pub functions_in_a_list : Row
+functions_in_a_list =
+    let g : ℕ = 14 in let h : ℕ = 15 in let b : ℕ = 16 in let e : ℕ = 17 in let unset : ℕ = 18 in
+    row (script (codes "g" ∷ codes "h" ∷ codes "b" ∷ codes "e" ∷ codes "unset" ∷ [])
+    (handler g (b ∷ e ∷ []) (call Prim.GotoChar (Name unset ∷ []) ∷ []) ∷ handler h (b ∷ e ∷ []) [] ∷ []) (
+    call Prim.AddHook (symbol before_change_functions ∷ symbol g ∷ []) ∷
+    call Prim.AddHook (symbol before_change_functions ∷ symbol h ∷ []) ∷
+    call Prim.AddHook (symbol before_change_functions ∷ symbol g ∷ []) ∷
+    call Prim.Insert (string (codes "a") ∷ []) ∷
+    call Prim.AddHook (symbol before_change_functions ∷ symbol h ∷ []) ∷
+    call Prim.AddHook (symbol before_change_functions ∷ symbol g ∷ []) ∷
+    call Prim.Insert (string (codes "b") ∷ []) ∷
+    call Prim.Insert (string (codes "c") ∷ []) ∷ []
+    )) [] (
+    codes "= (g)" ∷
+    codes "= (h g)" ∷
+    codes "= (h g)" ∷
+    codes "> before h 1 1" ∷
+    codes "< h" ∷
+    codes "> before g 1 1" ∷
+    codes "  ! 3 void-variable" ∷
+    codes "< g" ∷
+    codes "= nil" ∷
+    codes "= (h)" ∷
+    codes "= (g h)" ∷
+    codes "> before g 2 2" ∷
+    codes "  ! 3 void-variable" ∷
+    codes "< g" ∷
+    codes "= nil" ∷
+    codes "= nil" ∷
+    codes "buffer *scratch* point 4 min 1 max 4 modified t current" ∷
+    codes "text \"abc\"" ∷ []
+    )
+
+-- The functions are entered from a copy of the list: one that was removed meanwhile is entered still.
+--     (defhandler g (b e))(defhandler h (b e) (remove-hook 'before-change-functions 'g))
+--     (add-hook 'before-change-functions 'g)(add-hook 'before-change-functions 'h)(insert "a")(insert "b")
+abbrev pub functions_of_a_copy : Row
+functions_of_a_copy =
+    let g : ℕ = 14 in let h : ℕ = 15 in let b : ℕ = 16 in let e : ℕ = 17 in
+    row (script (codes "g" ∷ codes "h" ∷ codes "b" ∷ codes "e" ∷ [])
+    (handler g (b ∷ e ∷ []) [] ∷ handler h (b ∷ e ∷ []) (call Prim.RemoveHook (symbol before_change_functions ∷ symbol g ∷ []) ∷ []) ∷ []) (
+    call Prim.AddHook (symbol before_change_functions ∷ symbol g ∷ []) ∷
+    call Prim.AddHook (symbol before_change_functions ∷ symbol h ∷ []) ∷
+    call Prim.Insert (string (codes "a") ∷ []) ∷
+    call Prim.Insert (string (codes "b") ∷ []) ∷ []
+    )) [] (
+    codes "= (g)" ∷
+    codes "= (h g)" ∷
+    codes "> before h 1 1" ∷
+    codes "  = (h)" ∷
+    codes "< h" ∷
+    codes "> before g 1 1" ∷
+    codes "< g" ∷
+    codes "= nil" ∷
+    codes "> before h 2 2" ∷
+    codes "  = (h)" ∷
+    codes "< h" ∷
+    codes "= nil" ∷
+    codes "buffer *scratch* point 3 min 1 max 3 modified t current" ∷
+    codes "text \"ab\"" ∷ []
+    )
+
+-- In the block `inhibit-hooks` no function is entered, and behind it they are again.
+--     (defhandler h (b e))
+--     (add-hook 'before-change-functions 'h)(inhibit-hooks (insert "a"))(insert "b")
+--     (remove-hook 'before-change-functions 'h)(insert "c")
+abbrev pub hooks_inhibited : Row
+hooks_inhibited =
+    let h : ℕ = 14 in let b : ℕ = 15 in let e : ℕ = 16 in
+    row (script (codes "h" ∷ codes "b" ∷ codes "e" ∷ []) (handler h (b ∷ e ∷ []) [] ∷ []) (
+    call Prim.AddHook (symbol before_change_functions ∷ symbol h ∷ []) ∷
+    In InhibitHooks (forms (call Prim.Insert (string (codes "a") ∷ []) ∷ [])) ∷
+    call Prim.Insert (string (codes "b") ∷ []) ∷
+    call Prim.RemoveHook (symbol before_change_functions ∷ symbol h ∷ []) ∷
+    call Prim.Insert (string (codes "c") ∷ []) ∷ []
+    )) [] (
+    codes "= (h)" ∷
+    codes "= nil" ∷
+    codes "> before h 2 2" ∷
+    codes "< h" ∷
+    codes "= nil" ∷
+    codes "= nil" ∷
+    codes "= nil" ∷
+    codes "buffer *scratch* point 4 min 1 max 4 modified t current" ∷
+    codes "text \"abc\"" ∷ []
+    )
+
+-- In a handler a parameter's name is the parameter, and each other name is the script's.
+--     (defhandler h (b e) (setq b (point-max))(setq r (point-min))(goto-char b))
+--     (insert "abc")(add-hook 'before-change-functions 'h)(delete-region 1 2)(goto-char r)(goto-char b)
+abbrev pub names_in_a_handler : Row
+names_in_a_handler =
+    let h : ℕ = 14 in let b : ℕ = 15 in let e : ℕ = 16 in let r : ℕ = 17 in
+    row (script (codes "h" ∷ codes "b" ∷ codes "e" ∷ codes "r" ∷ [])
+    (handler h (b ∷ e ∷ []) (set b Prim.PointMax [] ∷ set r Prim.PointMin [] ∷ call Prim.GotoChar (Name b ∷ []) ∷ []) ∷ []) (
+    call Prim.Insert (string (codes "abc") ∷ []) ∷
+    call Prim.AddHook (symbol before_change_functions ∷ symbol h ∷ []) ∷
+    call Prim.DeleteRegion (number 1 ∷ number 2 ∷ []) ∷
+    call Prim.GotoChar (Name r ∷ []) ∷
+    call Prim.GotoChar (Name b ∷ []) ∷ []
+    )) [] (
+    codes "= nil" ∷
+    codes "= (h)" ∷
+    codes "> before h 1 2" ∷
+    codes "  = 4" ∷
+    codes "  = 1" ∷
+    codes "  = 4" ∷
+    codes "< h" ∷
+    codes "= nil" ∷
+    codes "= 1" ∷
+    codes "! 3 void-variable" ∷
+    codes "buffer *scratch* point 1 min 1 max 3 modified t current" ∷
+    codes "text \"bc\"" ∷ []
     )

@@ -2,7 +2,7 @@
 use Rattle.std.specs.Prelude.{ℕ, pos, List, [], ◌∷◌, ◌++◌, codes, replicate, Some, Option}
 use Rattle.text_model.specs.Properties.{Symbol}
 use Rattle.editor_model.specs.Values.{Value, T, Int, Sym, Str, Name, Prim}
-use Rattle.worked_rows.specs.Row.{Row, shipped_row, script, call, set, string, symbol, nil, text, before_change_functions, spawned, reads, output_ends, exits, killed}
+use Rattle.worked_rows.specs.Row.{Row, shipped_row, script, handler, call, set, string, symbol, nil, text, before_change_functions, spawned, reads, output_ends, exits, killed}
 use Rattle.std.specs.Prelude.{slice_get, length}
 use Rattle.text_model.specs.Characters.{Scalar}
 use Rattle.editor_model.specs.Values.{Reply, Items, End, More, TheBuffer, TheMarker, TheOverlay, TheProcess}
@@ -146,4 +146,28 @@ odd_calls_of_a_native =
     codes "= nil" ∷
     codes "buffer *scratch* point 2 min 1 max 2 modified t current" ∷
     codes "text \"x\"" ∷ []
+    )
+
+-- A handler of the script hides a native of its name.
+--     (defhandler drop-filter (p s) (point))
+--     (setq p (start-process "c" nil "cat"))(set-process-filter p 'drop-filter)(accept-process-output p)
+abbrev pub handler_hides_a_native : Row
+handler_hides_a_native =
+    let drop_filter : ℕ = 14 in let p : ℕ = 15 in let s : ℕ = 16 in
+    shipped_row (script (codes "drop-filter" ∷ codes "p" ∷ codes "s" ∷ []) (handler drop_filter (p ∷ s ∷ []) (call Prim.PointAt [] ∷ []) ∷ []) (
+    set p Prim.StartProcess (string (codes "c") ∷ nil ∷ string (codes "cat") ∷ []) ∷
+    call Prim.SetProcessFilter (Name p ∷ symbol drop_filter ∷ []) ∷
+    call Prim.AcceptProcessOutput (Name p ∷ []) ∷ []
+    )) (spawned (codes "cat") [] 0 ∷ reads 0 (codes "hi") ∷ killed 0 ∷ []) (
+    codes "= #<process c>" ∷
+    codes "= drop-filter" ∷
+    codes "> filter drop-filter #<process c> \"hi\"" ∷
+    codes "  = 1" ∷
+    codes "< drop-filter" ∷
+    codes "= t" ∷
+    codes "kill #<process c>" ∷
+    codes "buffer *scratch* point 1 min 1 max 1 modified nil current" ∷
+    codes "text \"\"" ∷
+    codes "marker 0 #<marker in no buffer>" ∷
+    codes "process 0 #<process c> run 0" ∷ []
     )

@@ -359,3 +359,55 @@ scope_ends_with_its_handler =
     codes "marker 0 #<marker in no buffer>" ∷
     codes "process 0 #<process c> run 0" ∷ []
     )
+
+-- What is told of processes: a name that is taken gets a number, and a process that was deleted isn't listed any more.
+--     (setq p (start-process "c" "out" "cat"))(setq q (start-process "c" nil "cat"))(process-list)(process-name q)
+--     (process-buffer p)(process-mark p)(process-filter p)(process-sentinel p)(process-status p)(process-live-p p)
+--     (delete-process p)(process-status p)(process-live-p p)(process-list)(get-process "c")
+abbrev pub questions_to_processes : Row
+questions_to_processes =
+    let p : ℕ = 14 in let q : ℕ = 15 in
+    row (script (codes "p" ∷ codes "q" ∷ []) [] (
+    set p Prim.StartProcess (string (codes "c") ∷ string (codes "out") ∷ string (codes "cat") ∷ []) ∷
+    set q Prim.StartProcess (string (codes "c") ∷ nil ∷ string (codes "cat") ∷ []) ∷
+    call Prim.ProcessList [] ∷
+    call Prim.ProcessName (Name q ∷ []) ∷
+    call Prim.ProcessBuffer (Name p ∷ []) ∷
+    call Prim.ProcessMark (Name p ∷ []) ∷
+    call Prim.ProcessFilter (Name p ∷ []) ∷
+    call Prim.ProcessSentinel (Name p ∷ []) ∷
+    call Prim.ProcessStatus (Name p ∷ []) ∷
+    call Prim.ProcessLiveP (Name p ∷ []) ∷
+    call Prim.DeleteProcess (Name p ∷ []) ∷
+    call Prim.ProcessStatus (Name p ∷ []) ∷
+    call Prim.ProcessLiveP (Name p ∷ []) ∷
+    call Prim.ProcessList [] ∷
+    call Prim.GetProcess (string (codes "c") ∷ []) ∷ []
+    )) (spawned (codes "cat") [] 0 ∷ spawned (codes "cat") [] 1 ∷ killed 0 ∷ killed 1 ∷ []) (
+    codes "= #<process c>" ∷
+    codes "= #<process c<1>>" ∷
+    codes "= (#<process c> #<process c<1>>)" ∷
+    codes "= \"c<1>\"" ∷
+    codes "= #<buffer out>" ∷
+    codes "= #<marker at 1 in out>" ∷
+    codes "= nil" ∷
+    codes "= nil" ∷
+    codes "= run" ∷
+    codes "= t" ∷
+    codes "> sentinel default #<process c> \"killed\\n\"" ∷
+    codes "< default" ∷
+    codes "= nil" ∷
+    codes "= signal" ∷
+    codes "= nil" ∷
+    codes "= (#<process c<1>>)" ∷
+    codes "= nil" ∷
+    codes "kill #<process c<1>>" ∷
+    codes "buffer *scratch* point 1 min 1 max 1 modified nil current" ∷
+    codes "text \"\"" ∷
+    codes "buffer out point 19 min 1 max 19 modified t" ∷
+    codes "text \"\\nProcess c killed\\n\"" ∷
+    codes "marker 0 #<marker at 19 in out>" ∷
+    codes "marker 1 #<marker in no buffer>" ∷
+    codes "process 0 #<process c> signal nil" ∷
+    codes "process 1 #<process c<1>> run 0" ∷ []
+    )

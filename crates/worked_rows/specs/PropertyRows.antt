@@ -48,3 +48,24 @@ property_changes =
     codes "buffer *scratch* point 5 min 1 max 5 modified t current" ∷
     codes "text #(\"abcd\" 1 3 (face bold))" ∷ []
     )
+
+-- What stands in front is inherited from as it is, what stands behind only where it says so.
+--     (insert #("ab" 0 1 (face bold)))(goto-char 2)(insert-and-inherit "x")(goto-char 1)(insert-and-inherit "y")
+abbrev pub inherited_from_the_front : Row
+inherited_from_the_front =
+    let face : ℕ = 14 in let bold : ℕ = 15 in
+    row (script (codes "face" ∷ codes "bold" ∷ []) [] (
+    call Prim.Insert (quoted (Str (with_set ((face, Symbol bold) ∷ []) (codes "a") ++ with_set [] (codes "b"))) ∷ []) ∷
+    call Prim.GotoChar (number 2 ∷ []) ∷
+    call Prim.InsertAndInherit (string (codes "x") ∷ []) ∷
+    call Prim.GotoChar (number 1 ∷ []) ∷
+    call Prim.InsertAndInherit (string (codes "y") ∷ []) ∷ []
+    )) [] (
+    codes "= nil" ∷
+    codes "= 2" ∷
+    codes "= nil" ∷
+    codes "= 1" ∷
+    codes "= nil" ∷
+    codes "buffer *scratch* point 2 min 1 max 5 modified t current" ∷
+    codes "text #(\"yaxb\" 1 3 (face bold))" ∷ []
+    )

@@ -1,6 +1,6 @@
 -- Worked rows: texts, markers and blocks.
 use Rattle.std.specs.Prelude.{ℕ, [], ◌∷◌, codes}
-use Rattle.editor_model.specs.Values.{In, SaveExcursion, SaveRestriction, Prim}
+use Rattle.editor_model.specs.Values.{In, SaveExcursion, SaveRestriction, SaveCurrentBuffer, Name, WhenEq, Prim}
 use Rattle.worked_rows.specs.Row.{Row, row, script, forms, call, set, number, string, t}
 
 -- The empty script.
@@ -139,4 +139,30 @@ kept_point_of_an_excursion =
     codes "= 2" ∷
     codes "buffer *scratch* point 2 min 1 max 4 modified t current" ∷
     codes "text \"aXb\"" ∷ []
+    )
+
+-- The block `save-current-buffer` puts the current buffer back; `when-eq` runs its forms where its two values are equal.
+--     (get-buffer-create "w")(save-current-buffer (set-buffer "w")(insert "x"))(current-buffer)
+--     (setq a (point-max))(when-eq a 1 (insert "y"))(when-eq a 2 (insert "z"))
+abbrev pub buffer_put_back_and_forms_chosen : Row
+buffer_put_back_and_forms_chosen =
+    let a : ℕ = 14 in
+    row (script (codes "a" ∷ []) [] (
+    call Prim.GetBufferCreate (string (codes "w") ∷ []) ∷
+    In SaveCurrentBuffer (forms (call Prim.SetBuffer (string (codes "w") ∷ []) ∷ call Prim.Insert (string (codes "x") ∷ []) ∷ [])) ∷
+    call Prim.CurrentBuffer [] ∷
+    set a Prim.PointMax [] ∷
+    WhenEq (Name a) (number 1) (forms (call Prim.Insert (string (codes "y") ∷ []) ∷ [])) ∷
+    WhenEq (Name a) (number 2) (forms (call Prim.Insert (string (codes "z") ∷ []) ∷ [])) ∷ []
+    )) [] (
+    codes "= #<buffer w>" ∷
+    codes "= #<buffer w>" ∷
+    codes "= nil" ∷
+    codes "= #<buffer *scratch*>" ∷
+    codes "= 1" ∷
+    codes "= nil" ∷
+    codes "buffer *scratch* point 2 min 1 max 2 modified t current" ∷
+    codes "text \"y\"" ∷
+    codes "buffer w point 2 min 1 max 2 modified t" ∷
+    codes "text \"x\"" ∷ []
     )

@@ -156,3 +156,35 @@ nesting_bound =
     codes "marker 0 #<marker in no buffer>" ∷
     codes "process 0 #<process c> run 0" ∷ [])
     )
+
+-- The target is asked before a process of a lower number; bytes of that one don't end the wait, and its own do.
+--     (setq p (start-process "p" nil "a"))(setq q (start-process "q" nil "b"))
+--     (set-process-filter p 'f)(set-process-filter q 'f)(accept-process-output q 2)
+abbrev pub target_asked_first : Row
+target_asked_first =
+    let f : ℕ = 14 in let p : ℕ = 15 in let s : ℕ = 16 in let q : ℕ = 17 in
+    row (script (codes "f" ∷ codes "p" ∷ codes "s" ∷ codes "q" ∷ []) (handler f (p ∷ s ∷ []) [] ∷ []) (
+    set p Prim.StartProcess (string (codes "p") ∷ nil ∷ string (codes "a") ∷ []) ∷
+    set q Prim.StartProcess (string (codes "q") ∷ nil ∷ string (codes "b") ∷ []) ∷
+    call Prim.SetProcessFilter (Name p ∷ symbol f ∷ []) ∷
+    call Prim.SetProcessFilter (Name q ∷ symbol f ∷ []) ∷
+    call Prim.AcceptProcessOutput (Name q ∷ number 2 ∷ []) ∷ []
+    )) (spawned (codes "a") [] 0 ∷ spawned (codes "b") [] 1 ∷ reads_nothing 1 ∷ reads 0 (codes "x") ∷ reads 1 (codes "y") ∷ killed 0 ∷ killed 1 ∷ []) (
+    codes "= #<process p>" ∷
+    codes "= #<process q>" ∷
+    codes "= f" ∷
+    codes "= f" ∷
+    codes "> filter f #<process p> \"x\"" ∷
+    codes "< f" ∷
+    codes "> filter f #<process q> \"y\"" ∷
+    codes "< f" ∷
+    codes "= t" ∷
+    codes "kill #<process p>" ∷
+    codes "kill #<process q>" ∷
+    codes "buffer *scratch* point 1 min 1 max 1 modified nil current" ∷
+    codes "text \"\"" ∷
+    codes "marker 0 #<marker in no buffer>" ∷
+    codes "marker 1 #<marker in no buffer>" ∷
+    codes "process 0 #<process p> run 0" ∷
+    codes "process 1 #<process q> run 0" ∷ []
+    )
