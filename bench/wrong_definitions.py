@@ -190,10 +190,15 @@ def row_holds(log, row):
 
 
 def held(copy, refusers):
-    """The laws and rows of these that hold all the same, or why nothing can be told of them."""
+    """The laws and rows of these that hold all the same, or why nothing can be told of them. Rows are quicker to check."""
     laws = [r for r in refusers if not is_row(r)]
     rows = [r for r in refusers if is_row(r)]
     still = []
+    if rows:
+        log = check(copy / "crates" / "worked_rows")
+        if re.search(r"^\S*specs/.* error:", log, re.M):
+            return "a row doesn't check"
+        still += [row for row in rows if row_holds(log, row)]
     for law in laws:
         log = check(copy / "crates" / "machine_laws", "--only", f"machine_laws::{law}")
         if re.search(r"^\S*specs/.* error:", log, re.M):
@@ -202,11 +207,6 @@ def held(copy, refusers):
         if not tried:
             return f"{law} wasn't tried"
         still += [law] if tried.group(1).startswith("proved") else []
-    if rows:
-        log = check(copy / "crates" / "worked_rows")
-        if re.search(r"^\S*specs/.* error:", log, re.M):
-            return "a row doesn't check"
-        still += [row for row in rows if row_holds(log, row)]
     return "still held: " + ", ".join(still) if still else None
 
 

@@ -346,14 +346,14 @@ WAIT_RULES = [
         WAITS,
         "counts w p = is_target w.target p",
         "counts w p = true",
-        ["WaitRows.target_asked_first_holds"],
+        ["WaitRows.target_asked_first_holds", "WaitRows.filter_deletes_another_process_holds"],
     ),
     (
         "target not asked first",
         WAITS,
         "target_first (Some t) all = t ∷ filter (λ p. not (p == t)) all",
         "target_first (Some t) all = all",
-        ["WaitRows.target_asked_first_holds"],
+        ["WaitRows.target_asked_first_holds", "WaitRows.filter_deletes_another_process_holds"],
     ),
     (
         "wait for just one process asks the others too",
@@ -558,7 +558,7 @@ PRINTING_RULES = [
         LINES,
         'line symbols s (KilledLast p) = codes "kill " ++ (shown_process s p ++ 10 ∷ [])',
         "line symbols s (KilledLast p) = []",
-        ["WaitRows.filter_that_waits_holds"],
+        ["ProcessRows.scope_ends_with_its_handler_holds"],
     ),
     (
         "current buffer not told in the dump",

@@ -5,9 +5,9 @@ use Rattle.std.proofs.lemmas.Bool.{eqb-true, false≢true}
 use Rattle.text_model.specs.Characters.{Ch}
 use Rattle.text_model.specs.Marks.{Pending, leave_buffer}
 use Rattle.text_model.specs.Undo.{passed, with_boundary, started as start_of, disabled, enabled}
-use Rattle.text_model.specs.Commit.{Buffer, Site, reset, undone_groups}
+use Rattle.text_model.specs.Commit.{Buffer, reset, undone_groups}
 use Rattle.text_model.proofs.Cases.{by_test}
-use Rattle.editor_model.specs.Values.{Value, Nil, T, Int, Str, TheBuffer, TheMarker, at_place, Fault, ExchangesSpent, Reply, Answered, Prim, SetBuffer, GetBufferCreate, GenerateNewBuffer, RenameBuffer, SetBufferModifiedP, GotoChar, NarrowToRegion, Widen, MakeMarker, PointMarker, CopyMarker, SetMarker, SetMarkerInsertionType, MakeOverlay, OverlayPut, MoveOverlay, DeleteOverlay, UndoBoundary, UndoStart, BufferDisableUndo, BufferEnableUndo, StartProcess, KillBuffer, SetProcessFilter, SetProcessSentinel, SetProcessBuffer, ProcessSendString, ProcessSendEof, AcceptProcessOutput, Script}
+use Rattle.editor_model.specs.Values.{Value, Nil, T, Int, Str, TheBuffer, TheMarker, at_place, Fault, Reply, Answered, Prim, SetBuffer, GetBufferCreate, GenerateNewBuffer, RenameBuffer, SetBufferModifiedP, GotoChar, NarrowToRegion, Widen, MakeMarker, PointMarker, CopyMarker, SetMarker, SetMarkerInsertionType, MakeOverlay, OverlayPut, MoveOverlay, DeleteOverlay, UndoBoundary, UndoStart, BufferDisableUndo, BufferEnableUndo, StartProcess, KillBuffer, SetProcessFilter, SetProcessSentinel, SetProcessBuffer, ProcessSendString, ProcessSendEof, Script}
 use Rattle.editor_model.specs.Editor.{Editor, Live, live, is_live, find, live_from, scratch, with_buffer, change_site, change_buffer, killed, buffer_at, register, with_register}
 use Rattle.editor_model.specs.Arguments.{arg, flag, string_of, name_of, buffer_of, place, from_of, to_of}
 use Rattle.editor_model.specs.Answers.{first_fault, applied_of, What, Put, Props, UndoGroups, Change}
@@ -18,16 +18,16 @@ use Rattle.editor_model.specs.TextCalls.{point_at, narrowed, widened}
 use Rattle.editor_model.specs.Prims.{Manner, OnlyAsks, SetsState, ChangesText, ConcernsHandlers, manner_of}
 use Rattle.editor_model.specs.Table.{Commit, Committed, Done, Failed, Prepared, Changes, Quiet, Nothing, Barred, query, apply, prepare, commit}
 use Rattle.plain_machine.specs.Exchanges.{Exchange, Ask, Answer, Started, Bytes, Code, End, Signal, Running, Sent, Broken, Closed, Killed}
-use Rattle.plain_machine.specs.State.{State, Scope, Process, Status, Runs, Signalled, Exited, Lost, Program, hooks_of, process, change_process}
+use Rattle.plain_machine.specs.State.{State, Process, Status, Runs, Signalled, Exited, Lost, Program, hooks_of, process, change_process}
 use Rattle.plain_machine.specs.Lines.{Kind, OfBefore, OfAfter, OfFilter, OfSentinel}
 use Rattle.plain_machine.specs.Items.{Item, MakeCall, GiveAnswer, Refuse, MakeChange, Hooks, Calm, CommitChange, Enter, Called, Exit, Wait, Delete, Target, Nowhere, ToName, ToNative, Waiting, Said, Config, Next, Step, Goes, Asks, Ended}
-use Rattle.plain_machine.specs.Calls.{silent, on, answered, unless_fault, with_editor, change_call, call, call_by, process_effect, spawned, spawned_child, started, is_new_child, send, sent_answer, send_eof, closed_answer, with_input_closed, with_filter, with_sentinel, of_buffer, process_buffer, waiting}
+use Rattle.plain_machine.specs.Calls.{on, answered, unless_fault, with_editor, change_call, call, call_by, process_effect, spawned, spawned_child, started, is_new_child, send, sent_answer, send_eof, closed_answer, with_input_closed, with_filter, with_sentinel, of_buffer, process_buffer}
 use Rattle.plain_machine.specs.Refusals.{process_tests, may_ask, must_be_replaceable}
 use Rattle.plain_machine.specs.Arguments.{process_of, filter_of, sentinel_of, child_of, is_closed, encoded, running_in, is_new_name}
 use Rattle.plain_machine.specs.Forms.{at_kept, saved_of, popped, after_commit, bracket, with_saved, make_change, give, commit_change, dropped, kept_reply, assigned, scope_of}
-use Rattle.plain_machine.specs.Handling.{enter, exit, body_of, left_state, ended_handler, without_hooks_item}
-use Rattle.plain_machine.specs.Waits.{wait, wait_case, ask_process, ask_if, ask_next, read_answer, hear, drain, end_answer, exit_text, ends, entry_of, more_characters, asked_more, is_room, from_eligible, eligible, target_is_eligible, delete, delete_one, delete_running, kill_answer, kill_at_end, kill_live}
-use Rattle.plain_machine.specs.Step.{step, item_step}
+use Rattle.plain_machine.specs.Handling.{enter, exit, left_state, ended_handler, without_hooks_item}
+use Rattle.plain_machine.specs.Waits.{wait, wait_case, ask_process, ask_if, ask_next, read_answer, hear, drain, end_answer, ends, entry_of, asked_more, is_room, from_eligible, eligible, target_is_eligible, delete, delete_one, delete_running, kill_answer, kill_at_end, kill_live}
+use Rattle.plain_machine.specs.Step.{step}
 use Rattle.plain_machine.specs.Run.{Reaches, start, given, Calls, Handles}
 use Rattle.plain_machine.proofs.Composed.{over_runs}
 use Rattle.machine_laws.specs.Brackets.{Levels, levels, names_current, CurrentAgain}
@@ -35,9 +35,9 @@ use Rattle.machine_laws.proofs.GoodConfig.{GoodConfig, Well}
 use Rattle.machine_laws.proofs.Basics.{set_length}
 use Rattle.machine_laws.proofs.Advancing.{live_below, with_buffer_old}
 use Rattle.machine_laws.proofs.Committing.{some_of}
-use Rattle.machine_laws.proofs.Returning.{goes_well, asks_well, goes_good, asks_good, start_good, reaches_good}
+use Rattle.machine_laws.proofs.Returning.{goes_well, asks_well}
 use Rattle.machine_laws.proofs.Working.{change_editor}
-use Rattle.machine_laws.proofs.Levels.{exit_of, below, Above, above, AnswerStays, StepStays, step_stays}
+use Rattle.machine_laws.proofs.Levels.{exit_of, Above, above, AnswerStays, StepStays, step_stays}
 use Rattle.machine_laws.proofs.CallRuns.{one_deeper, body_inside, ended_editor, left_current, goes_is, never_asks}
 use Rattle.machine_laws.proofs.Lively.{site_current}
 use Rattle.machine_laws.proofs.Soundness.{editors_are_sound}

@@ -1,5 +1,5 @@
 -- The filter `insert-filter` after its last insertion: where it puts point, by the replies to its calls.
-use Rattle.std.specs.Prelude.{◌≡◌, ℕ, ℤ, pos, negsuc, List, [], ◌∷◌, Option, Some, None}
+use Rattle.std.specs.Prelude.{◌≡◌, ℤ, pos, negsuc, List, [], ◌∷◌, Option, Some, None}
 use Rattle.std.proofs.Common.{refl}
 use Rattle.editor_model.specs.Values.{Value, Nil, Int, TheBuffer, TheMarker, Reply, Answered, Prim}
 use Rattle.plain_machine.specs.Shipped.{shipped}
