@@ -55,6 +55,7 @@ fn say_number(rt: &HostRuntime, n: u64) {
 }
 
 /// A number for all that there is, made without memory.
+#[derive(Drop)]
 struct Sum {
     value: u64,
 }
@@ -68,6 +69,11 @@ impl Sum {
         self.add(place as u64);
     }
 
+    fn add_signed(&mut self, n: i64) {
+        self.add(n.unsigned_abs());
+        self.add(u64::from(n < 0));
+    }
+
     fn add_chars(&mut self, chars: &Chars) {
         self.add_place(chars.len());
         for i in 0..chars.len() {
@@ -78,7 +84,7 @@ impl Sum {
     fn add_value(&mut self, value: &PropVal) {
         match value {
             PropVal::Truth => self.add(1),
-            PropVal::Int(i) => self.add(*i as u64),
+            PropVal::Int(i) => self.add_signed(*i),
             PropVal::Sym(name) => self.add(u64::from(name.0)),
             PropVal::Syms(names) => self.add_place(names.len()),
             PropVal::Text(text) => self.add_chars(text),
@@ -118,7 +124,10 @@ impl Sum {
                 self.add_place(*from * 1000 + *to);
             }
             Rec::First => self.add(2),
-            Rec::Moved(k, by) => self.add(u64::from(*k) * 1000 + *by as u64),
+            Rec::Moved(k, by) => {
+                self.add(u64::from(*k));
+                self.add_signed(*by);
+            }
         }
     }
 
@@ -183,6 +192,7 @@ fn sum(editor: &Editor) -> u64 {
 }
 
 /// What the calls are given.
+#[derive(Drop)]
 struct Given {
     styled: Piece,
     nothing: Piece,

@@ -63,15 +63,15 @@ fn main(rt: HostRuntime) -> io::Result<()> {
 }
 PROGRAM
 
-export RT_SECONDS=3600
 for way in forms string nested; do
-    quietly rt run -- "$work/$way.half" "$work/$way.whole"
+    proved "$work/$way.half" "$work/$way.whole"
 done
 
 if command -v emacs > /dev/null; then
     for way in forms string nested; do
         for part in half whole; do
-            SCRIPT="$work/$way.$part" emacs -Q --batch --eval '
+            export SCRIPT="$work/$way.$part"
+            times_over emacs -Q --batch --eval '
 (with-temp-buffer
   (insert-file-contents (getenv "SCRIPT"))
   (let ((start (float-time (get-internal-run-time))))
