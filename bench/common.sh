@@ -71,7 +71,7 @@ scratch_program() {
 # quietly COMMAND ..: what the command writes to standard error is shown only where it fails
 quietly() {
     "$@" 2> "$work/log" || {
-        tail -n 20 "$work/log" >&2
+        grep -vE '^(library|statements) ' "$work/log" | tail -n 20 >&2
         exit 1
     }
 }

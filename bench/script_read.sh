@@ -45,10 +45,10 @@ const TIMES: u32 = 10;
 fn reading(rt: &HostRuntime, path: &str) -> io::Result<()> {
     let bytes = fs::read(rt, path)?;
     let start = used(rt)?;
-    let mut scripts = 0;
+    let mut scripts = 0u32;
     for _ in 0..TIMES {
         if read(rt.alloc(), bytes.as_slice()).is_ok() {
-            scripts += 1;
+            scripts = scripts.saturating_add(1);
         }
     }
     let time = used(rt)?.saturating_sub(start) / 1000;
