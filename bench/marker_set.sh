@@ -346,5 +346,5 @@ for count in $counts; do
         (goto-char (point-min))
         (insert \"x\"))
       (princ (format \"emacs rising $count: 10000 insertions in front %d us, last marker at %d\n\"
-                     (* 1000000 (- (float-time (get-internal-run-time)) start)) (aref markers (1- $count)))))))"
+                     (* 1000000 (- (float-time (get-internal-run-time)) start)) (marker-position (aref markers (1- $count))))))))"
 done

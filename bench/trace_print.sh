@@ -31,6 +31,8 @@ struct Counting {
 }
 
 impl Sink for Counting {
+    ghost use Rattle.std.specs.Prelude.{None};
+
     ghost state = { λ s. record { held = None; faults = 0; room = 0 } };
 
     fn write(&mut self, from: &[u8]) -> Wrote {
