@@ -175,7 +175,7 @@ fn main(rt: HostRuntime) -> io::Result<()> {
 }
 PROGRAM
 
-RT_SECONDS=3600 quietly rt run -- $counts
+proved $counts
 
 if command -v emacs > /dev/null; then
     cat > "$work/changes.el" <<'LISP'
@@ -224,7 +224,8 @@ if command -v emacs > /dev/null; then
   (changes count 0 t t))
 (mapc #'undoing '(16384 32768 65536))
 LISP
-    COUNTS="$counts" emacs -Q --batch -l "$work/changes.el"
+    export COUNTS="$counts"
+    times_over emacs -Q --batch -l "$work/changes.el"
 else
     echo "emacs is not installed here"
 fi

@@ -2,7 +2,8 @@
 #
 #     . "$(dirname "$0")/common.sh"
 #
-# and has then `top`, this repository, and `work`, a folder that is removed when the script ends.
+# and has then `top`, this repository, and `work`, a folder that is removed when the script ends. With TIMES=3 in the
+# environment each program of a script that measures processor time runs three times; the least of its times disturbs least.
 
 top=$(cd "$(dirname "$0")/.." && pwd)
 work=$(mktemp -d "${TMPDIR:-/tmp}/noonwool_bench.XXXXXX")
@@ -70,7 +71,22 @@ scratch_program() {
 # quietly COMMAND ..: what the command writes to standard error is shown only where it fails
 quietly() {
     "$@" 2> "$work/log" || {
-        tail -n 20 "$work/log" >&2
+        grep -vE '^(library|statements) ' "$work/log" | tail -n 20 >&2
         exit 1
     }
+}
+
+# times_over COMMAND ..: runs it TIMES times, once if no number is given
+times_over() {
+    for _ in $(seq "${TIMES:-1}"); do
+        "$@"
+    done
+}
+
+# proved ARGUMENT ..: proves, builds and runs the program in this folder, TIMES times
+proved() {
+    RT_SECONDS=3600 quietly rt run -- "$@"
+    for _ in $(seq 2 "${TIMES:-1}"); do
+        "out/$name" "$@"
+    done
 }

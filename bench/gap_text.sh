@@ -1,5 +1,5 @@
 #!/bin/sh
-# How the time of insertions grows with their number: at a place that moves along, at one that wanders by up to 20, and
+# How the processor time of insertions grows with their number: at a place that moves along, at one that wanders by up to 20, and
 # at random places. A text of a gap takes the distance between two insertions, so twice as many take twice as long at
 # the first two, and four times as long at random places. The same is done by `emacs -Q --batch` where it is installed.
 #
@@ -14,10 +14,10 @@ scratch_program bench_texts ek_types text_pool gap_text <<'PROGRAM'
 #![tactic(auto)]
 ghost use Rattle.std.specs.Prelude.{◌≤◌};
 
+use bench_clock::used;
 use ek_types::{Ch, Chars};
 use gap_text::Text;
 use std::{env, io};
-use std::time::Instant;
 use text_pool::Pool;
 
 #[derive(Clone, Copy)]
@@ -54,7 +54,7 @@ fn insertions(rt: &HostRuntime, way: Way, count: usize) -> io::Result<()> {
     }
     let mut seed = 1;
     let mut last = 0usize;
-    let start = Instant::now(rt);
+    let start = used(rt);
     'inserting: for _ in 0..count {
         seed = next(seed);
         let len = text.len();
@@ -69,9 +69,10 @@ fn insertions(rt: &HostRuntime, way: Way, count: usize) -> io::Result<()> {
         Way::Wandering => "wandering",
         Way::Random => "random",
     };
+    let end = used(rt);
     let blocks = pool.live();
     text.release(&mut pool);
-    let time = start?.elapsed(rt)?.as_millis();
+    let time = end?.saturating_sub(start?) / 1_000_000;
     println!(rt; "gap_text {name} {count}: {time} ms, {blocks} blocks")
 }
 
@@ -97,24 +98,23 @@ abbrev pub invariant-inserting : goal.invariant-inserting
 invariant-inserting l = LiesIn l.pool l.text
 PROOF
 
-export RT_SECONDS=3600
-quietly rt run -- $counts
+proved $counts
 
 if command -v emacs > /dev/null; then
     for way in along wandering random; do
         for count in $counts; do
-            emacs -Q --batch --eval "
+            times_over emacs -Q --batch --eval "
 (with-temp-buffer
   (buffer-disable-undo)
   (random \"1\")
-  (let ((place 0) (start (float-time)))
+  (let ((place 0) (start (float-time (get-internal-run-time))))
     (dotimes (len $count)
       (setq place (cond ((string= \"$way\" \"along\") len)
                         ((string= \"$way\" \"random\") (random (1+ len)))
                         (t (max 0 (min len (+ place (- (random 41) 20)))))))
       (goto-char (1+ place))
       (insert \"x\"))
-    (princ (format \"emacs $way $count: %d ms\\n\" (* 1000 (- (float-time) start))))))"
+    (princ (format \"emacs $way $count: %d ms\\n\" (* 1000 (- (float-time (get-internal-run-time)) start))))))"
         done
     done
 else

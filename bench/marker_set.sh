@@ -1,5 +1,5 @@
 #!/bin/sh
-# How long changes take among many markers, and how the time grows with their number.
+# How much processor time changes take among many markers, and how it grows with their number.
 #
 # The markers of one buffer stand at places that rise, that fall, in no order, or all at one place. Among them, 10,000
 # times each: one character put in before all of them, behind all, and at places in turn; a question for the markers
@@ -20,9 +20,9 @@ scratch_program bench_markers text_model ek_types marker_set <<'PROGRAM'
 ghost use Rattle.std.specs.Prelude.{◌≤◌, ◌<◌, ◌+◌, ◌^◌, All, OnOk, IfOk};
 ghost use Rattle.bench_markers.specs.Upto.{PlaceUpto};
 
+use bench_clock::used;
 use ek_types::{Mem, NoMemory};
 use marker_set::Markers;
-use std::time::Instant;
 use std::{env, io};
 
 const TIMES: usize = 10_000;
@@ -134,7 +134,7 @@ fn put_in(markers: &mut Markers, buffer: u32, at: usize, most: usize)
     markers.note_insert(buffer, at, 1, false);
 }
 
-fn say(rt: &HostRuntime, shape: Shape, count: usize, what: &str, micros: u128) -> io::Result<()> {
+fn say(rt: &HostRuntime, shape: Shape, count: usize, what: &str, micros: u64) -> io::Result<()> {
     println!(rt; "marker_set {} {count}: {TIMES} {what} {micros} us", shape.name())
 }
 
@@ -144,12 +144,12 @@ fn insertions(rt: &HostRuntime, shape: Shape, count: usize, way: Way) -> io::Res
     let Ok(mut markers) = markers_of(rt, shape, count) else {
         return println!(rt; "no memory");
     };
-    let start = Instant::now(rt)?;
+    let start = used(rt)?;
     for i in 0..TIMES {
         let most = count + i;
         put_in(&mut markers, way.buffer(), way.place(i, most), most);
     }
-    say(rt, shape, count, way.name(), start.elapsed(rt)?.as_micros())
+    say(rt, shape, count, way.name(), used(rt)?.saturating_sub(start) / 1000)
 }
 
 fn questions(rt: &HostRuntime, shape: Shape, count: usize) -> io::Result<()> {
@@ -157,14 +157,14 @@ fn questions(rt: &HostRuntime, shape: Shape, count: usize) -> io::Result<()> {
         return println!(rt; "no memory");
     };
     let mut found = 0usize;
-    let start = Instant::now(rt)?;
+    let start = used(rt)?;
     for i in 0..TIMES {
         let from = Way::InTurn.place(i, count);
         if let Ok(numbers) = markers.within(0, from, from.saturating_add(64)) {
             found = found.saturating_add(numbers.len());
         }
     }
-    let micros = start.elapsed(rt)?.as_micros();
+    let micros = used(rt)?.saturating_sub(start) / 1000;
     println!(rt; "marker_set {} {count}: {TIMES} questions {micros} us, {found} found", shape.name())
 }
 
@@ -172,31 +172,31 @@ fn deletions(rt: &HostRuntime, shape: Shape, count: usize) -> io::Result<()> {
     let Ok(mut markers) = markers_of(rt, shape, count) else {
         return println!(rt; "no memory");
     };
-    let start = Instant::now(rt)?;
+    let start = used(rt)?;
     for i in 0..TIMES {
         let from = Way::InTurn.place(i, count);
         markers.note_delete(0, from, from.saturating_add(64));
     }
-    say(rt, shape, count, "deletions", start.elapsed(rt)?.as_micros())
+    say(rt, shape, count, "deletions", used(rt)?.saturating_sub(start) / 1000)
 }
 
 fn settings(rt: &HostRuntime, shape: Shape, count: usize) -> io::Result<()> {
     let Ok(mut markers) = markers_of(rt, shape, count) else {
         return println!(rt; "no memory");
     };
-    let start = Instant::now(rt)?;
+    let start = used(rt)?;
     for i in 0..TIMES as u32 {
         if i < markers.count() {
             markers.set(i, Some((0, Way::InTurn.place(i as usize, count))));
         }
     }
-    say(rt, shape, count, "settings", start.elapsed(rt)?.as_micros())
+    say(rt, shape, count, "settings", used(rt)?.saturating_sub(start) / 1000)
 }
 
 fn making(rt: &HostRuntime, shape: Shape, count: usize) -> io::Result<()> {
-    let start = Instant::now(rt)?;
+    let start = used(rt)?;
     let made = markers_of(rt, shape, count).is_ok();
-    let micros = start.elapsed(rt)?.as_micros();
+    let micros = used(rt)?.saturating_sub(start) / 1000;
     println!(rt; "marker_set {} {count}: made {micros} us, done {made}", shape.name())
 }
 
@@ -328,23 +328,23 @@ abbrev pub invariant-loop-i : goal.invariant-loop-i
 invariant-loop-i l = All (PlaceUpto (l.count + l.i)) l.markers
 PROOF
 
-RT_SECONDS=3600 quietly rt run -- $counts
+proved $counts
 
 if ! command -v emacs > /dev/null; then
     echo "emacs is not installed here"
     exit 0
 fi
 for count in $counts; do
-    emacs -Q --batch --eval "
+    times_over emacs -Q --batch --eval "
 (with-temp-buffer
   (insert (make-string (1+ $count) ?x))
   (let ((markers (make-vector $count nil)))
     (dotimes (k $count)
       (aset markers k (copy-marker (1+ k))))
-    (let ((start (float-time)))
+    (let ((start (float-time (get-internal-run-time))))
       (dotimes (i 10000)
         (goto-char (point-min))
         (insert \"x\"))
       (princ (format \"emacs rising $count: 10000 insertions in front %d us, last marker at %d\n\"
-                     (* 1000000 (- (float-time) start)) (aref markers (1- $count)))))))"
+                     (* 1000000 (- (float-time (get-internal-run-time)) start)) (marker-position (aref markers (1- $count))))))))"
 done

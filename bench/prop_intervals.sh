@@ -1,5 +1,5 @@
 #!/bin/sh
-# How long insertions in front of many runs take: a text of RUNS characters, each with a property of its own, and COUNT
+# The processor time of insertions in front of many runs: a text of RUNS characters, each with a property of its own, and COUNT
 # times one plain character put in front of it, after each the set asked that stands RUNS/2 places in front of the end.
 # The first insertion makes a run, and each later one makes it longer. The same with half the runs shows how the time
 # grows with their number. `emacs -Q --batch` does the same insertions beside it where it is installed.
@@ -15,10 +15,10 @@ scratch_program bench_sets ek_types prop_intervals <<'PROGRAM'
 #![tactic(auto)]
 ghost use Rattle.std.specs.Prelude.{◌≡◌, ◌+◌, ◌<◌, ◌≤◌, ◌^◌, length, IfOk};
 
+use bench_clock::used;
 use ek_types::{Ch, Chars, Mem, Piece, PropSet, PropVal, Sym};
 use prop_intervals::Props;
 use std::alloc::Global;
-use std::time::Instant;
 use std::{env, io};
 
 const FACE: Sym = Sym(20);
@@ -91,7 +91,7 @@ fn insertions(props: &mut Props, x: &Piece, runs: usize, asked: usize, count: us
 }
 
 /// How many answers were right, and the milliseconds of all insertions.
-fn timed(rt: &HostRuntime, runs: usize, asked: usize, count: usize) -> io::Result<(u64, u128)>
+fn timed(rt: &HostRuntime, runs: usize, asked: usize, count: usize) -> io::Result<(u64, u64)>
     requires some { 0 < asked }
     requires long { asked ≤ runs }
     requires runs { runs < 2 ^ 32 }
@@ -103,9 +103,9 @@ fn timed(rt: &HostRuntime, runs: usize, asked: usize, count: usize) -> io::Resul
     let Ok(x) = bare_text(rt.alloc(), 1) else {
         return Ok((0, 0));
     };
-    let start = Instant::now(rt);
+    let start = used(rt);
     let same = insertions(&mut props, &x, runs, asked, count).unwrap_or(0);
-    Ok((same, start?.elapsed(rt)?.as_millis()))
+    Ok((same, used(rt)?.saturating_sub(start?) / 1_000_000))
 }
 
 fn measured(rt: &HostRuntime, runs: usize, asked: usize, count: usize) -> io::Result<()>
@@ -155,7 +155,7 @@ abbrev pub invariant-loop-k : goal.invariant-loop-k
 invariant-loop-k l = length l.props ≡ l.runs + l.k
 PROOF
 
-RT_SECONDS=3600 quietly rt run -- "$count"
+proved "$count"
 
 if command -v emacs > /dev/null; then
     cat > "$work/sets.el" <<'LISP'
@@ -163,18 +163,19 @@ if command -v emacs > /dev/null; then
   (with-temp-buffer
     (buffer-disable-undo)
     (dotimes (i runs) (insert (propertize "x" 'face (1+ i))))
-    (let ((asked (/ runs 2)) (same 0) (start (float-time)))
+    (let ((asked (/ runs 2)) (same 0) (start (float-time (get-internal-run-time))))
       (dotimes (_ count)
         (goto-char (point-min))
         (insert "x")
         (when (equal (get-text-property (- (point-max) asked) 'face) (1+ asked)) (setq same (1+ same))))
       (princ (format "emacs          %6d runs: %d insertions in front and questions %d ms, %d answers right\n"
-                     runs count (* 1000 (- (float-time) start)) same)))))
+                     runs count (* 1000 (- (float-time (get-internal-run-time)) start)) same)))))
 (byte-compile 'insertions)
 (insertions 131072 (string-to-number (getenv "COUNT")))
 (insertions 65536 (string-to-number (getenv "COUNT")))
 LISP
-    COUNT=$count emacs -Q --batch -l "$work/sets.el"
+    export COUNT="$count"
+    times_over emacs -Q --batch -l "$work/sets.el"
 else
     echo "emacs is not installed here"
 fi

@@ -4,7 +4,7 @@
 # whole editor as it was: texts with properties, accessible portions, flags, undo records, names, markers, overlays, the
 # newest kept place, and a register. A second try must succeed, and behind each call all must be as without refusals.
 #
-#     bench/refused_edits.sh [LAST]        (allocations 1 to 900 if no number is given)
+#     bench/refused_edits.sh [LAST]        (allocations 1 to 500 if no number is given)
 #
 # It uses `rt try`, which proves nothing and refuses the allocation of a given number. So that all runs need one build, that
 # number is fixed, and each run first makes and drops so many others that the wanted one comes to it. Ends with status 1
@@ -12,7 +12,7 @@
 set -eu
 
 . "$(dirname "$0")/common.sh"
-last=${1:-900}
+last=${1:-500}
 
 scratch_program refused ek_types ek_call narrow_region prop_intervals undo_list buffer_table <<'PROGRAM'
 //! An editor where one allocation is refused: standard input has the number of the allocation.
@@ -55,6 +55,7 @@ fn say_number(rt: &HostRuntime, n: u64) {
 }
 
 /// A number for all that there is, made without memory.
+#[derive(Drop)]
 struct Sum {
     value: u64,
 }
@@ -68,6 +69,11 @@ impl Sum {
         self.add(place as u64);
     }
 
+    fn add_signed(&mut self, n: i64) {
+        self.add(n.unsigned_abs());
+        self.add(u64::from(n < 0));
+    }
+
     fn add_chars(&mut self, chars: &Chars) {
         self.add_place(chars.len());
         for i in 0..chars.len() {
@@ -78,7 +84,7 @@ impl Sum {
     fn add_value(&mut self, value: &PropVal) {
         match value {
             PropVal::Truth => self.add(1),
-            PropVal::Int(i) => self.add(*i as u64),
+            PropVal::Int(i) => self.add_signed(*i),
             PropVal::Sym(name) => self.add(u64::from(name.0)),
             PropVal::Syms(names) => self.add_place(names.len()),
             PropVal::Text(text) => self.add_chars(text),
@@ -118,7 +124,10 @@ impl Sum {
                 self.add_place(*from * 1000 + *to);
             }
             Rec::First => self.add(2),
-            Rec::Moved(k, by) => self.add(u64::from(*k) * 1000 + *by as u64),
+            Rec::Moved(k, by) => {
+                self.add(u64::from(*k));
+                self.add_signed(*by);
+            }
         }
     }
 
@@ -183,6 +192,7 @@ fn sum(editor: &Editor) -> u64 {
 }
 
 /// What the calls are given.
+#[derive(Drop)]
 struct Given {
     styled: Piece,
     nothing: Piece,
@@ -326,6 +336,7 @@ done
 rt try --fail-alloc 1000 --cases ../../cases > "$work/said" 2> "$work/log" || tail -n 20 "$work/log" >&2
 
 python3 - "$work/said" "$last" <<'VERDICT'
+import collections
 import re
 import sys
 
@@ -344,21 +355,20 @@ def verdict(run):
     if "set up" not in run:
         return "refused before the first call"
     refused = re.findall(r"^step (\d+) refused$", run, re.M)
-    what = f"refused in step {refused[0]}, then made" if refused else "nothing refused"
     right = "WRONG" not in run and "whole" in run and sums(run) == sums(runs[999])
+    what = f"refused in step {refused[0]}, then made" if refused else UNNOTICED
     return what if right else "WRONG: " + what
 
 
-ranges = []
-for number in range(1, last + 1):
-    what = verdict(runs[number])
-    if ranges and ranges[-1][2] == what:
-        ranges[-1][1] = number
-    else:
-        ranges.append([number, number, what])
-if ranges[-1][2] != "nothing refused":
-    ranges.append([last + 1, last + 1, "WRONG: there are more allocations"])
-for first, to, what in ranges:
-    print(f"{first:4} to {to:4}: {what}")
-sys.exit(any("WRONG" in what for _, _, what in ranges))
+UNNOTICED = "refused, and the call found room all the same"
+found = [verdict(runs[number]) for number in range(1, last + 1)]
+while found and found[-1] == UNNOTICED:
+    found.pop()
+counts = collections.Counter(found)
+for what, count in counts.items():
+    print(f"{count:4} from {found.index(what) + 1:3} on: {what}")
+print(f"{len(found):4} allocations")
+if len(found) == last:
+    print("WRONG: there may be more")
+sys.exit(len(found) == last or any("WRONG" in what for what in counts))
 VERDICT

@@ -45,10 +45,10 @@ const TIMES: u32 = 10;
 fn reading(rt: &HostRuntime, path: &str) -> io::Result<()> {
     let bytes = fs::read(rt, path)?;
     let start = used(rt)?;
-    let mut scripts = 0;
+    let mut scripts = 0u32;
     for _ in 0..TIMES {
         if read(rt.alloc(), bytes.as_slice()).is_ok() {
-            scripts += 1;
+            scripts = scripts.saturating_add(1);
         }
     }
     let time = used(rt)?.saturating_sub(start) / 1000;
@@ -63,15 +63,15 @@ fn main(rt: HostRuntime) -> io::Result<()> {
 }
 PROGRAM
 
-export RT_SECONDS=3600
 for way in forms string nested; do
-    quietly rt run -- "$work/$way.half" "$work/$way.whole"
+    proved "$work/$way.half" "$work/$way.whole"
 done
 
 if command -v emacs > /dev/null; then
     for way in forms string nested; do
         for part in half whole; do
-            SCRIPT="$work/$way.$part" emacs -Q --batch --eval '
+            export SCRIPT="$work/$way.$part"
+            times_over emacs -Q --batch --eval '
 (with-temp-buffer
   (insert-file-contents (getenv "SCRIPT"))
   (let ((start (float-time (get-internal-run-time))))

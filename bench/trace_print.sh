@@ -31,6 +31,8 @@ struct Counting {
 }
 
 impl Sink for Counting {
+    ghost use Rattle.std.specs.Prelude.{None};
+
     ghost state = { λ s. record { held = None; faults = 0; room = 0 } };
 
     fn write(&mut self, from: &[u8]) -> Wrote {
@@ -125,10 +127,10 @@ fn main(rt: HostRuntime) -> io::Result<()> {
 }
 PROGRAM
 
-RT_SECONDS=3600 quietly rt run -- "$characters" "$count"
+proved "$characters" "$count"
 
 if command -v emacs > /dev/null; then
-    emacs -Q --batch --eval "
+    times_over emacs -Q --batch --eval "
 (let ((text (make-string $characters ?x)) (start nil))
   (dotimes (run (/ $characters 32))
     (put-text-property (* 32 run) (+ 32 (* 32 run)) 'face (mod run 32) text))

@@ -1,5 +1,5 @@
 #!/bin/sh
-# How the time of recording and of undoing grows. COUNT pushes, first in groups of two records (so that past 65,536
+# How the processor time of recording and of undoing grows. COUNT pushes, first in groups of two records (so that past 65,536
 # records each push cuts one old group now and then), then as one long group (so that it is dropped whole, and seldom):
 # twice as many take twice as long. Then lists of 16,384 to 65,536 records in small groups are planned and passed whole,
 # a group at a time, and all groups by one call: each takes twice as long where there are twice as many records. The
@@ -15,8 +15,8 @@ scratch_program bench_undo ek_types undo_list <<'PROGRAM'
 //! Pushes, cuts, plans and passes.
 #![tactic(auto)]
 
+use bench_clock::used;
 use ek_types::Mem;
-use std::time::Instant;
 use std::{env, io};
 use undo_list::{Rec, Refused, Undo};
 
@@ -33,9 +33,9 @@ fn pushed(undo: &mut Undo, count: usize, small: bool) -> Mem<()> {
 
 fn pushes(rt: &HostRuntime, count: usize, small: bool) -> io::Result<()> {
     let mut undo = Undo::new(rt.alloc());
-    let start = Instant::now(rt)?;
+    let start = used(rt)?;
     let done = pushed(&mut undo, count, small).is_ok();
-    let time = start.elapsed(rt)?.as_micros();
+    let time = used(rt)?.saturating_sub(start) / 1000;
     let left = undo.len();
     let groups = if small { "groups of one record" } else { "one group" };
     println!(rt; "undo_list {count} pushes in {groups}: {time} us, {left} records left, done {done}")
@@ -58,12 +58,12 @@ fn undoings(rt: &HostRuntime, count: usize) -> io::Result<()> {
     let done = pushed(&mut undo, count / 2, true).is_ok();
     let _ = undo.start();
 
-    let start = Instant::now(rt)?;
+    let start = used(rt)?;
     let plans = one_by_one(&mut undo, count);
-    let single = start.elapsed(rt)?.as_micros();
+    let single = used(rt)?.saturating_sub(start) / 1000;
 
     let _ = undo.start();
-    let start = Instant::now(rt)?;
+    let start = used(rt)?;
     let whole = match undo.plan(u32::MAX, 0, usize::MAX) {
         Ok(Ok(plan)) => {
             undo.pass(&plan);
@@ -71,14 +71,14 @@ fn undoings(rt: &HostRuntime, count: usize) -> io::Result<()> {
         }
         _ => 0,
     };
-    let all = start.elapsed(rt)?.as_micros();
+    let all = used(rt)?.saturating_sub(start) / 1000;
 
-    let start = Instant::now(rt)?;
+    let start = used(rt)?;
     for _ in 0..1000 {
         let _ = undo.start();
         let _ = undo.plan(1, 0, usize::MAX);
     }
-    let thousand = start.elapsed(rt)?.as_micros();
+    let thousand = used(rt)?.saturating_sub(start) / 1000;
     println!(rt; "undo_list {count} records, pushed {done}: {plans} plans of a group {single} us; one plan of all {whole} {all} us; 1,000 times the newest group {thousand} us")
 }
 
@@ -95,4 +95,4 @@ fn main(rt: HostRuntime) -> io::Result<()> {
 }
 PROGRAM
 
-rt try --seconds 3600 -- $counts
+proved $counts

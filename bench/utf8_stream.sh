@@ -1,5 +1,5 @@
 #!/bin/sh
-# How long UTF-8 takes to decode in pieces of 4,096 bytes into a list, beside `bstr`'s own decoding of the same bytes in
+# The processor time of UTF-8 decoded in pieces of 4,096 bytes into a list, beside `bstr`'s own decoding of the same bytes in
 # one piece, which keeps nothing: ASCII, characters of two and of four bytes, and bytes that are no UTF-8. The ratio of
 # the two times is what counts: it should stay below 2. The program is proved and built first, which takes a minute.
 #
@@ -13,12 +13,12 @@ scratch_program bench_decoding ek_types utf8_stream bstr <<'PROGRAM'
 //! The time of decoding in pieces, and of `bstr`'s decoding.
 #![tactic(auto)]
 
+use bench_clock::used;
 use bstr::ByteSlice;
 use ek_types::{Ch, Chars, Mem};
 use std::alloc::Global;
 use std::env;
 use std::io;
-use std::time::Instant;
 use utf8_stream::Decoder;
 
 const LENGTH: usize = 262_144;
@@ -63,17 +63,17 @@ fn compare(rt: &HostRuntime, name: &str, unit: &[u8], rounds: u32) -> io::Result
         return Ok(());
     };
     let mut characters = 0usize;
-    let start = Instant::now(rt);
+    let start = used(rt);
     for _ in 0..rounds {
         characters = characters.wrapping_add(in_pieces(rt.alloc(), text.as_slice()).unwrap_or(0));
     }
-    let pieces = start?.elapsed(rt)?.as_micros();
+    let pieces = used(rt)?.saturating_sub(start?) / 1000;
     let mut codes = 0;
-    let start = Instant::now(rt);
+    let start = used(rt);
     for _ in 0..rounds {
         codes ^= in_one_piece(text.as_slice());
     }
-    let whole = start?.elapsed(rt)?.as_micros();
+    let whole = used(rt)?.saturating_sub(start?) / 1000;
     let length = text.len();
     println!(rt; "{name}: {rounds} times {length} bytes: {pieces} microseconds in pieces, {whole} by bstr in one ({characters} characters, {codes})")
 }
@@ -91,7 +91,7 @@ fn main(rt: HostRuntime) -> io::Result<()> {
 }
 PROGRAM
 
-quietly rt run -- "$rounds" > "$work/times"
+proved "$rounds" > "$work/times"
 
 # NAME: ROUNDS times LENGTH bytes: MICROSECONDS microseconds in pieces, MICROSECONDS by bstr in one (..)
 sed -nE 's/^(.*): ([0-9]+) times ([0-9]+) bytes: ([0-9]+) microseconds in pieces, ([0-9]+) by bstr.*/\1:\2:\3:\4:\5/p' "$work/times" |

@@ -1,7 +1,7 @@
 //! The shipped handlers against the reference, reply by reply, and lists of boxes.
 use crate::{Boxed, DropFilter, Handler, InsertFilter, NoteSentinel};
 use ek_call::{Fault, Primitive, Replies, Reply, Value, Values};
-use ek_types::{ListOf, Mem};
+use ek_types::{Copied, ListOf, Mem, Sym};
 use handler_code::{Natives, Next};
 use std::alloc::Global;
 use std::test::Fail;
@@ -115,6 +115,62 @@ fn a_fault_or_nil_at_any_place_ends_the_insert_filter(rt: HostRuntime) -> Result
     Ok(())
 }
 
+/// A value of each kind that a reply may be told by.
+fn of_kind(kind: usize) -> Value {
+    match kind {
+        0 => Value::Nil,
+        1 => Value::T,
+        2 => Value::Int(3),
+        3 => Value::Buffer(1),
+        4 => Value::Marker(7),
+        5 => Value::Overlay(6),
+        6 => Value::Process(4),
+        _ => Value::Sym(Sym(3)),
+    }
+}
+
+/// Whether a handler goes on where a value of each kind is the last reply: only that kind is wanted, if one is.
+fn goes_on_at<H: Handler>(
+    alloc: Global,
+    handler: &H,
+    before: &Replies,
+    wanted: Option<usize>,
+) -> Mem<bool> {
+    for kind in 0..8 {
+        let mut past = before.copy()?;
+        past.push(Reply::Value(of_kind(kind)))?;
+        let goes_on = asked(alloc, handler, &past)?.is_some();
+        if goes_on != (wanted.is_none() || wanted == Some(kind)) {
+            return Ok(false);
+        }
+    }
+    Ok(true)
+}
+
+#[test]
+fn a_value_of_another_kind_ends_each_handler(rt: HostRuntime) -> Result<(), Fail> {
+    let wanted = [
+        Some(3),
+        None,
+        Some(2),
+        Some(4),
+        Some(2),
+        None,
+        None,
+        Some(2),
+        None,
+    ];
+    for (count, kind) in wanted.iter().enumerate() {
+        let before = replies(rt.alloc(), count, 5)?;
+        assert!(rt; goes_on_at(rt.alloc(), &InsertFilter::new(), &before, *kind)?);
+    }
+    for (count, kind) in [Some(3), None, Some(2), None].iter().enumerate() {
+        let before = notes(rt.alloc(), count)?;
+        assert!(rt; goes_on_at(rt.alloc(), &NoteSentinel::new(), &before, *kind)?);
+    }
+    Ok(())
+}
+
 #[test]
 fn point_goes_back_where_it_stood(rt: HostRuntime) -> Result<(), Fail> {
     for (point, place) in [
@@ -185,11 +241,14 @@ fn boxes_are_natives_in_their_order(rt: HostRuntime) -> Result<(), Fail> {
 fn a_list_has_up_to_65536_boxes(rt: HostRuntime) -> Result<(), Fail> {
     let alloc = rt.alloc();
     let mut list: Vec<Box<dyn Handler>> = Vec::new(alloc);
-    for _ in 0..65536_u32 {
+    for _ in 0..65535_u32 {
         list.push(Box::new(alloc, DropFilter::new())?)?;
     }
+    list.push(Box::new(alloc, InsertFilter::new())?)?;
     let boxed = Boxed::new(list);
     assert_eq!(rt; boxed.count(), 65536);
-    assert_eq!(rt; boxed.name(65535), "drop-filter");
+    assert_eq!(rt; boxed.name(65534), "drop-filter");
+    assert_eq!(rt; boxed.name(65535), "insert-filter");
+    assert_eq!(rt; boxed.name(65536), "");
     Ok(())
 }
