@@ -1,6 +1,6 @@
 use Rattle.std.proofs.Common.{◌∙◌, arith}
 use Rattle.editor_prims.proofs.Inheriting.{run_more, runs_all, run_size}
-use Rattle.editor_prims.proofs.inserts.with_inherited.Goals as goal
+use Rattle.editor_prims.proofs.inserts.put_beneath.Goals as goal
 
 pub runs-preserved : goal.runs-preserved
 runs-preserved c =
