@@ -46,3 +46,10 @@ runs_all set orig piece i inv size l =
 pub run_size : (set : PropSet) (orig new : List Cell) (end : ℕ) → end ≤ length orig → new ≡ map (over set) (take end orig) ++ drop end orig → length new ≡ length orig
 run_size set orig new end l h =
     ap length h ∙ length-append (map (over set) (take end orig)) (drop end orig) ∙ (omega (arith, length-map (take end orig) (over set), length-take end orig, length-drop end orig))
+
+-- no properties beneath characters that have none change nothing
+pub untouched : (cells : List Cell) → ((j : ℕ) → j < length cells → option_map (λ c. c.1) (slice_get cells j) ≡ Some []) → cells ≡ with_inherited [] cells
+untouched [] h = refl
+untouched (x ∷ cells) h =
+    let own : x.1 ≡ [] = same_Some x.1 [] (h 0 (omega arith)) in
+    ap (λ t. (x.0, t) ∷ cells) (own ∙ ap (put_all []) (sym own)) ∙ ap (λ q. over [] x ∷ q) (untouched cells (λ j b. h (suc j) (omega arith)))

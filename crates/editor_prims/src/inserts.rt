@@ -1,7 +1,7 @@
 //! The calls that insert strings ("Insertion" in the GNU Emacs Lisp Reference Manual; "Sticky Properties" there for what an
 //! insertion inherits).
 ghost use Rattle.std.specs.Prelude.{◌≡◌, ◌+◌, ◌<◌, ◌++◌, [], ◌∷◌, map, length, drop, IfOk, OnOk};
-ghost use Rattle.std.specs.Prelude.{if◌then◌else◌};
+ghost use Rattle.std.specs.Prelude.{if◌then◌else◌, ℕ, true, option_map, Some, slice_get};
 ghost use Rattle.text_model.specs.Properties.{put_all};
 ghost use Rattle.text_model.specs.Ordered.{IsProper};
 ghost use Rattle.editor_model.specs.Answers.{first_fault};
@@ -82,8 +82,29 @@ fn with_all(set: &PropSet, more: &PropSet) -> Mem<PropSet>
     Ok(all)
 }
 
+/// Whether a piece is known to have no properties: it has characters, all of one set, and that is empty.
+fn is_bare(piece: &Piece) -> bool
+    ensures { result ≡ true → (j : ℕ) → j < length piece.now →
+        option_map (λ c. c.1) (slice_get piece.now j) ≡ Some [] }
+{
+    if piece.is_empty() {
+        return false;
+    }
+    piece.run_end(0) == piece.len() && piece.props(0).len() == 0
+}
+
 /// A piece with the properties of a set put beneath those of each character.
 fn with_inherited(piece: Piece, set: &PropSet) -> Mem<Piece>
+    ensures { IfOk result (λ p. p ≡ calls.with_inherited set.now piece) }
+{
+    if set.len() == 0 && is_bare(&piece) {
+        return Ok(piece);
+    }
+    put_beneath(piece, set)
+}
+
+/// The same, one run of one set after the other.
+fn put_beneath(piece: Piece, set: &PropSet) -> Mem<Piece>
     ensures { IfOk result (λ p. p ≡ calls.with_inherited set.now piece) }
 {
     let mut piece = piece;

@@ -100,7 +100,7 @@ pub fn reply<K: Sink>(
     let mut out = Printer::new(sink);
     out.margin(depth);
     out.reply(reply, names);
-    out.put(b"\n");
+    out.put_byte(b'\n');
     out.finish()
 }
 
@@ -121,10 +121,10 @@ pub fn entry<K: Sink>(
     out.margin(depth);
     out.put(b"> ");
     out.kind(kind);
-    out.put(b" ");
+    out.put_byte(b' ');
     out.handler(handler, names.symbols);
     out.arguments(args, names);
-    out.put(b"\n");
+    out.put_byte(b'\n');
     out.finish()
 }
 
@@ -142,7 +142,7 @@ pub fn exit<K: Sink>(
     out.margin(depth);
     out.put(b"< ");
     out.handler(handler, names.symbols);
-    out.put(b"\n");
+    out.put_byte(b'\n');
     out.finish()
 }
 
@@ -153,7 +153,7 @@ pub fn kill<K: Sink>(process: u32, names: &Names, sink: &mut K) -> Result<(), Si
     let mut out = Printer::new(sink);
     out.put(b"kill ");
     out.process(process, names);
-    out.put(b"\n");
+    out.put_byte(b'\n');
     out.finish()
 }
 

@@ -1,5 +1,5 @@
 //! What writes to a sink until a write fails.
-ghost use Rattle.std.specs.Prelude.{◌≡◌, ◌+◌, ◌<◌, ◌≤◌, false, [], length};
+ghost use Rattle.std.specs.Prelude.{◌≡◌, ◌+◌, ◌<◌, ◌≤◌, false, [], ◌∷◌, length};
 ghost use Rattle.ek_types.specs.Io.{Continues};
 ghost use Rattle.trace_print.specs.Outcomes.{outcome, gap};
 ghost use Rattle.trace_print.specs.Printing.{Prints, Finishes};
@@ -70,12 +70,21 @@ impl<'a, K: Sink> Printer<'a, K> {
         }
     }
 
+    /// Writes one byte.
+    pub(crate) fn put_byte(&mut self, byte: u8)
+        ensures { Prints K.state self.old self.new (byte ∷ []) }
+    {
+        if self.gathered.try_push(byte).is_err() {
+            self.put(&[byte]);
+        }
+    }
+
     /// Writes the blank that stands in front of each word but the first.
     pub(crate) fn gap(&mut self, number: usize)
         ensures { Prints K.state self.old self.new (gap number) }
     {
         if number > 0 {
-            self.put(b" ");
+            self.put_byte(b' ');
         }
     }
 

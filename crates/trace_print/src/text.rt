@@ -5,7 +5,7 @@ ghost use Rattle.plain_machine.specs.Lines.{shown_ch, quoted};
 ghost use Rattle.ek_types.specs.Seen.{ch_of};
 ghost use Rattle.trace_print.specs.Printing.{Prints};
 
-use crate::escapes::show;
+use crate::escapes::{plain, show};
 use crate::printer::Printer;
 use ek_types::{Ch, Chars, Piece, Sink};
 
@@ -51,6 +51,16 @@ impl<K: Sink> Printer<'_, K> {
     fn shown(&mut self, c: Ch)
         ensures { Prints K.state self.old self.new (shown_ch (ch_of c)) }
     {
+        match plain(c) {
+            Some(byte) => self.put_byte(byte),
+            None => self.encoded(c),
+        }
+    }
+
+    /// Writes what stands for a character, however many bytes it is.
+    fn encoded(&mut self, c: Ch)
+        ensures { Prints K.state self.old self.new (shown_ch (ch_of c)) }
+    {
         let mut bytes = [0u8; 4];
         let size = show(c, &mut bytes);
         self.put(&bytes[..size]);
@@ -69,8 +79,8 @@ impl<K: Sink> Printer<'_, K> {
     pub(crate) fn quoted<T: Characters>(&mut self, text: &T)
         ensures { Prints K.state self.old self.new (quoted (T.chars text.now)) }
     {
-        self.put(b"\"");
+        self.put_byte(b'"');
         self.characters(text);
-        self.put(b"\"");
+        self.put_byte(b'"');
     }
 }
