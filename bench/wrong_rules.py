@@ -43,7 +43,7 @@ COMMIT_RULES = [
         MARKS,
         "if b == buffer then Excursion b (move false p)",
         "if b == buffer then Excursion b p",
-        ["editors_stay_sound"],
+        ["TextRows.kept_point_moves_holds", "editors_stay_sound"],
     ),
     (
         "end of a pending change goes behind a text put in there",
@@ -492,14 +492,14 @@ EDITOR_RULES = [
         UNDO,
         "with_boundary u = elim u.entries [ [] ↦ u |",
         "with_boundary u = elim u.entries [ [] ↦ pushed Boundary u |",
-        ["editors_stay_sound"],
+        ["UndoExamples.no_boundary_alone", "editors_stay_sound"],
     ),
     (
         "killed buffer stays current",
         EDITOR,
         "killed id e = after_kill (e.current == id)",
         "killed id e = after_kill false",
-        ["editors_stay_sound"],
+        ["HookRows.hook_kills_the_buffer_holds", "editors_stay_sound"],
     ),
     (
         "new buffer's name may be taken",

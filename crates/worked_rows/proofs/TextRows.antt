@@ -3,7 +3,7 @@ use Rattle.std.specs.Fmt.{digits}
 use Rattle.std.specs.Char.{encode_utf8}
 use Rattle.std.proofs.Common.{refl}
 use Rattle.worked_rows.specs.Row.{Holds}
-use Rattle.worked_rows.specs.TextRows.{buffer_put_back_and_forms_chosen, empty_script, first_path, region_out_of_range, empty_insertion, markers_at_a_tie, excursion_in_a_restriction, kept_end_of_a_restriction, kept_point_of_an_excursion}
+use Rattle.worked_rows.specs.TextRows.{kept_point_moves, buffer_put_back_and_forms_chosen, empty_script, first_path, region_out_of_range, empty_insertion, markers_at_a_tie, excursion_in_a_restriction, kept_end_of_a_restriction, kept_point_of_an_excursion}
 
 pub empty_script_holds : Holds empty_script
 unfolding digits encode_utf8
@@ -40,3 +40,7 @@ kept_point_of_an_excursion_holds = (refl, refl, refl)
 pub buffer_put_back_and_forms_chosen_holds : Holds buffer_put_back_and_forms_chosen
 unfolding digits encode_utf8
 buffer_put_back_and_forms_chosen_holds = (refl, refl, refl)
+
+pub kept_point_moves_holds : Holds kept_point_moves
+unfolding digits encode_utf8
+kept_point_moves_holds = (refl, refl, refl)

@@ -107,3 +107,7 @@ boundaries_calls =
 
 pub one_boundary : answers [] boundaries_calls ≡ no ∷ no ∷ no ∷ is (list (Nil ∷ Dotted (values (num 1 ∷ [])) (num 2) ∷ Dotted (values (T ∷ [])) (num 0) ∷ [])) ∷ []
 one_boundary = refl
+
+-- nor on an empty list
+pub no_boundary_alone : answers [] ((Prim.UndoBoundary, []) ∷ (Prim.BufferUndoList, []) ∷ []) ≡ no ∷ no ∷ []
+no_boundary_alone = refl

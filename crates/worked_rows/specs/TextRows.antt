@@ -166,3 +166,21 @@ buffer_put_back_and_forms_chosen =
     codes "buffer w point 2 min 1 max 2 modified t" ∷
     codes "text \"x\"" ∷ []
     )
+
+-- A point that is kept moves with the text behind a part that is taken out.
+--     (insert "abcd")(goto-char 4)(save-excursion (delete-region 1 3))(point)
+abbrev pub kept_point_moves : Row
+kept_point_moves =
+    row (script [] [] (
+    call Prim.Insert (string (codes "abcd") ∷ []) ∷
+    call Prim.GotoChar (number 4 ∷ []) ∷
+    In SaveExcursion (forms (call Prim.DeleteRegion (number 1 ∷ number 3 ∷ []) ∷ [])) ∷
+    call Prim.PointAt [] ∷ []
+    )) [] (
+    codes "= nil" ∷
+    codes "= 4" ∷
+    codes "= nil" ∷
+    codes "= 2" ∷
+    codes "buffer *scratch* point 2 min 1 max 3 modified t current" ∷
+    codes "text \"cd\"" ∷ []
+    )
