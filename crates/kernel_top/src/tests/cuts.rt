@@ -254,12 +254,12 @@ process 0 #<process sorted> exit 3
 /// end comes last.
 #[test]
 fn the_output_of_a_sort_in_each_cutting(rt: HostRuntime) -> Result<(), Fail> {
-    for Cutting { reads, texts } in CUTTINGS {
+    for Cutting { reads, texts } in &CUTTINGS {
         let mut script = String::from_str(
             rt.alloc(),
             "(defhandler s (p m))\n(setq p (start-process \"sorted\" \"out\" \"sort\"))(set-process-sentinel p 's)",
         )?;
-        for _ in reads {
+        for _ in *reads {
             script.push_str("(accept-process-output p)")?;
         }
         script.push_str("(accept-process-output p)(process-exit-status p)")?;
