@@ -4,7 +4,7 @@ use super::playing::{Row, check_rows};
 use std::test::Fail;
 
 /// Scripts without a child.
-pub const ROWS: [Row; 12] = [
+pub const ROWS: [Row; 13] = [
     Row {
         shows: "the empty script writes the dump",
         script: "",
@@ -130,6 +130,26 @@ buffer *scratch* point 5 min 1 max 5 modified t current
 text #("abcd" 0 4 (face plain))
 overlay 0 #<overlay from 1 to 5 in *scratch*> (priority 1 face outer)
 overlay 1 #<overlay from 2 to 4 in *scratch*> (face inner)
+"#,
+        exchanges: b"",
+    },
+    Row {
+        shows: "blocks inside one another, and the only buffer is killed",
+        script: r#"(insert "abcdef")
+(save-restriction (narrow-to-region 2 4)(goto-char 1)(save-excursion (goto-char 4)(insert "X"))(point-max))
+(point-max)(kill-buffer)(buffer-list)"#,
+        children: &[],
+        lines: r#"= nil
+= nil
+= 1
+= 4
+= nil
+= 5
+= 8
+= t
+= (#<buffer *scratch*>)
+buffer *scratch* point 1 min 1 max 1 modified nil current
+text ""
 "#,
         exchanges: b"",
     },

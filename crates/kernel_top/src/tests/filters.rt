@@ -1,6 +1,6 @@
 //! Children whose output goes to filters.
 
-use super::playing::{Child, Row, check_rows, check_run, one_child};
+use super::playing::{Child, Row, UNREAD, check_rows, check_run, one_child};
 use std::alloc::Global;
 use std::test::Fail;
 
@@ -106,10 +106,7 @@ end 0: code 0
                 reads: &[b"x"],
                 ends: &[],
             },
-            Child {
-                reads: &[],
-                ends: &[],
-            },
+            UNREAD,
             Child {
                 reads: &[b""],
                 ends: &[],

@@ -1,32 +1,47 @@
 //! Each call of the source, the sink and the host fails in turn, over all runs that are worked out
 //! here.
 
-use super::playing::{Calls, Child, PLAIN, Ran, Row, Setting, check_ran, plays, run_script};
+use super::playing::{
+    Calls, Child, PLAIN, Ran, Row, Run, Setting, UNREAD, check_ran, plays, run_over, run_script,
+};
 use super::shown::shown_one;
 use super::{edits, filters, hooks, nesting, reentry, undos, waits};
 use crate::Status;
-use host_link::{Answer, Ask, Ended, Exchange, Exchanges};
+use handler_code::NoNatives;
+use host_link::{Answer, Ask, Ended, Exchange, Exchanges, MemoryHost};
 use std::alloc::Global;
 use std::process::Abort;
 use std::test::Fail;
 
-/// All runs.
-const ALL: [&[Row]; 7] = [
+const ROWS: [&[Row]; 6] = [
     &edits::ROWS,
     &undos::ROWS,
     &hooks::ROWS,
     &waits::ROWS,
     &filters::ROWS,
     &reentry::ROWS,
-    &nesting::ROWS,
 ];
+
+/// All runs.
+fn all(alloc: Global) -> Result<Vec<Run>, Fail> {
+    let mut runs = nesting::runs(alloc)?;
+    for row in ROWS.into_iter().flatten() {
+        runs.push(row.run(alloc)?)?;
+    }
+    Ok(runs)
+}
 
 /// More calls of the source or the sink than any of these runs makes.
 const CALLS: u32 = 2000;
 
-/// Runs a row by a setting.
-fn ran(alloc: Global, row: &Row, setting: Setting) -> Result<Ran, Fail> {
-    run_script(alloc, row.script, plays(alloc, row.children)?, setting)
+/// Makes a run by a setting.
+fn ran(alloc: Global, run: &Run, setting: Setting) -> Result<Ran, Fail> {
+    run_script(
+        alloc,
+        run.script.as_str(),
+        plays(alloc, run.children)?,
+        setting,
+    )
 }
 
 /// Whether two exchanges are the same.
@@ -108,19 +123,19 @@ fn check_stopped(
 #[test]
 fn a_source_that_fails_writes_and_asks_nothing(rt: HostRuntime) -> Result<(), Fail> {
     let alloc = rt.alloc();
-    for row in ALL.into_iter().flatten() {
+    for run in &all(alloc)? {
         for call in 0..CALLS {
             let from = Calls {
                 piece: 16,
                 fails: Some(call),
             };
-            let ran = ran(alloc, row, Setting { from, ..PLAIN })?;
+            let ran = ran(alloc, run, Setting { from, ..PLAIN })?;
             if ran.status == Status::Done {
                 break;
             }
-            assert_eq!(rt; ran.status, Status::ReadFault, "{}", row.shows);
-            assert_eq!(rt; ran.written.len(), 0, "{}", row.shows);
-            assert_eq!(rt; ran.told.len(), 0, "{}", row.shows);
+            assert_eq!(rt; ran.status, Status::ReadFault, "{}", run.shows);
+            assert_eq!(rt; ran.written.len(), 0, "{}", run.shows);
+            assert_eq!(rt; ran.told.len(), 0, "{}", run.shows);
         }
     }
     Ok(())
@@ -129,25 +144,25 @@ fn a_source_that_fails_writes_and_asks_nothing(rt: HostRuntime) -> Result<(), Fa
 #[test]
 fn a_sink_that_fails_holds_a_front_and_leaves_no_child(rt: HostRuntime) -> Result<(), Fail> {
     let alloc = rt.alloc();
-    for row in ALL.into_iter().flatten() {
-        let whole = ran(alloc, row, PLAIN)?;
+    for run in &all(alloc)? {
+        let whole = ran(alloc, run, PLAIN)?;
         for call in 0..CALLS {
             let to = Calls {
                 piece: 1000,
                 fails: Some(call),
             };
-            let ran = ran(alloc, row, Setting { to, ..PLAIN })?;
+            let ran = ran(alloc, run, Setting { to, ..PLAIN })?;
             if ran.status == Status::Done {
                 break;
             }
-            assert_eq!(rt; ran.status, Status::WriteFault, "{}", row.shows);
+            assert_eq!(rt; ran.status, Status::WriteFault, "{}", run.shows);
             assert!(rt;
-                row.lines.as_bytes().starts_with(ran.written.as_slice()),
+                run.lines.as_bytes().starts_with(ran.written.as_slice()),
                 "{}",
-                row.shows
+                run.shows
             );
-            assert!(rt; ran.written.len() < row.lines.len(), "{}", row.shows);
-            check_stopped(&rt, alloc, row.shows, &whole.told, &ran.told)?;
+            assert!(rt; ran.written.len() < run.lines.len(), "{}", run.shows);
+            check_stopped(&rt, alloc, run.shows, &whole.told, &ran.told)?;
         }
     }
     Ok(())
@@ -168,67 +183,69 @@ fn is_fault(answer: &Answer) -> bool {
 #[test]
 fn a_host_that_fails_is_told_and_leaves_no_child(rt: HostRuntime) -> Result<(), Fail> {
     let alloc = rt.alloc();
-    for row in ALL.into_iter().flatten() {
-        let whole = ran(alloc, row, PLAIN)?;
+    for run in &all(alloc)? {
+        let whole = ran(alloc, run, PLAIN)?;
         for (call, asked) in whole.told.as_slice().iter().enumerate() {
             let host_fails = u32::try_from(call).ok();
             let ran = ran(
                 alloc,
-                row,
+                run,
                 Setting {
                     host_fails,
                     ..PLAIN
                 },
             )?;
-            assert_eq!(rt; ran.status, Status::Done, "{}", row.shows);
+            assert_eq!(rt; ran.status, Status::Done, "{}", run.shows);
             let Some(failed) = ran.told.as_slice().get(call) else {
                 return Err(Fail::from("the call isn't made"));
             };
             assert!(rt;
                 same_front(alloc, &whole.told, &ran.told)? >= call,
                 "{}",
-                row.shows
+                run.shows
             );
             assert!(rt;
                 is_fault(&failed.answer) != is_close(asked),
                 "{}",
-                row.shows
+                run.shows
             );
             if is_close(asked) || killed(asked).is_some() {
                 assert_eq!(rt;
                     ran.written.as_slice(),
-                    row.lines.as_bytes(),
+                    run.lines.as_bytes(),
                     "{}",
-                    row.shows
+                    run.shows
                 );
             }
             assert_eq!(rt;
                 living(alloc, &ran.told, ran.told.len())?.len(),
                 0,
                 "{}",
-                row.shows
+                run.shows
             );
         }
     }
     Ok(())
 }
 
-/// A run with a call of the host that fails.
+/// A run with the calls of the host that fail, counted from 0.
 struct Hostile {
-    fails: u32,
+    fails: &'static [u32],
     row: Row,
 }
 
-const HOSTILE: [Hostile; 8] = [
+/// A child that is heard out by one filter and sentinel.
+const HEARD_OUT: &str = r#"(defhandler f (p s))
+(setq p (start-process "c" nil "cat"))(set-process-filter p 'f)(set-process-sentinel p 'f)
+(accept-process-output p)(accept-process-output p)"#;
+
+const HOSTILE: [Hostile; 10] = [
     Hostile {
-        fails: 1,
+        fails: &[1],
         row: Row {
             shows: "a deletion whose kill fails is none the less one",
             script: r#"(setq p (start-process "c" nil "cat"))(delete-process p)(delete-process p)(process-status p)"#,
-            children: &[Child {
-                reads: &[],
-                ends: &[],
-            }],
+            children: &[UNREAD],
             lines: r#"= #<process c>
 > sentinel default #<process c> "killed\n"
 < default
@@ -246,14 +263,11 @@ kill 0: failed
         },
     },
     Hostile {
-        fails: 1,
+        fails: &[1],
         row: Row {
             shows: "a buffer is killed though the kill of its child fails",
             script: r#"(start-process "c" "w" "cat")(kill-buffer "w")(process-list)"#,
-            children: &[Child {
-                reads: &[],
-                ends: &[],
-            }],
+            children: &[UNREAD],
             lines: r#"= #<process c>
 > sentinel default #<process c> "killed\n"
 < default
@@ -270,20 +284,11 @@ kill 0: failed
         },
     },
     Hostile {
-        fails: 2,
+        fails: &[2],
         row: Row {
             shows: "a kill that fails at the end keeps no other child alive",
             script: r#"(start-process "c" nil "a")(start-process "d" nil "b")"#,
-            children: &[
-                Child {
-                    reads: &[],
-                    ends: &[],
-                },
-                Child {
-                    reads: &[],
-                    ends: &[],
-                },
-            ],
+            children: &[UNREAD, UNREAD],
             lines: r#"= #<process c>
 = #<process d>
 kill #<process c>
@@ -303,20 +308,11 @@ kill 1: killed
         },
     },
     Hostile {
-        fails: 1,
+        fails: &[1],
         row: Row {
             shows: "a second child that isn't started leaves neither its process nor its buffer",
             script: r#"(start-process "p" "one" "a")(start-process "q" "two" "b")(get-buffer "two")(process-list)"#,
-            children: &[
-                Child {
-                    reads: &[],
-                    ends: &[],
-                },
-                Child {
-                    reads: &[],
-                    ends: &[],
-                },
-            ],
+            children: &[UNREAD, UNREAD],
             lines: r#"= #<process p>
 ! 12 spawn-failed
 = nil
@@ -336,7 +332,7 @@ kill 0: killed
         },
     },
     Hostile {
-        fails: 2,
+        fails: &[2],
         row: Row {
             shows: "what is held of a character comes where a read fails",
             script: r#"(defhandler f (p s))
@@ -366,7 +362,7 @@ end 0: code 0
         },
     },
     Hostile {
-        fails: 2,
+        fails: &[2],
         row: Row {
             shows: "an end that can't be had is an end, and the child isn't killed",
             script: r#"(setq p (start-process "c" "*scratch*" "cat"))
@@ -395,15 +391,12 @@ end 0: failed
         },
     },
     Hostile {
-        fails: 1,
+        fails: &[1],
         row: Row {
             shows: "a text that the child didn't take leaves its process running",
             script: r#"(setq p (start-process "c" nil "cat"))
 (process-send-string p "a")(process-status p)(process-send-string p "b")(process-send-eof p)(process-send-string p "c")"#,
-            children: &[Child {
-                reads: &[],
-                ends: &[],
-            }],
+            children: &[UNREAD],
             lines: r#"= #<process c>
 ! 11 broken-pipe
 = run
@@ -425,7 +418,7 @@ kill 0: killed
         },
     },
     Hostile {
-        fails: 3,
+        fails: &[3],
         row: Row {
             shows: "a failed read inside a filter ends the output for the waits outside it too",
             script: r#"(defhandler f (p s) (accept-process-output p))
@@ -460,17 +453,63 @@ end 0: code 3
 ",
         },
     },
+    Hostile {
+        fails: &[2, 3],
+        row: Row {
+            shows: "what is held comes where a read fails, and the end that can't be had behind it",
+            script: HEARD_OUT,
+            children: &[Child {
+                reads: &[b"\xE2", b"\x82"],
+                ends: &[],
+            }],
+            lines: r#"= #<process c>
+= f
+= f
+= t
+> filter f #<process c> "\342"
+< f
+> sentinel f #<process c> "failed\n"
+< f
+= nil
+buffer *scratch* point 1 min 1 max 1 modified nil current
+text ""
+marker 0 #<marker in no buffer>
+process 0 #<process c> failed nil
+"#,
+            exchanges: b"spawn cat: started 0
+read 0: bytes \xE2
+read 0: failed
+end 0: failed
+",
+        },
+    },
+    Hostile {
+        fails: &[0],
+        row: Row {
+            shows: "a start that is refused leaves its register void",
+            script: HEARD_OUT,
+            children: &[UNREAD],
+            lines: r#"! 12 spawn-failed
+! 3 void-variable
+! 3 void-variable
+! 3 void-variable
+! 3 void-variable
+buffer *scratch* point 1 min 1 max 1 modified nil current
+text ""
+"#,
+            exchanges: b"spawn cat: refused
+",
+        },
+    },
 ];
 
 #[test]
 fn runs_over_a_host_that_fails(rt: HostRuntime) -> Result<(), Fail> {
+    let alloc = rt.alloc();
     for Hostile { fails, row } in &HOSTILE {
-        let setting = Setting {
-            host_fails: Some(*fails),
-            ..PLAIN
-        };
-        let ran = ran(rt.alloc(), row, setting)?;
-        check_ran(&rt, rt.alloc(), row.shows, &ran, row.lines, row.exchanges)?;
+        let host = MemoryHost::new(plays(alloc, row.children)?, fails.to_vec(alloc)?);
+        let ran = run_over(alloc, &["run"], row.script, host, PLAIN, &NoNatives)?;
+        check_ran(&rt, alloc, row.shows, &ran, row.lines, row.exchanges)?;
     }
     Ok(())
 }

@@ -6,16 +6,19 @@
 //! numbers behind. Of the calls that kill the buffer `b` the innermost does it, so the others
 //! answer nil.
 
-use super::playing::{Child, Row, check_rows};
+use super::playing::{Child, Run, UNREAD, check_run, plays};
+use std::alloc::Global;
 use std::test::Fail;
 
-/// A child that is killed unread.
-const UNREAD: Child = Child {
-    reads: &[],
-    ends: &[],
-};
+/// The handlers, and the process whose output enters the filter.
+const HANDLERS: &str = r#"(defhandler h (b e) (accept-process-output c))
+(defhandler f (p s) (setq d (start-process "d" nil "d"))(set-process-sentinel d 's)(delete-process d))
+(defhandler s (p m) (setq k (start-process "k" "b" "k"))(set-process-sentinel k 'u)(kill-buffer "b"))
+(defhandler u (p m) (accept-process-output c))
+(setq c (start-process "c" nil "c"))(set-process-filter c 'f)
+"#;
 
-/// The one that is read at each wait, and those that are deleted.
+/// The child that is read at each wait, and those that are deleted.
 const CHILDREN: [Child; 13] = [
     Child {
         reads: &[b"a", b"a", b"a", b"a", b"a", b"a"],
@@ -35,295 +38,88 @@ const CHILDREN: [Child; 13] = [
     UNREAD,
 ];
 
-/// Runs, each with its lines and its exchanges.
-pub const ROWS: [Row; 3] = [
-    Row {
+/// A run in which filter and sentinels enter each other in five rounds, the first of which begins
+/// with a sentinel in one of the runs.
+struct Nest {
+    shows: &'static str,
+    /// The forms behind the handlers.
+    forms: &'static str,
+    /// The first round that begins with a filter, and how deep that is.
+    first: u8,
+    depth: u8,
+    /// The lines before that round, those inside the last one as they are indented there, and those
+    /// behind.
+    front: &'static str,
+    inside: &'static str,
+    back: &'static str,
+    /// How many markers there are, and the lines of the processes behind the rounds.
+    markers: u8,
+    processes: &'static str,
+    /// The exchanges before that round, and behind the last one.
+    asked_before: &'static str,
+    asked_behind: &'static str,
+}
+
+const NESTS: [Nest; 3] = [
+    Nest {
         shows: "behind a hook, filters and sentinels the seventeenth is a wait",
-        script: r#"(defhandler h (b e) (accept-process-output c))
-(defhandler f (p s) (setq d (start-process "d" nil "d"))(set-process-sentinel d 's)(delete-process d))
-(defhandler s (p m) (setq k (start-process "k" "b" "k"))(set-process-sentinel k 'u)(kill-buffer "b"))
-(defhandler u (p m) (accept-process-output c))
-(setq c (start-process "c" nil "c"))(set-process-filter c 'f)
-(add-hook 'before-change-functions 'h)(insert "x")"#,
-        children: &CHILDREN,
-        lines: r#"= #<process c>
+        forms: "(add-hook 'before-change-functions 'h)(insert \"x\")",
+        first: 0,
+        depth: 1,
+        front: "= #<process c>
 = f
 = (h)
 > before h 1 1
-  > filter f #<process c> "a"
-    = #<process d>
-    = s
-    > sentinel s #<process d> "killed\n"
-      = #<process k>
-      = u
-      > sentinel u #<process k> "killed\n"
-        > filter f #<process c> "a"
-          = #<process d<1>>
-          = s
-          > sentinel s #<process d<1>> "killed\n"
-            = #<process k<1>>
-            = u
-            > sentinel u #<process k<1>> "killed\n"
-              > filter f #<process c> "a"
-                = #<process d<2>>
-                = s
-                > sentinel s #<process d<2>> "killed\n"
-                  = #<process k<2>>
-                  = u
-                  > sentinel u #<process k<2>> "killed\n"
-                    > filter f #<process c> "a"
-                      = #<process d<3>>
-                      = s
-                      > sentinel s #<process d<3>> "killed\n"
-                        = #<process k<3>>
-                        = u
-                        > sentinel u #<process k<3>> "killed\n"
-                          > filter f #<process c> "a"
-                            = #<process d<4>>
-                            = s
-                            > sentinel s #<process d<4>> "killed\n"
-                              = #<process k<4>>
-                              = u
-                              > sentinel u #<process k<4>> "killed\n"
-                                ! 13 nesting
-                              < u
-                              = t
-                            < s
-                            = nil
-                          < f
-                          = t
-                        < u
-                        = nil
-                      < s
-                      = nil
-                    < f
-                    = t
-                  < u
-                  = nil
-                < s
-                = nil
-              < f
-              = t
-            < u
-            = nil
-          < s
-          = nil
-        < f
-        = t
-      < u
-      = nil
-    < s
-    = nil
-  < f
-  = t
-< h
+",
+        inside: "! 13 nesting
+",
+        back: "< h
 = nil
 kill #<process c>
 buffer *scratch* point 2 min 1 max 2 modified t current
-text "x"
-marker 0 #<marker in no buffer>
-marker 1 #<marker in no buffer>
-marker 2 #<marker in no buffer>
-marker 3 #<marker in no buffer>
-marker 4 #<marker in no buffer>
-marker 5 #<marker in no buffer>
-marker 6 #<marker in no buffer>
-marker 7 #<marker in no buffer>
-marker 8 #<marker in no buffer>
-marker 9 #<marker in no buffer>
-marker 10 #<marker in no buffer>
-process 0 #<process c> run 0
-process 1 #<process d> signal nil
-process 2 #<process k> signal nil
-process 3 #<process d<1>> signal nil
-process 4 #<process k<1>> signal nil
-process 5 #<process d<2>> signal nil
-process 6 #<process k<2>> signal nil
-process 7 #<process d<3>> signal nil
-process 8 #<process k<3>> signal nil
-process 9 #<process d<4>> signal nil
-process 10 #<process k<4>> signal nil
-"#,
-        exchanges: b"spawn c: started 0
-read 0: bytes a
-spawn d: started 1
-kill 1: killed
-spawn k: started 2
-kill 2: killed
-read 0: bytes a
-spawn d: started 3
-kill 3: killed
-spawn k: started 4
-kill 4: killed
-read 0: bytes a
-spawn d: started 5
-kill 5: killed
-spawn k: started 6
-kill 6: killed
-read 0: bytes a
-spawn d: started 7
-kill 7: killed
-spawn k: started 8
-kill 8: killed
-read 0: bytes a
-spawn d: started 9
-kill 9: killed
-spawn k: started 10
-kill 10: killed
-kill 0: killed
+text \"x\"
 ",
+        markers: 11,
+        processes: "",
+        asked_before: "spawn c: started 0\n",
+        asked_behind: "kill 0: killed\n",
     },
-    Row {
+    Nest {
         shows: "the seventeenth is a deletion",
-        script: r#"(defhandler f (p s) (setq d (start-process "d" nil "d"))(set-process-sentinel d 's)(delete-process d))
-(defhandler s (p m) (setq k (start-process "k" "b" "k"))(set-process-sentinel k 'u)(kill-buffer "b"))
-(defhandler u (p m) (accept-process-output c))
-(setq c (start-process "c" nil "c"))(set-process-filter c 'f)
-(accept-process-output c)"#,
-        children: &CHILDREN,
-        lines: r#"= #<process c>
+        forms: "(accept-process-output c)",
+        first: 0,
+        depth: 0,
+        front: "= #<process c>
 = f
-> filter f #<process c> "a"
-  = #<process d>
+",
+        inside: "> filter f #<process c> \"a\"
+  = #<process d<5>>
   = s
-  > sentinel s #<process d> "killed\n"
-    = #<process k>
-    = u
-    > sentinel u #<process k> "killed\n"
-      > filter f #<process c> "a"
-        = #<process d<1>>
-        = s
-        > sentinel s #<process d<1>> "killed\n"
-          = #<process k<1>>
-          = u
-          > sentinel u #<process k<1>> "killed\n"
-            > filter f #<process c> "a"
-              = #<process d<2>>
-              = s
-              > sentinel s #<process d<2>> "killed\n"
-                = #<process k<2>>
-                = u
-                > sentinel u #<process k<2>> "killed\n"
-                  > filter f #<process c> "a"
-                    = #<process d<3>>
-                    = s
-                    > sentinel s #<process d<3>> "killed\n"
-                      = #<process k<3>>
-                      = u
-                      > sentinel u #<process k<3>> "killed\n"
-                        > filter f #<process c> "a"
-                          = #<process d<4>>
-                          = s
-                          > sentinel s #<process d<4>> "killed\n"
-                            = #<process k<4>>
-                            = u
-                            > sentinel u #<process k<4>> "killed\n"
-                              > filter f #<process c> "a"
-                                = #<process d<5>>
-                                = s
-                                ! 13 nesting
-                              < f
-                              = t
-                            < u
-                            = t
-                          < s
-                          = nil
-                        < f
-                        = t
-                      < u
-                      = nil
-                    < s
-                    = nil
-                  < f
-                  = t
-                < u
-                = nil
-              < s
-              = nil
-            < f
-            = t
-          < u
-          = nil
-        < s
-        = nil
-      < f
-      = t
-    < u
-    = nil
-  < s
-  = nil
+  ! 13 nesting
 < f
 = t
-kill #<process c>
+",
+        back: "kill #<process c>
 kill #<process d<5>>
 buffer *scratch* point 1 min 1 max 1 modified nil current
-text ""
-marker 0 #<marker in no buffer>
-marker 1 #<marker in no buffer>
-marker 2 #<marker in no buffer>
-marker 3 #<marker in no buffer>
-marker 4 #<marker in no buffer>
-marker 5 #<marker in no buffer>
-marker 6 #<marker in no buffer>
-marker 7 #<marker in no buffer>
-marker 8 #<marker in no buffer>
-marker 9 #<marker in no buffer>
-marker 10 #<marker in no buffer>
-marker 11 #<marker in no buffer>
-process 0 #<process c> run 0
-process 1 #<process d> signal nil
-process 2 #<process k> signal nil
-process 3 #<process d<1>> signal nil
-process 4 #<process k<1>> signal nil
-process 5 #<process d<2>> signal nil
-process 6 #<process k<2>> signal nil
-process 7 #<process d<3>> signal nil
-process 8 #<process k<3>> signal nil
-process 9 #<process d<4>> signal nil
-process 10 #<process k<4>> signal nil
-process 11 #<process d<5>> run 0
-"#,
-        exchanges: b"spawn c: started 0
-read 0: bytes a
-spawn d: started 1
-kill 1: killed
-spawn k: started 2
-kill 2: killed
-read 0: bytes a
-spawn d: started 3
-kill 3: killed
-spawn k: started 4
-kill 4: killed
-read 0: bytes a
-spawn d: started 5
-kill 5: killed
-spawn k: started 6
-kill 6: killed
-read 0: bytes a
-spawn d: started 7
-kill 7: killed
-spawn k: started 8
-kill 8: killed
-read 0: bytes a
-spawn d: started 9
-kill 9: killed
-spawn k: started 10
-kill 10: killed
-read 0: bytes a
+text \"\"
+",
+        markers: 12,
+        processes: "process 11 #<process d<5>> run 0
+",
+        asked_before: "spawn c: started 0\n",
+        asked_behind: "read 0: bytes a
 spawn d: started 11
 kill 0: killed
 kill 11: killed
 ",
     },
-    Row {
+    Nest {
         shows: "the seventeenth kills a buffer",
-        script: r#"(defhandler f (p s) (setq d (start-process "d" nil "d"))(set-process-sentinel d 's)(delete-process d))
-(defhandler s (p m) (setq k (start-process "k" "b" "k"))(set-process-sentinel k 'u)(kill-buffer "b"))
-(defhandler u (p m) (accept-process-output c))
-(setq c (start-process "c" nil "c"))(set-process-filter c 'f)
-(setq d (start-process "d" nil "d"))(set-process-sentinel d 's)(delete-process d)"#,
-        children: &CHILDREN,
-        lines: r#"= #<process c>
+        forms: r#"(setq d (start-process "d" nil "d"))(set-process-sentinel d 's)(delete-process d)"#,
+        first: 1,
+        depth: 2,
+        front: r#"= #<process c>
 = f
 = #<process d>
 = s
@@ -331,130 +127,39 @@ kill 11: killed
   = #<process k>
   = u
   > sentinel u #<process k> "killed\n"
-    > filter f #<process c> "a"
-      = #<process d<1>>
-      = s
-      > sentinel s #<process d<1>> "killed\n"
-        = #<process k<1>>
-        = u
-        > sentinel u #<process k<1>> "killed\n"
-          > filter f #<process c> "a"
-            = #<process d<2>>
-            = s
-            > sentinel s #<process d<2>> "killed\n"
-              = #<process k<2>>
-              = u
-              > sentinel u #<process k<2>> "killed\n"
-                > filter f #<process c> "a"
-                  = #<process d<3>>
-                  = s
-                  > sentinel s #<process d<3>> "killed\n"
-                    = #<process k<3>>
-                    = u
-                    > sentinel u #<process k<3>> "killed\n"
-                      > filter f #<process c> "a"
-                        = #<process d<4>>
-                        = s
-                        > sentinel s #<process d<4>> "killed\n"
-                          = #<process k<4>>
-                          = u
-                          > sentinel u #<process k<4>> "killed\n"
-                            > filter f #<process c> "a"
-                              = #<process d<5>>
-                              = s
-                              > sentinel s #<process d<5>> "killed\n"
-                                = #<process k<5>>
-                                = u
-                                ! 13 nesting
-                              < s
-                              = nil
-                            < f
-                            = t
-                          < u
-                          = t
-                        < s
-                        = nil
-                      < f
-                      = t
-                    < u
-                    = nil
-                  < s
-                  = nil
-                < f
-                = t
-              < u
-              = nil
-            < s
-            = nil
-          < f
-          = t
-        < u
-        = nil
-      < s
-      = nil
-    < f
-    = t
-  < u
+"#,
+        inside: r#"> filter f #<process c> "a"
+  = #<process d<5>>
+  = s
+  > sentinel s #<process d<5>> "killed\n"
+    = #<process k<5>>
+    = u
+    ! 13 nesting
+  < s
+  = nil
+< f
+= t
+"#,
+        back: "  < u
   = nil
 < s
 = nil
 kill #<process c>
 kill #<process k<5>>
 buffer *scratch* point 1 min 1 max 1 modified nil current
-text ""
-marker 0 #<marker in no buffer>
-marker 1 #<marker in no buffer>
-marker 2 #<marker in no buffer>
-marker 3 #<marker in no buffer>
-marker 4 #<marker in no buffer>
-marker 5 #<marker in no buffer>
-marker 6 #<marker in no buffer>
-marker 7 #<marker in no buffer>
-marker 8 #<marker in no buffer>
-marker 9 #<marker in no buffer>
-marker 10 #<marker in no buffer>
-marker 11 #<marker in no buffer>
-marker 12 #<marker in no buffer>
-process 0 #<process c> run 0
-process 1 #<process d> signal nil
-process 2 #<process k> signal nil
-process 3 #<process d<1>> signal nil
-process 4 #<process k<1>> signal nil
-process 5 #<process d<2>> signal nil
-process 6 #<process k<2>> signal nil
-process 7 #<process d<3>> signal nil
-process 8 #<process k<3>> signal nil
-process 9 #<process d<4>> signal nil
-process 10 #<process k<4>> signal nil
-process 11 #<process d<5>> signal nil
+text \"\"
+",
+        markers: 13,
+        processes: "process 11 #<process d<5>> signal nil
 process 12 #<process k<5>> run 0
-"#,
-        exchanges: b"spawn c: started 0
+",
+        asked_before: "spawn c: started 0
 spawn d: started 1
 kill 1: killed
 spawn k: started 2
 kill 2: killed
-read 0: bytes a
-spawn d: started 3
-kill 3: killed
-spawn k: started 4
-kill 4: killed
-read 0: bytes a
-spawn d: started 5
-kill 5: killed
-spawn k: started 6
-kill 6: killed
-read 0: bytes a
-spawn d: started 7
-kill 7: killed
-spawn k: started 8
-kill 8: killed
-read 0: bytes a
-spawn d: started 9
-kill 9: killed
-spawn k: started 10
-kill 10: killed
-read 0: bytes a
+",
+        asked_behind: "read 0: bytes a
 spawn d: started 11
 kill 11: killed
 spawn k: started 12
@@ -464,7 +169,140 @@ kill 12: killed
     },
 ];
 
+/// How many rounds there are, where the first may begin with its sentinel.
+const ROUNDS: u8 = 5;
+
+/// What stands behind the names of a round.
+fn number(alloc: Global, round: u8) -> Result<String, Fail> {
+    if round == 0 {
+        return Ok(String::new(alloc));
+    }
+    Ok(format!(in alloc; "<{round}>")?)
+}
+
+/// The lines of the handlers that a round enters.
+fn push_entries(lines: &mut String, margin: &str, n: &str) -> Result<(), Fail> {
+    write!(
+        lines,
+        r#"{margin}> filter f #<process c> "a"
+{margin}  = #<process d{n}>
+{margin}  = s
+{margin}  > sentinel s #<process d{n}> "killed\n"
+{margin}    = #<process k{n}>
+{margin}    = u
+{margin}    > sentinel u #<process k{n}> "killed\n"
+"#
+    )?;
+    Ok(())
+}
+
+/// The lines behind these handlers.
+fn push_exits(lines: &mut String, margin: &str, killed: &str) -> Result<(), Fail> {
+    write!(
+        lines,
+        "{margin}    < u
+{margin}    = {killed}
+{margin}  < s
+{margin}  = nil
+{margin}< f
+{margin}= t
+"
+    )?;
+    Ok(())
+}
+
+impl Nest {
+    /// The margin of a round's filter, and for the number of rounds that of what is inside them all.
+    fn margin(&self, alloc: Global, round: u8) -> Result<String, Fail> {
+        let outside = usize::from(round.saturating_sub(self.first));
+        Ok("  ".repeat(alloc, usize::from(self.depth) + 3 * outside)?)
+    }
+
+    /// The lines of the markers, none of which stands anywhere, and of the processes.
+    fn push_objects(&self, alloc: Global, lines: &mut String) -> Result<(), Fail> {
+        for marker in 0..self.markers {
+            write!(lines, "marker {marker} #<marker in no buffer>\n")?;
+        }
+        lines.push_str("process 0 #<process c> run 0\n")?;
+        for round in 0..ROUNDS {
+            let n = number(alloc, round)?;
+            let (d, k) = (2 * round + 1, 2 * round + 2);
+            write!(
+                lines,
+                "process {d} #<process d{n}> signal nil\nprocess {k} #<process k{n}> signal nil\n"
+            )?;
+        }
+        lines.push_str(self.processes)?;
+        Ok(())
+    }
+
+    fn lines(&self, alloc: Global) -> Result<String, Fail> {
+        let mut lines = String::from_str(alloc, self.front)?;
+        for round in self.first..ROUNDS {
+            let margin = self.margin(alloc, round)?;
+            push_entries(&mut lines, margin.as_str(), number(alloc, round)?.as_str())?;
+        }
+        let margin = self.margin(alloc, ROUNDS)?;
+        for line in self.inside.lines() {
+            write!(lines, "{margin}{line}\n")?;
+        }
+        let mut killed = "t";
+        for round in (self.first..ROUNDS).rev() {
+            push_exits(&mut lines, self.margin(alloc, round)?.as_str(), killed)?;
+            killed = "nil";
+        }
+        lines.push_str(self.back)?;
+        self.push_objects(alloc, &mut lines)?;
+        Ok(lines)
+    }
+
+    fn exchanges(&self, alloc: Global) -> Result<String, Fail> {
+        let mut exchanges = String::from_str(alloc, self.asked_before)?;
+        for round in self.first..ROUNDS {
+            let (d, k) = (2 * round + 1, 2 * round + 2);
+            write!(
+                exchanges,
+                "read 0: bytes a
+spawn d: started {d}
+kill {d}: killed
+spawn k: started {k}
+kill {k}: killed
+"
+            )?;
+        }
+        exchanges.push_str(self.asked_behind)?;
+        Ok(exchanges)
+    }
+}
+
+/// The runs, each with its lines and its exchanges.
+pub fn runs(alloc: Global) -> Result<Vec<Run>, Fail> {
+    let mut runs = Vec::new(alloc);
+    for nest in &NESTS {
+        let forms = nest.forms;
+        runs.push(Run {
+            shows: nest.shows,
+            script: format!(in alloc; "{HANDLERS}{forms}")?,
+            children: &CHILDREN,
+            lines: nest.lines(alloc)?,
+            exchanges: nest.exchanges(alloc)?.into_bytes(),
+        })?;
+    }
+    Ok(runs)
+}
+
 #[test]
 fn nesting(rt: HostRuntime) -> Result<(), Fail> {
-    check_rows(&rt, rt.alloc(), &ROWS)
+    for run in &runs(rt.alloc())? {
+        check_run(
+            &rt,
+            rt.alloc(),
+            run.shows,
+            run.script.as_str(),
+            plays(rt.alloc(), run.children)?,
+            run.lines.as_str(),
+            run.exchanges.as_slice(),
+        )?;
+    }
+    Ok(())
 }

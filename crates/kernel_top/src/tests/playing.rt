@@ -47,6 +47,12 @@ pub struct Child {
     pub ends: &'static [Ended],
 }
 
+/// A child that is killed unread, or has written nothing and ended with code 0.
+pub const UNREAD: Child = Child {
+    reads: &[],
+    ends: &[],
+};
+
 /// What a run came to: its status, what was written, a line for each exchange, and the exchanges themselves.
 #[derive(Drop)]
 pub struct Ran {
@@ -63,6 +69,29 @@ pub struct Row {
     pub children: &'static [Child],
     pub lines: &'static str,
     pub exchanges: &'static [u8],
+}
+
+/// A run whose lines were put together.
+#[derive(Drop)]
+pub struct Run {
+    pub shows: &'static str,
+    pub script: String,
+    pub children: &'static [Child],
+    pub lines: String,
+    pub exchanges: Vec<u8>,
+}
+
+impl Row {
+    /// A copy of the row.
+    pub fn run(&self, alloc: Global) -> Result<Run, Fail> {
+        Ok(Run {
+            shows: self.shows,
+            script: String::from_str(alloc, self.script)?,
+            children: self.children,
+            lines: String::from_str(alloc, self.lines)?,
+            exchanges: self.exchanges.to_vec(alloc)?,
+        })
+    }
 }
 
 fn failing(alloc: Global, call: Option<u32>) -> Result<Vec<u32>, Fail> {

@@ -1,10 +1,10 @@
 //! Handlers that set others, wait, start, delete and kill while they are running themselves.
 
-use super::playing::{Child, Row, check_rows, check_run, play};
+use super::playing::{Child, Row, UNREAD, check_rows, check_run, play};
 use std::test::Fail;
 
 /// Runs, each with its lines and its exchanges.
-pub const ROWS: [Row; 6] = [
+pub const ROWS: [Row; 8] = [
     Row {
         shows: "a filter that sets another in its place, which gets what was held and comes next",
         script: r#"(defhandler f (p s) (set-process-filter p 'g)(accept-process-output p))
@@ -246,6 +246,62 @@ read 1: bytes z
 kill 0: killed
 kill 1: killed
 kill 2: killed
+",
+    },
+    Row {
+        shows: "a sentinel that waits for its own process, which is listed but not asked any more",
+        script: r#"(defhandler s (p m) (accept-process-output p)(process-list))
+(setq p (start-process "c" nil "cat"))(set-process-sentinel p 's)(accept-process-output p)"#,
+        children: &[UNREAD],
+        lines: r#"= #<process c>
+= s
+> sentinel s #<process c> "finished\n"
+  = nil
+  = (#<process c>)
+< s
+= nil
+buffer *scratch* point 1 min 1 max 1 modified nil current
+text ""
+marker 0 #<marker in no buffer>
+process 0 #<process c> exit 0
+"#,
+        exchanges: b"spawn cat: started 0
+read 0: end
+end 0: code 0
+",
+    },
+    Row {
+        shows: "two processes of a killed buffer, where the first sentinel sets the second, which kills the buffer first",
+        script: r#"(defhandler s (p m) (set-process-sentinel q 'u)(process-status q)(buffer-live-p b))
+(defhandler u (p m) (kill-buffer b))
+(setq p (start-process "p" "out" "a"))(setq q (start-process "q" "out" "b"))(setq b (get-buffer "out"))
+(set-process-sentinel p 's)(kill-buffer b)(buffer-live-p b)"#,
+        children: &[UNREAD, UNREAD],
+        lines: r#"= #<process p>
+= #<process q>
+= #<buffer out>
+= s
+> sentinel s #<process p> "killed\n"
+  = u
+  = run
+  = t
+< s
+> sentinel u #<process q> "killed\n"
+  = t
+< u
+= nil
+= nil
+buffer *scratch* point 1 min 1 max 1 modified nil current
+text ""
+marker 0 #<marker in no buffer>
+marker 1 #<marker in no buffer>
+process 0 #<process p> signal nil
+process 1 #<process q> signal nil
+"#,
+        exchanges: b"spawn a: started 0
+spawn b: started 1
+kill 0: killed
+kill 1: killed
 ",
     },
 ];
