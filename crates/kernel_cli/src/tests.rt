@@ -30,16 +30,18 @@ fn written(rt: &HostRuntime, script: &str) -> Result<(Status, Vec<u8>), Fail> {
     written_over(rt.alloc(), script, &mut host)
 }
 
-/// One child that gives these bytes, and then none yet.
-fn one_child(alloc: Global, bytes: &[u8]) -> Result<MemoryHost, Fail>
+/// One child whose reads give these bytes. Then its output has ended, and so has the child, with code 0.
+fn one_child(alloc: Global, pieces: &[&[u8]]) -> Result<MemoryHost, Fail>
     ensures { IfOk result (λ host. host.kills ≡ []) }
 {
-    let mut heard = ListOf::new(alloc);
-    for byte in bytes {
-        heard.push(*byte)?;
-    }
     let mut reads = ListOf::new(alloc);
-    reads.push(Answer::Bytes(heard))?;
+    for piece in pieces {
+        let mut heard = ListOf::new(alloc);
+        for byte in *piece {
+            heard.push(*byte)?;
+        }
+        reads.push(Answer::Bytes(heard))?;
+    }
     let ends = ListOf::new(alloc);
     let mut plays = Vec::new(alloc);
     plays.push(Play { reads, ends })?;
@@ -50,7 +52,7 @@ fn one_child(alloc: Global, bytes: &[u8]) -> Result<MemoryHost, Fail>
 fn the_shipped_filter_inserts_by_calls(rt: HostRuntime) -> Result<(), Fail> {
     let script = r#"(setq p (start-process "c" "out" "cat"))
 (set-process-filter p 'insert-filter)(accept-process-output p)"#;
-    let mut host = one_child(rt.alloc(), b"hi")?;
+    let mut host = one_child(rt.alloc(), &[b"hi"])?;
     let (status, bytes) = written_over(rt.alloc(), script, &mut host)?;
     assert_eq!(rt; status, Status::Done);
     assert_eq!(rt;
@@ -76,6 +78,37 @@ buffer out point 3 min 1 max 3 modified t
 text "hi"
 marker 0 #<marker at 3 in out>
 process 0 #<process c> run 0
+"#
+            .as_slice()
+    );
+    Ok(())
+}
+
+#[test]
+fn the_shipped_sentinel_notes_an_end(rt: HostRuntime) -> Result<(), Fail> {
+    let script = r#"(setq p (start-process "c" nil "cat"))
+(set-process-sentinel p 'note-sentinel)(accept-process-output p)"#;
+    let mut host = one_child(rt.alloc(), &[])?;
+    let (status, bytes) = written_over(rt.alloc(), script, &mut host)?;
+    assert_eq!(rt; status, Status::Done);
+    assert_eq!(rt;
+        bytes.as_slice(),
+        br#"= #<process c>
+= note-sentinel
+> sentinel note-sentinel #<process c> "finished\n"
+  = #<buffer *events*>
+  = #<buffer *events*>
+  = 1
+  = 1
+  = nil
+< note-sentinel
+= nil
+buffer *scratch* point 1 min 1 max 1 modified nil current
+text ""
+buffer *events* point 10 min 1 max 10 modified t
+text "finished\n"
+marker 0 #<marker in no buffer>
+process 0 #<process c> exit 0
 "#
             .as_slice()
     );
