@@ -6,7 +6,7 @@
 #   that all begin at one place. Each call goes over all overlays that cover its place, so the tree doesn't help there:
 #   where twice as many cover it, a call takes twice as long.
 # - at the end, at the front: one character put in, 10,000 times, behind all overlays from k to k + 1 and before them.
-#   An insertion goes over what it moves, so those at the front take twice as long where there are twice as many.
+#   An insertion adds to the shift of each part behind it, and goes through those that it cuts.
 #
 # `emacs -Q --batch` does the same beside it where it is installed: 2,000 winners, and the insertions.
 #

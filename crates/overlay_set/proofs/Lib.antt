@@ -1,11 +1,15 @@
 pub mod Lists
+pub mod Shifts
 pub mod Parts
+pub mod FindLemmas
 pub mod SearchLemmas
 pub mod ChangeLemmas
 pub mod SameLemmas
 pub mod EntryLemmas
+pub mod ByNumber
 pub mod OrderLemmas
 pub mod WholeLemmas
+pub mod SeenLemmas
 pub mod SlotLemmas
 pub mod RivalLemmas
 pub mod ForwardLemmas

@@ -9,7 +9,7 @@ use Rattle.std.proofs.lemmas.Bool.{eqb-true, eqb-false, ltb-true, ltb-false, ne_
 use Rattle.text_model.specs.Marks.{Overlay}
 use Rattle.text_model.specs.OverlayQuestions.{rank, start_of, end_of, outranks}
 use Rattle.overlay_set.specs.Numbered.{overlay_at}
-use Rattle.overlay_set.specs.Winner.{is_stronger, stronger}
+use Rattle.overlay_set.proofs.ByNumber.{is_stronger, stronger}
 
 -- by priority, start and end, where the greater one wins; and by number too
 abbrev pub places : List Overlay → ℕ → ℕ → Ordering

@@ -2,13 +2,14 @@
 use Rattle.std.proofs.lemmas.Bool.{and_parts, eqb-true}
 use Rattle.std.proofs.Common.{◌≡◌, ℕ, Bool, true, false, not, ◌==◌, ◌&&◌, List, [], ◌∷◌, ◌++◌, All, filter, Box, Global, refl, ap, sym, ◌∙◌, subst}
 use Rattle.std.specs.List.{flat_map}
-use Rattle.std.proofs.lemmas.List.Elements.{All-nil, All-cons, All-head, All-tail, All-append, All-weaker}
-use Rattle.overlay_set.specs.Entries.{Holds, HasBounds, entries_of, is_same, without}
+use Rattle.std.proofs.lemmas.List.Elements.{All-nil, All-cons, All-head, All-tail, All-append, All-weaker, All-map}
+use Rattle.overlay_set.specs.Entries.{Holds, HasBounds, entries_in, entries_of, is_same, without, raised}
 use Rattle.overlay_set.specs.declared.bounds.Entry.{Entry}
 use Rattle.overlay_set.specs.declared.bounds.Bounds.{Bounds}
 use Rattle.overlay_set.specs.declared.tree.Link.{Link}
 use Rattle.overlay_set.specs.declared.tree.Link.TheVariants.{Full}
 use Rattle.overlay_set.specs.declared.tree.Node.{Node}
+use Rattle.overlay_set.proofs.Shifts.{All-unmap}
 
 pub all_left : (P : Entry → Type 0) (xs : List Entry) (e : Entry) (ys : List Entry) → All P (xs ++ e ∷ ys) → All P xs
 all_left P [] e ys h = All-nil P
@@ -24,11 +25,16 @@ all_own P xs e ys h = All-head P e ys (all_from P xs e ys h)
 pub all_right : (P : Entry → Type 0) (xs : List Entry) (e : Entry) (ys : List Entry) → All P (xs ++ e ∷ ys) → All P ys
 all_right P xs e ys h = All-tail P e ys (all_from P xs e ys h)
 
--- the bounds of a node hold of all entries of its tree
-pub full_bounds : (root : Link) (top : Box Node Global) (now : List Entry) → root ≡ Full top → HasBounds root → entries_of root ≡ now → All (Holds top.value.bounds) now
-full_bounds root top now e h v =
-    let k : HasBounds (Full top) = subst HasBounds e h in
-    subst (All (Holds top.value.bounds)) (ap entries_of (sym e) ∙ v) k
+-- the bounds of a node, counted from its shift, hold of all entries of its tree
+pub full_bounds : (root : Link) (top : Box Node Global) (n : Node) (b : Bounds) (now : List Entry) → root ≡ Full top → HasBounds root → entries_of root ≡ now → n ≡ top.value → ((e : Entry) → Holds n.bounds e → Holds b (raised n.shift e)) → All (Holds b) now
+full_bounds root top n b now e k v d more =
+    let own : All (Holds n.bounds) (n.left ++ n.entry ∷ n.right) = subst (λ (m : Node). All (Holds m.bounds) (m.left ++ m.entry ∷ m.right)) (sym d) (subst HasBounds e k) in
+    subst (All (Holds b)) (ap entries_in d ∙ ap entries_of (sym e) ∙ v)
+    (All-map (Holds b) (raised n.shift) (n.left ++ n.entry ∷ n.right) (All-weaker (Holds n.bounds) (λ x. Holds b (raised n.shift x)) more (n.left ++ n.entry ∷ n.right) own))
+
+pub all_both : (P Q R : Entry → Type 0) → ((e : Entry) → P e → Q e → R e) → (es : List Entry) → All P es → All Q es → All R es
+all_both P Q R f [] h k = All-nil R
+all_both P Q R f (e ∷ es) h k = All-cons R e es (f e (All-head P e es h) (All-head Q e es k)) (all_both P Q R f es (All-tail P e es h) (All-tail Q e es k))
 
 -- bounds that hold of three parts hold of all
 pub joined_bounds : (b c d : Bounds) (xs : List Entry) (e : Entry) (ys : List Entry) → All (Holds c) xs → ((x : Entry) → Holds b x → Holds c x) → Holds b e → All (Holds d) ys → ((x : Entry) → Holds c x → Holds d x) → All (Holds d) (xs ++ e ∷ ys)
@@ -58,11 +64,11 @@ pub flat_map_same : (f : Entry → List Entry) (xs : List Entry) → All (λ e. 
 flat_map_same f [] h = refl
 flat_map_same f (x ∷ xs) h = let e : f x ≡ x ∷ [] = All-head (λ e. f e ≡ e ∷ []) x xs h in rw e (ap (λ ys. x ∷ ys) (flat_map_same f xs (All-tail (λ e. f e ≡ e ∷ []) x xs h)))
 
--- what holds of all entries of a tree holds of those at its top node
-pub node_parts : (P : Entry → Type 0) (root : Link) (top : Box Node Global) (n : Node) (now : List Entry) → root ≡ Full top → entries_of root ≡ now → n ≡ top.value → All P now → All P (n.left ++ n.entry ∷ n.right)
+-- what holds by number of all entries of a tree holds of those at its top node
+pub node_parts : (P : Entry → Type 0) (root : Link) (top : Box Node Global) (n : Node) (now : List Entry) → root ≡ Full top → entries_of root ≡ now → n ≡ top.value → All P now → All (λ e. P (raised n.shift e)) (n.left ++ n.entry ∷ n.right)
 node_parts P root top n now e v d h =
     let k : All P (entries_of (Full top)) = subst (All P) (sym v ∙ ap entries_of e) h in
-    subst (λ (m : Node). All P (m.left ++ m.entry ∷ m.right)) (sym d) k
+    subst (λ (m : Node). All (λ x. P (raised m.shift x)) (m.left ++ m.entry ∷ m.right)) (sym d) (All-unmap P (raised top.value.shift) (top.value.left ++ top.value.entry ∷ top.value.right) k)
 
 -- AN ENTRY TAKEN OUT
 abbrev the_entry : (number buffer start end : ℕ) → Entry

@@ -1,8 +1,8 @@
 -- Searches through a list of entries, part by part.
 use Rattle.std.proofs.Common.{◌≡◌, ℕ, Bool, min, max, List, [], ◌∷◌, ◌++◌, filter, All, Option, Some, append_assoc, refl, ap, sym, ◌∙◌, arith}
 use Rattle.std.specs.List.{flat_map, fold}
-use Rattle.std.proofs.lemmas.List.{map-append}
 use Rattle.std.proofs.lemmas.List.Sums.{fold-append}
+use Rattle.std.proofs.lemmas.List.{map-append}
 use Rattle.std.proofs.lemmas.List.Elements.{filter-append, All-head, All-tail}
 use Rattle.text_model.specs.Marks.{Overlay}
 use Rattle.text_model.specs.OverlayQuestions.{least, greatest}
@@ -73,23 +73,39 @@ greatest_three q f n a b c xs e ys h k l =
     l ∙ ap (λ m. greatest m front) (k ∙ ap (λ m. greatest m own) h) ∙ greatest-swap own (greatest n back) front ∙ ap (λ m. greatest m own) (greatest-swap back n front) ∙ greatest-swap back (greatest n front) own
     ∙ sym (greatest-append own (greatest n front) back) ∙ sym (greatest-append front n (own ++ back)) ∙ ap (greatest n) (sym (split_three q f xs e ys))
 
+-- WHAT IS FOUND
+numbers_found : (p : Entry → Bool) (xs ys : List Entry) → numbers_in (filter p (xs ++ ys)) ≡ numbers_in (filter p xs) ++ numbers_in (filter p ys)
+numbers_found p xs ys = ap numbers_in (filter-append p xs ys) ∙ map-append (λ (e : Entry). e.number) (filter p xs) (filter p ys)
+
+-- the numbers found in three parts, one after the other
+pub found_three : (p : Entry → Bool) (n a b c : List ℕ) (xs : List Entry) (e : Entry) (ys : List Entry) → a ≡ n ++ numbers_in (filter p xs) → b ≡ a ++ numbers_in (filter p (e ∷ [])) → c ≡ b ++ numbers_in (filter p ys) →
+    c ≡ n ++ numbers_in (filter p (xs ++ e ∷ ys))
+found_three p n a b c xs e ys h k l =
+    let front = numbers_in (filter p xs) in
+    let own = numbers_in (filter p (e ∷ [])) in
+    let back = numbers_in (filter p ys) in
+    l ∙ ap (λ m. m ++ back) (k ∙ ap (λ m. m ++ own) h)
+    ∙ append_assoc (n ++ front) own back
+    ∙ append_assoc n front (own ++ back)
+    ∙ ap (λ m. n ++ (front ++ m)) (sym (numbers_found p (e ∷ []) ys))
+    ∙ ap (λ m. n ++ m) (sym (numbers_found p xs (e ∷ ys)))
+
 -- THE WINNER
 contenders-append : (b i name : ℕ) (os : List Overlay) (xs ys : List Entry) → contenders b i name os (xs ++ ys) ≡ contenders b i name os xs ++ contenders b i name os ys
 contenders-append b i name os xs ys =
-    ap (λ zs. numbers_in (filter (has_property name os) zs)) (filter-append (passes b (At i)) xs ys)
-    ∙ ap numbers_in (filter-append (has_property name os) (filter (passes b (At i)) xs) (filter (passes b (At i)) ys))
-    ∙ map-append (λ (e : Entry). e.number) (filter (has_property name os) (filter (passes b (At i)) xs)) (filter (has_property name os) (filter (passes b (At i)) ys))
+    ap (filter (has_property name os)) (filter-append (passes b (At i)) xs ys)
+    ∙ filter-append (has_property name os) (filter (passes b (At i)) xs) (filter (passes b (At i)) ys)
 
-strongest-append : (b i name : ℕ) (os : List Overlay) (best : Option ℕ) (xs ys : List Entry) → strongest b i name os best (xs ++ ys) ≡ strongest b i name os (strongest b i name os best xs) ys
+strongest-append : (b i name : ℕ) (os : List Overlay) (best : Option Entry) (xs ys : List Entry) → strongest b i name os best (xs ++ ys) ≡ strongest b i name os (strongest b i name os best xs) ys
 strongest-append b i name os best xs ys =
-    ap (fold (λ m k. Some (stronger os m k)) best) (contenders-append b i name os xs ys)
-    ∙ fold-append (λ m k. Some (stronger os m k)) best (contenders b i name os xs) (contenders b i name os ys)
+    ap (fold (λ m e. Some (stronger os m e)) best) (contenders-append b i name os xs ys)
+    ∙ fold-append (λ m e. Some (stronger os m e)) best (contenders b i name os xs) (contenders b i name os ys)
 
 -- the strongest of three parts, one after the other
-pub strongest_three : (b i name : ℕ) (os : List Overlay) (n x y z : Option ℕ) (xs : List Entry) (e : Entry) (ys : List Entry) → x ≡ strongest b i name os n xs → y ≡ strongest b i name os x (e ∷ []) → z ≡ strongest b i name os y ys →
+pub strongest_three : (b i name : ℕ) (os : List Overlay) (n x y z : Option Entry) (xs : List Entry) (e : Entry) (ys : List Entry) → x ≡ strongest b i name os n xs → y ≡ strongest b i name os x (e ∷ []) → z ≡ strongest b i name os y ys →
     z ≡ strongest b i name os n (xs ++ e ∷ ys)
 strongest_three b i name os n x y z xs e ys h k l =
     l ∙ ap (λ m. strongest b i name os m ys) (k ∙ ap (λ m. strongest b i name os m (e ∷ [])) h) ∙ sym (strongest-append b i name os (strongest b i name os n xs) (e ∷ []) ys) ∙ sym (strongest-append b i name os n xs (e ∷ ys))
 
-pub strongest_none : (b i name : ℕ) (os : List Overlay) (best : Option ℕ) (xs : List Entry) → filter (passes b (At i)) xs ≡ [] → best ≡ strongest b i name os best xs
-strongest_none b i name os best xs h = ap (λ zs. fold (λ m k. Some (stronger os m k)) best (numbers_in (filter (has_property name os) zs))) (sym h)
+pub strongest_none : (b i name : ℕ) (os : List Overlay) (best : Option Entry) (xs : List Entry) → filter (passes b (At i)) xs ≡ [] → best ≡ strongest b i name os best xs
+strongest_none b i name os best xs h = ap (λ zs. fold (λ m e. Some (stronger os m e)) best (filter (has_property name os) zs)) (sym h)

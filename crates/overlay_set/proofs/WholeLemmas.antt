@@ -1,5 +1,5 @@
 -- What is done over the tree is what the definitions say of all overlays.
-use Rattle.std.proofs.Common.{◌≡◌, ℕ, ◌+◌, ◌<◌, Bool, true, false, nat_lt, ◌==◌, List, [], ◌∷◌, ◌++◌, map, length, filter, slice_set, All, Option, Some, None, option_map, is_some, min, max, IsPermutation, append_assoc, refl, ap, sym, ◌∙◌, subst, arith, if◌then◌else◌}
+use Rattle.std.proofs.Common.{◌≡◌, ℕ, ◌+◌, ◌<◌, Bool, true, false, not, nat_lt, ◌==◌, List, [], ◌∷◌, ◌++◌, map, length, filter, slice_set, All, Option, Some, None, option_map, is_some, IfSome, min, max, IsPermutation, append_assoc, refl, ap, sym, ◌∙◌, subst, arith, if◌then◌else◌}
 use Rattle.std.specs.List.{flat_map, fold, enumerate_from}
 use Rattle.std.proofs.lemmas.Bool.{eqb-true, eqb-false, lt-ltb}
 use Rattle.std.proofs.lemmas.List.{set_comm, length-append}
@@ -9,93 +9,21 @@ use Rattle.text_model.specs.Marks.{Overlay, Span}
 use Rattle.text_model.specs.OverlayQuestions.{span_passes, covers, outranks, greater, greatest_of, overlays_where, winner, least, greatest, overlay_ends}
 use Rattle.std.specs.List.Sorted.{IsNonDecreasing}
 use Rattle.overlay_set.specs.Numbered.{overlay_at, numbers_of}
-use Rattle.overlay_set.specs.Slots.{with_span, moved_by, test_of, CanMoveIn}
+use Rattle.overlay_set.specs.Slots.{with_span, moved_by, test_of, bare_of, bare, CanMoveIn}
+use Rattle.overlay_set.specs.declared.slot.Slot.{Slot}
+use Rattle.overlay_set.proofs.Lists.{alike}
 use Rattle.overlay_set.specs.Entries.{entry_of, entries_from, HoldSame, numbers_in, passes, ends_at, IsMade}
-use Rattle.overlay_set.specs.Moves.{CanMoveEntry, touches, moved_entry, move_one, move_all}
-use Rattle.overlay_set.specs.Winner.{is_stronger, stronger, has_property, contenders, strongest}
+use Rattle.overlay_set.specs.Moves.{CanMoveEntry, moved_entry}
+use Rattle.overlay_set.specs.Winner as by_entry
+use Rattle.overlay_set.proofs.ByNumber.{is_stronger, stronger, has_property, contenders, strongest}
 use Rattle.overlay_set.specs.declared.slot.Question.TheVariants.{At}
 use Rattle.overlay_set.specs.declared.slot.Question.{Question}
 use Rattle.overlay_set.specs.declared.slot.Change.{Change}
 use Rattle.overlay_set.specs.declared.slot.Change.TheVariants.{Insertion, Deletion, Killed}
 use Rattle.overlay_set.specs.declared.bounds.Entry.{Entry}
-use Rattle.overlay_set.proofs.ChangeLemmas.{kept_by_one, length-move_one, stays}
 use Rattle.overlay_set.proofs.SameLemmas.{Same, total, rises_from, rising_same, same_from_permutation, sums_from_same, same_from_sums, same-map, same-filter, same-flat_map, fold-same}
 use Rattle.overlay_set.proofs.EntryLemmas.{Agrees, agrees_all, Matches, entries_match, all_same, ends_listed, stretch_back, entries_can_move, entries_moved, kept_rises, found_listed}
 use Rattle.overlay_set.proofs.OrderLemmas.{stronger_swap}
-
--- CHANGES
-abbrev moved_number : (b : ℕ) → Change → List Overlay → List Overlay → ℕ → List Overlay
-moved_number b change all os k = slice_set os k (moved_by b change (overlay_at all k))
-
-numbers_swap : (b : ℕ) (change : Change) (all os : List Overlay) (x y : ℕ) → moved_number b change all (moved_number b change all os x) y ≡ moved_number b change all (moved_number b change all os y) x
-numbers_swap b change all os x y = by_place (x == y) refl
-  where
-    by_place : (t : Bool) → (x == y) ≡ t → moved_number b change all (moved_number b change all os x) y ≡ moved_number b change all (moved_number b change all os y) x
-    by_place true h = let same : x ≡ y = eqb-true x y h in rw same refl
-    by_place false h = set_comm os x y (moved_by b change (overlay_at all x)) (moved_by b change (overlay_at all y)) (eqb-false x y h)
-
--- entries that match are moved by number
-by_number : (b : ℕ) (change : Change) (all : List Overlay) (es : List Entry) (os : List Overlay) → All (Matches all) es → length os ≡ length all → ((k : ℕ) (s : ℕ × ℕ × ℕ) → with_span (overlay_at os k) s ≡ with_span (overlay_at all k) s) →
-    fold (move_one b change) os es ≡ fold (moved_number b change all) os (numbers_in es)
-by_number b change all [] os match long kept = refl
-by_number b change all (e ∷ es) os match long kept =
-    let own : Matches all e = All-head (Matches all) e es match in
-    let made : e.number < length os = (let m = own.0 in omega arith) in
-    let step : move_one b change os e ≡ moved_number b change all os e.number = ap (λ o. slice_set os e.number (moved_by b change o)) (kept e.number e.stretch ∙ own.1) in
-    by_number b change all es (move_one b change os e) (All-tail (Matches all) e es match) (length-move_one b change os e ∙ long) (λ k s. kept_by_one b change os e k s made ∙ kept k s)
-    ∙ ap (λ ps. fold (moved_number b change all) ps (numbers_in es)) step
-
-set_at_end : (pre : List Overlay) (o p : Overlay) (os : List Overlay) → slice_set (pre ++ o ∷ os) (length pre) p ≡ pre ++ p ∷ os
-set_at_end [] o p os = refl
-set_at_end (q ∷ pre) o p os = ap (λ ps. q ∷ ps) (set_at_end pre o p os)
-
-nowhere_stays : (b : ℕ) (change : Change) (o : Overlay) → o.span ≡ None → moved_by b change o ≡ o
-nowhere_stays b (Insertion at n all) o h = let k : (moved_by b (Insertion at n all) o).span ≡ None = rw h refl in ap (λ p. record o { span = p }) (k ∙ sym h)
-nowhere_stays b (Deletion from to) o h = let k : (moved_by b (Deletion from to) o).span ≡ None = rw h refl in ap (λ p. record o { span = p }) (k ∙ sym h)
-nowhere_stays b Killed o h = let k : (moved_by b Killed o).span ≡ None = rw h refl in ap (λ p. record o { span = p }) (k ∙ sym h)
-
-abbrev numbers_moved : (b : ℕ) → Change → ℕ → List Overlay → List ℕ
-numbers_moved b change k os = numbers_in (filter (touches b change) (entries_from k os))
-
--- with the overlays before a number moved, those from it on
-all_in_turn : (b : ℕ) (change : Change) (all pre os : List Overlay) → Agrees all (length pre) os → fold (moved_number b change all) (pre ++ os) (numbers_moved b change (length pre) os) ≡ pre ++ map (moved_by b change) os
-all_in_turn b change all pre [] h = refl
-all_in_turn b change all pre (o ∷ os) h = by_span o.span refl
-    (λ p. let e : length (pre ++ p ∷ []) ≡ length pre + 1 = length-append pre (p ∷ []) in
-    ap (λ ps. fold (moved_number b change all) ps (numbers_moved b change (length pre + 1) os)) (sym (append_assoc pre (p ∷ []) os))
-    ∙ ap (λ k. fold (moved_number b change all) ((pre ++ p ∷ []) ++ os) (numbers_moved b change k os)) (sym e)
-    ∙ all_in_turn b change all (pre ++ p ∷ []) os (subst (λ k. Agrees all k os) (sym e) h.1.1)
-    ∙ append_assoc pre (p ∷ []) (map (moved_by b change) os))
-  where
-    still : ((p : Overlay) → fold (moved_number b change all) (pre ++ p ∷ os) (numbers_moved b change (length pre + 1) os) ≡ pre ++ p ∷ map (moved_by b change) os) → moved_by b change o ≡ o →
-        fold (moved_number b change all) (pre ++ o ∷ os) (numbers_moved b change (length pre + 1) os) ≡ pre ++ moved_by b change o ∷ map (moved_by b change) os
-    still ih e = ih o ∙ ap (λ p. pre ++ p ∷ map (moved_by b change) os) (sym e)
-
-    by_span : (t : Option Span) → o.span ≡ t → ((p : Overlay) → fold (moved_number b change all) (pre ++ p ∷ os) (numbers_moved b change (length pre + 1) os) ≡ pre ++ p ∷ map (moved_by b change) os) →
-        fold (moved_number b change all) (pre ++ o ∷ os) (numbers_in (filter (touches b change) (entry_of (length pre) o.span ++ entries_from (length pre + 1) os))) ≡ pre ++ moved_by b change o ∷ map (moved_by b change) os
-    by_span None e ih = ap (λ t. fold (moved_number b change all) (pre ++ o ∷ os) (numbers_in (filter (touches b change) (entry_of (length pre) t ++ entries_from (length pre + 1) os)))) e ∙ still ih (nowhere_stays b change o e)
-    by_span (Some s) e ih =
-        ap (λ t. fold (moved_number b change all) (pre ++ o ∷ os) (numbers_in (filter (touches b change) (entry_of (length pre) t ++ entries_from (length pre + 1) os)))) e
-        ∙ by_touch (touches b change (record { number = length pre; stretch = (s.buffer, s.start, s.end) })) refl
-      where
-        by_touch : (t : Bool) → touches b change (record { number = length pre; stretch = (s.buffer, s.start, s.end) }) ≡ t →
-            fold (moved_number b change all) (pre ++ o ∷ os) (numbers_in (filter (touches b change) (entry_of (length pre) (Some s) ++ entries_from (length pre + 1) os))) ≡ pre ++ moved_by b change o ∷ map (moved_by b change) os
-        by_touch true t =
-            let here : moved_number b change all (pre ++ o ∷ os) (length pre) ≡ pre ++ moved_by b change o ∷ os = ap (λ p. slice_set (pre ++ o ∷ os) (length pre) (moved_by b change p)) h.0 ∙ set_at_end pre o (moved_by b change o) os in
-            rw t (ap (λ ps. fold (moved_number b change all) ps (numbers_moved b change (length pre + 1) os)) here ∙ ih (moved_by b change o))
-        by_touch false t =
-            let same = stretch_back o s e in
-            rw t (still ih (ap (moved_by b change) (sym same) ∙ stays b change o (s.buffer, s.start, s.end) t ∙ same))
-
-pub whole_moved : (b : ℕ) (change : Change) (os : List Overlay) (tree : List Entry) → HoldSame tree (entries_from 0 os) → move_all b change os tree ≡ map (moved_by b change) os
-whole_moved b change os tree h =
-    let es = entries_from 0 os in
-    let same : Same tree es = same_from_sums tree es h in
-    let match : All (Matches os) tree = all_same (Matches os) tree es same (entries_match os 0 os (agrees_all os)) in
-    by_number b change os (filter (touches b change) tree) os (All-filter (touches b change) (Matches os) tree match) refl (λ k s. refl)
-    ∙ fold-same (moved_number b change os) (numbers_swap b change os) (numbers_in (filter (touches b change) tree)) (numbers_in (filter (touches b change) es))
-    (same-map (λ (e : Entry). e.number) (filter (touches b change) tree) (filter (touches b change) es) (same-filter (touches b change) tree es same)) os
-    ∙ all_in_turn b change os [] os (agrees_all os)
 
 -- THE WINNER
 abbrev Fits : List Overlay → ℕ → Option (ℕ × Overlay) → Type 0
@@ -168,6 +96,59 @@ whole_winner b i name os tree h =
     fold-same (λ m k. Some (stronger os m k)) (stronger_swap os) (contenders b i name os tree) (contenders b i name os es)
     (same-map (λ (e : Entry). e.number) (filter (has_property name os) front) (filter (has_property name os) fronts) (same-filter (has_property name os) front fronts (same-filter (passes b (At i)) tree es same))) None
     ∙ winner_listed b i name os 0 os None (agrees_all os) tt
+
+-- by entries with the slots, and by numbers with the overlays
+has_alike : (name : ℕ) (slots : List Slot) (os : List Overlay) (e : Entry) → map bare_of slots ≡ map bare os → by_entry.has_property name (map bare_of slots) e ≡ has_property name os e
+has_alike name slots os e h = ap (λ (o : Overlay). is_some (get o.props name)) (alike slots os e.number e.stretch h)
+
+kept_alike : (name : ℕ) (slots : List Slot) (os : List Overlay) (es : List Entry) → map bare_of slots ≡ map bare os → filter (by_entry.has_property name (map bare_of slots)) es ≡ filter (has_property name os) es
+kept_alike name slots os [] h = refl
+kept_alike name slots os (e ∷ es) h = rw (has_alike name slots os e h, kept_alike name slots os es h) refl
+
+stands : (slots : List Slot) (os : List Overlay) (e : Entry) → map bare_of slots ≡ map bare os → Matches os e → by_entry.standing (map bare_of slots) e ≡ overlay_at os e.number
+stands slots os e h match = alike slots os e.number e.stretch h ∙ match.1
+
+abbrev wins_first : Bool → Overlay → Overlay → Bool
+wins_first below o p = if below then outranks o p else not (outranks p o)
+
+stronger_alike : (slots : List Slot) (os : List Overlay) (e other : Entry) → map bare_of slots ≡ map bare os → Matches os e → Matches os other → by_entry.is_stronger (map bare_of slots) e other ≡ is_stronger os e.number other.number
+stronger_alike slots os e other h match rival =
+    ap (λ o. wins_first (nat_lt other.number e.number) o (by_entry.standing (map bare_of slots) other)) (stands slots os e h match)
+    ∙ ap (λ p. wins_first (nat_lt other.number e.number) (overlay_at os e.number) p) (stands slots os other h rival)
+
+abbrev number_of : Option Entry → Option ℕ
+number_of best = option_map (λ (e : Entry). e.number) best
+
+fold_alike : (slots : List Slot) (os : List Overlay) (best : Option Entry) (es : List Entry) → map bare_of slots ≡ map bare os → All (Matches os) es → IfSome best (Matches os) →
+    number_of (fold (λ m e. Some (by_entry.stronger (map bare_of slots) m e)) best es) ≡ fold (λ m k. Some (stronger os m k)) (number_of best) (numbers_in es)
+fold_alike slots os best [] h all match = refl
+fold_alike slots os None (e ∷ es) h all match = fold_alike slots os (Some e) es h (All-tail (Matches os) e es all) (All-head (Matches os) e es all)
+fold_alike slots os (Some best) (e ∷ es) h all match = by_test (λ m k. fold_alike slots os (Some m) es h (All-tail (Matches os) e es all) k) (is_stronger os e.number best.number) refl
+  where
+    own : Matches os e
+    own = All-head (Matches os) e es all
+
+    by_test : ((m : Entry) → Matches os m → number_of (fold (λ m e. Some (by_entry.stronger (map bare_of slots) m e)) (Some m) es) ≡ fold (λ m k. Some (stronger os m k)) (Some m.number) (numbers_in es)) → (t : Bool) → is_stronger os e.number best.number ≡ t →
+        number_of (fold (λ m e. Some (by_entry.stronger (map bare_of slots) m e)) (Some (if by_entry.is_stronger (map bare_of slots) e best then e else best)) es) ≡ fold (λ m k. Some (stronger os m k)) (Some (if is_stronger os e.number best.number then e.number else best.number)) (numbers_in es)
+    by_test ih true t =
+        let s : by_entry.is_stronger (map bare_of slots) e best ≡ true = stronger_alike slots os e best h own match ∙ t in
+        ap (λ b. number_of (fold (λ m e. Some (by_entry.stronger (map bare_of slots) m e)) (Some (if b then e else best)) es)) s
+        ∙ ih e own
+        ∙ ap (λ b. fold (λ m k. Some (stronger os m k)) (Some (if b then e.number else best.number)) (numbers_in es)) (sym t)
+    by_test ih false t =
+        let s : by_entry.is_stronger (map bare_of slots) e best ≡ false = stronger_alike slots os e best h own match ∙ t in
+        ap (λ b. number_of (fold (λ m e. Some (by_entry.stronger (map bare_of slots) m e)) (Some (if b then e else best)) es)) s
+        ∙ ih best match
+        ∙ ap (λ b. fold (λ m k. Some (stronger os m k)) (Some (if b then e.number else best.number)) (numbers_in es)) (sym t)
+
+pub winner_alike : (b i name : ℕ) (slots : List Slot) (os : List Overlay) (tree : List Entry) → map bare_of slots ≡ map bare os → HoldSame tree (entries_from 0 os) →
+    option_map (λ (e : Entry). e.number) (by_entry.strongest b i name (map bare_of slots) None tree) ≡ option_map (λ o. o.0) (winner b (i + 1) name os)
+winner_alike b i name slots os tree h holds =
+    let front = filter (passes b (At i)) tree in
+    let match : All (Matches os) tree = all_same (Matches os) tree (entries_from 0 os) (same_from_sums tree (entries_from 0 os) holds) (entries_match os 0 os (agrees_all os)) in
+    ap (λ es. option_map (λ (e : Entry). e.number) (fold (λ m e. Some (by_entry.stronger (map bare_of slots) m e)) None es)) (kept_alike name slots os front h)
+    ∙ fold_alike slots os None (filter (has_property name os) front) h (All-filter (has_property name os) (Matches os) front (All-filter (passes b (At i)) (Matches os) tree match)) tt
+    ∙ whole_winner b i name os tree holds
 
 -- STARTS AND ENDS
 least_fold : (n : ℕ) (xs : List ℕ) → least n xs ≡ fold min n xs

@@ -1,5 +1,5 @@
 -- The overlays that stand somewhere, as the tree keeps them: in any order, each once.
-use Rattle.std.specs.Prelude.{All, ◌≡◌, ℕ, ◌+◌, ◌≤◌, ◌<◌, Bool, true, ◌==◌, ◌&&◌, not, List, [], ◌∷◌, ◌++◌, map, filter, Option, Some, None}
+use Rattle.std.specs.Prelude.{All, ◌≡◌, ℕ, ◌+◌, ◌%◌, ◌^◌, ◌≤◌, ◌<◌, Bool, true, ◌==◌, ◌&&◌, not, List, [], ◌∷◌, ◌++◌, map, filter, Option, Some, None}
 use Rattle.std.specs.List.{sum_by}
 use Rattle.text_model.specs.Marks.{Overlay, Span}
 use Rattle.text_model.specs.OverlayQuestions.{span_passes, ends_of_span}
@@ -10,6 +10,7 @@ use Rattle.overlay_set.specs.declared.bounds.Entry.{Entry}
 use Rattle.overlay_set.specs.declared.bounds.Range.{Range}
 use Rattle.overlay_set.specs.declared.bounds.Bounds.{Bounds}
 use Rattle.overlay_set.specs.declared.tree.Link.{Link}
+use Rattle.overlay_set.specs.declared.tree.Node.{Node}
 use Rattle.overlay_set.specs.declared.tree.Link.TheVariants.{Empty, Full}
 
 -- an overlay's entry, where it stands somewhere
@@ -49,17 +50,28 @@ abbrev pub ends_at : (buffer : ℕ) → Entry → List ℕ
 ends_at buffer e = ends_of_span buffer (Some (span_at e.stretch))
 
 -- THE TREE
+-- an entry whose places are counted from a shift, modulo 2^64
+abbrev pub raised : (by : ℕ) → Entry → Entry
+raised by e = record { number = e.number; stretch = (e.stretch.0, (e.stretch.1 + by) % 2 ^ 64, (e.stretch.2 + by) % 2 ^ 64) }
+
+abbrev pub InRange : Entry → Type 0
+InRange e = (e.stretch.1 < 2 ^ 64) × (e.stretch.2 < 2 ^ 64)
+
 abbrev pub Within : Range → ℕ → Type 0
 Within r n = (r.least ≤ n) × (n ≤ r.most)
 
 abbrev pub Holds : Bounds → Entry → Type 0
 Holds b e = Within b.numbers e.number × Within b.buffers e.stretch.0 × Within b.starts e.stretch.1 × Within b.ends e.stretch.2 × (e.stretch.1 ≡ e.stretch.2 → b.hollow ≡ true)
 
+-- the entries of a node, with those in front of it and behind it
+abbrev pub entries_in : Node → List Entry
+entries_in n = map (raised n.shift) (n.left ++ n.entry ∷ n.right)
+
 abbrev pub entries_of : Link → List Entry
 entries_of Empty = []
-entries_of (Full n) = n.value.left ++ n.value.entry ∷ n.value.right
+entries_of (Full n) = entries_in n.value
 
--- a node's bounds hold of all its entries
+-- a node's bounds hold of all its entries, as they are before its shift
 abbrev pub HasBounds : Link → Type 0
 HasBounds Empty = Unit {0}
 HasBounds (Full n) = All (Holds n.value.bounds) (n.value.left ++ n.value.entry ∷ n.value.right)

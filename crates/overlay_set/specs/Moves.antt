@@ -1,6 +1,5 @@
 -- How entries move at a change.
-use Rattle.std.specs.Prelude.{◌≡◌, ℕ, Bool, true, ◌==◌, ◌&&◌, ◌||◌, nat_lt, nat_le, List, slice_set, filter}
-use Rattle.std.specs.List.{fold}
+use Rattle.std.specs.Prelude.{◌≡◌, ℕ, Bool, true, ◌==◌, ◌&&◌, ◌||◌, nat_lt, nat_le, List}
 use Rattle.text_model.specs.Marks.{Overlay}
 use Rattle.overlay_set.specs.Numbered.{overlay_at}
 use Rattle.overlay_set.specs.Slots.{with_span, moved_by, CanMove}
@@ -29,10 +28,3 @@ moved_at buffer change os e = moved_by buffer change (with_span (overlay_at os e
 
 abbrev pub moved_entry : (buffer : ℕ) → Change → List Overlay → Entry → List Entry
 moved_entry buffer change os e = entry_of e.number (moved_at buffer change os e).span
-
-abbrev pub move_one : (buffer : ℕ) → Change → List Overlay → Entry → List Overlay
-move_one buffer change os e = slice_set os e.number (moved_at buffer change os e)
-
--- the overlays with those of some entries moved that a change touches
-abbrev pub move_all : (buffer : ℕ) → Change → List Overlay → List Entry → List Overlay
-move_all buffer change os entries = fold (move_one buffer change) os (filter (touches buffer change) entries)

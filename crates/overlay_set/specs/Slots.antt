@@ -1,16 +1,20 @@
 -- What is seen of an overlay's slot, and of a change.
-use Rattle.std.specs.Prelude.{◌≡◌, ℕ, ◌+◌, ◌≤◌, Bool, false, Some, IfSome}
+use Rattle.std.specs.Prelude.{◌≡◌, ℕ, ◌+◌, ◌≤◌, Bool, false, Some, None, IfSome}
 use Rattle.text_model.specs.Marks.{Overlay, Span, move_overlay, evaporated, overlay_left, insertion, deletion}
 use Rattle.text_model.specs.OverlayQuestions.{covers, lies_within}
-use Rattle.overlay_set.specs.Numbered.{span_at, span_of}
+use Rattle.overlay_set.specs.Numbered.{span_at}
 use Rattle.overlay_set.specs.declared.slot.Slot.{Slot}
 use Rattle.overlay_set.specs.declared.slot.Change.{Change}
 use Rattle.overlay_set.specs.declared.slot.Change.TheVariants.{Insertion, Deletion, Killed}
 use Rattle.overlay_set.specs.declared.slot.Question.{Question}
 use Rattle.overlay_set.specs.declared.slot.Question.TheVariants.{At, Within}
 
-abbrev pub overlay_of : Slot → Overlay
-overlay_of slot = record { span = span_of slot.span; front_advance = slot.front; rear_advance = slot.rear; props = slot.props }
+-- an overlay without its stretch, which the tree has
+abbrev pub bare_of : Slot → Overlay
+bare_of slot = record { span = None; front_advance = slot.front; rear_advance = slot.rear; props = slot.props }
+
+abbrev pub bare : Overlay → Overlay
+bare o = record o { span = None }
 
 abbrev pub with_span : Overlay → ℕ × ℕ × ℕ → Overlay
 with_span o stretch = record o { span = Some (span_at stretch) }

@@ -1,6 +1,6 @@
 //! Trees joined in balance.
 ghost use Rattle.std.specs.Prelude.{◌≡◌, ◌∷◌, ◌++◌};
-ghost use Rattle.overlay_set.specs.Entries.{HoldSame};
+ghost use Rattle.overlay_set.specs.Entries.{HoldSame, entries_in};
 
 use crate::bounds::Entry;
 use crate::tree::{Link, Node, Tree, fork, take_sides};
@@ -110,7 +110,7 @@ fn join_left(left: Tree, node: Box<Node>, right: Tree) -> Tree
 
 /// The first entry of a tree with more behind it, and these.
 fn first_out(node: Box<Node>) -> (Box<Node>, Tree)
-    ensures { result.0.value.entry ∷ result.1 ≡ node.value.left ++ node.value.entry ∷ node.value.right }
+    ensures { result.0.value.entry ∷ result.1 ≡ entries_in node.value }
 {
     let mut node = node;
     let (left, right) = take_sides(&mut node);

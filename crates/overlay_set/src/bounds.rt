@@ -1,12 +1,12 @@
 //! Stretches with the numbers of their overlays, and the bounds of many of them.
-ghost use Rattle.std.specs.Prelude.{◌≡◌, false, min, max, filter, ◌+◌, ◌<◌, ℕ, nat_lt, nat_le};
-ghost use Rattle.std.specs.Prelude.{◌==◌, ◌||◌, ◌&&◌, true, not, is_some, unwrap_or};
+ghost use Rattle.std.specs.Prelude.{◌≡◌, false, min, max, filter, ◌+◌, ◌<◌, ℕ, nat_lt, nat_le, ◌%◌, ◌^◌};
+ghost use Rattle.std.specs.Prelude.{◌==◌, ◌||◌, ◌&&◌, true, not, is_some, unwrap_or, Some};
 ghost use Rattle.text_model.specs.OverlayQuestions.{least, greatest};
 ghost use Rattle.overlay_set.specs.Numbered.{next_or, previous_or};
-ghost use Rattle.overlay_set.specs.Entries.{Holds, ends_at, passes, is_same};
+ghost use Rattle.overlay_set.specs.Entries.{Holds, Within, ends_at, passes, is_same, raised, InRange};
 ghost use Rattle.text_model.specs.Marks.{Overlay};
 ghost use Rattle.overlay_set.specs.Slots.{moved_by, with_span};
-ghost use Rattle.overlay_set.specs.Moves.{touches};
+ghost use Rattle.overlay_set.specs.Moves.{touches, CanMoveEntry};
 
 use crate::slot::{Change, Question, Stretch, nearer_before, nearer_behind};
 
@@ -39,6 +39,17 @@ impl Entry {
     /// Whether it stands before another: by buffer, start, end and number.
     pub(crate) fn comes_before(self, other: Entry) -> bool {
         (self.stretch, self.number) < (other.stretch, other.number)
+    }
+
+    /// The same with its places counted from a shift.
+    pub(crate) fn raised(self, by: usize) -> Entry
+        ensures { result ≡ raised by self }
+    {
+        let (buffer, start, end) = self.stretch;
+        Entry {
+            number: self.number,
+            stretch: (buffer, start.wrapping_add(by), end.wrapping_add(by)),
+        }
     }
 
     /// Whether it is the same entry as another.
@@ -107,14 +118,14 @@ impl Entry {
 
 impl Range {
     /// One number by itself.
-    fn one(n: usize) -> Range
+    pub(crate) fn one(n: usize) -> Range
         ensures { result ≡ record { least = n; most = n } }
     {
         Range { least: n, most: n }
     }
 
     /// The numbers of two ranges, and those between.
-    fn joined(self, other: Range) -> Range
+    pub(crate) fn joined(self, other: Range) -> Range
         ensures least { result.least ≡ min self.least other.least }
         ensures most { result.most ≡ max self.most other.most }
     {
@@ -124,8 +135,26 @@ impl Range {
         }
     }
 
+    /// Where its numbers lie when they are counted from a shift: anywhere, where some of them pass the last `usize` and
+    /// others don't.
+    #[tactic(auto, using(crate::proofs::Shifts::within_raised))]
+    fn raised(self, by: usize) -> Range
+        ensures { (n : ℕ) → Within self n → Within result ((n + by) % 2 ^ 64) }
+    {
+        let least = self.least.wrapping_add(by);
+        let most = self.most.wrapping_add(by);
+        if least <= most {
+            Range { least, most }
+        } else {
+            Range {
+                least: 0,
+                most: usize::MAX,
+            }
+        }
+    }
+
     /// Whether a number may be one of the range.
-    fn holds(self, n: usize) -> bool
+    pub(crate) fn holds(self, n: usize) -> bool
         ensures { result ≡ (nat_le self.least n && nat_le n self.most) }
     {
         self.least <= n && n <= self.most
@@ -153,7 +182,8 @@ impl Range {
 impl Bounds {
     /// The bounds of one entry.
     pub(crate) fn of(entry: Entry) -> Bounds
-        ensures { Holds result entry }
+        ensures holds { Holds result entry }
+        ensures range { InRange entry }
     {
         let (buffer, start, end) = entry.stretch;
         Bounds {
@@ -176,6 +206,19 @@ impl Bounds {
             starts: self.starts.joined(other.starts),
             ends: self.ends.joined(other.ends),
             hollow: self.hollow || other.hollow,
+        }
+    }
+
+    /// The bounds of the same entries when their places are counted from a shift.
+    pub(crate) fn raised(self, by: usize) -> Bounds
+        ensures { (e : Entry) → Holds self e → Holds result (raised by e) }
+    {
+        Bounds {
+            numbers: self.numbers,
+            buffers: self.buffers,
+            starts: self.starts.raised(by),
+            ends: self.ends.raised(by),
+            hollow: self.hollow,
         }
     }
 
@@ -208,6 +251,26 @@ impl Bounds {
                 Change::Deletion { from, .. } => from < most || self.hollow,
                 Change::Killed => true,
             }
+    }
+
+    /// How far a change of the buffer moves all entries alike, modulo 2^64, where these bounds show that it does.
+    pub(crate) fn carry(self, buffer: u32, change: Change) -> Option<usize>
+        ensures { (by : ℕ) → result ≡ Some by → (e : Entry) → Holds self e →
+            CanMoveEntry buffer change e → (o : Overlay) →
+            moved_by buffer change (with_span o e.stretch) ≡ with_span o (raised by e).stretch }
+    {
+        let own = buffer as usize;
+        let least = self.starts.least.min(self.ends.least);
+        if self.buffers.least < own || own < self.buffers.most {
+            return None;
+        }
+        match change {
+            Change::Insertion { at, n, .. } if at < least => Some(n),
+            Change::Deletion { from, to } if to < least && !self.hollow => {
+                Some(from.wrapping_sub(to))
+            }
+            _ => None,
+        }
     }
 
     /// Whether an entry of the buffer may begin or end behind `i` and before a place that was found.

@@ -1,10 +1,11 @@
-//! Changes of a tree of entries. A part that a change can't touch is left as it is.
-ghost use Rattle.std.specs.Prelude.{◌≡◌, false, ◌<◌, All, ◌∷◌, [], ◌++◌, length, map};
+//! Changes of a tree of entries. A part that a change can't touch is left as it is, and one that moves as one gets a shift.
+ghost use Rattle.std.specs.Prelude.{◌≡◌, ℕ, false, ◌<◌, All, ◌∷◌, [], ◌++◌, length, map, List, Some};
 ghost use Rattle.std.specs.List.{flat_map};
+ghost use Rattle.text_model.specs.Marks.{Overlay};
 ghost use Rattle.overlay_set.specs.Numbered.{span_of};
-ghost use Rattle.overlay_set.specs.Slots.{overlay_of};
-ghost use Rattle.overlay_set.specs.Entries.{HoldSame, IsMade, entry_of, without, without_all};
-ghost use Rattle.overlay_set.specs.Moves.{CanMoveEntry, touches, moved_entry, move_all};
+ghost use Rattle.overlay_set.specs.Slots.{bare_of};
+ghost use Rattle.overlay_set.specs.Entries.{HoldSame, IsMade, entry_of, raised, without, without_all};
+ghost use Rattle.overlay_set.specs.Moves.{CanMoveEntry, touches, moved_entry};
 
 use crate::balance::{insert, join, merge};
 use crate::bounds::Entry;
@@ -19,7 +20,10 @@ impl Tree {
     {
         match &self.root {
             Link::Empty => false,
-            Link::Full(node) => node.bounds.may_hold(entry),
+            Link::Full(node) => {
+                let node: &Node = node;
+                node.bounds.raised(node.shift).may_hold(entry)
+            }
         }
     }
 
@@ -29,7 +33,27 @@ impl Tree {
     {
         match &self.root {
             Link::Empty => false,
-            Link::Full(node) => node.bounds.may_be_touched(buffer, change),
+            Link::Full(node) => {
+                let node: &Node = node;
+                node.bounds
+                    .raised(node.shift)
+                    .may_be_touched(buffer, change)
+            }
+        }
+    }
+
+    /// How far a change of the buffer moves all entries alike, modulo 2^64, where the bounds show that it does.
+    fn carry(&self, buffer: u32, change: Change) -> Option<usize>
+        requires { All (CanMoveEntry buffer change) self.now }
+        ensures { (by : ℕ) → result ≡ Some by → (os : List Overlay) →
+            map (raised by) self.now ≡ flat_map (moved_entry buffer change os) self.now }
+    {
+        match &self.root {
+            Link::Empty => None,
+            Link::Full(node) => {
+                let node: &Node = node;
+                node.bounds.raised(node.shift).carry(buffer, change)
+            }
         }
     }
 }
@@ -74,55 +98,51 @@ fn all_but(tree: Tree, gone: Entry) -> Tree
     }
 }
 
-/// Moves the overlays of a tree at a change of a buffer, here and in their slots.
-pub(crate) fn move_in(tree: &mut Tree, slots: &mut [Slot], buffer: u32, change: Change)
-    requires made { All (IsMade (length slots.old)) tree.old }
+/// Moves the entries of a tree at a change of a buffer.
+pub(crate) fn move_in(tree: &mut Tree, slots: &[Slot], buffer: u32, change: Change)
+    requires made { All (IsMade (length slots.now)) tree.old }
     requires can { All (CanMoveEntry buffer change) tree.old }
-    ensures tree { tree.new ≡ flat_map (moved_entry buffer change (map overlay_of slots.old)) tree.old }
-    ensures slots { map overlay_of slots.new ≡ move_all buffer change (map overlay_of slots.old)
-        tree.old }
+    ensures { tree.new ≡ flat_map (moved_entry buffer change (map bare_of slots.now)) tree.old }
 {
     let old = mem::replace(tree, Tree::new());
     *tree = moved(old, slots, buffer, change);
 }
 
-/// The entries after a change of a buffer, which moves their slots too.
-fn moved(tree: Tree, slots: &mut [Slot], buffer: u32, change: Change) -> Tree
-    requires made { All (IsMade (length slots.old)) tree }
+/// The entries after a change of a buffer.
+fn moved(tree: Tree, slots: &[Slot], buffer: u32, change: Change) -> Tree
+    requires made { All (IsMade (length slots.now)) tree }
     requires can { All (CanMoveEntry buffer change) tree }
-    ensures tree { result ≡ flat_map (moved_entry buffer change (map overlay_of slots.old)) tree }
-    ensures slots { map overlay_of slots.new ≡ move_all buffer change (map overlay_of slots.old) tree }
+    ensures { result ≡ flat_map (moved_entry buffer change (map bare_of slots.now)) tree }
 {
     if !tree.may_be_touched(buffer, change) {
         return tree;
+    }
+    if let Some(by) = tree.carry(buffer, change) {
+        return tree.raised(by);
     }
     match tree.root {
         Link::Empty => Tree::new(),
         Link::Full(mut node) => {
             let (left, right) = take_sides(&mut node);
             let left = moved(left, slots, buffer, change);
-            let stretch = move_slot(slots, node.entry, buffer, change);
+            let stretch = moved_stretch(slots, node.entry, buffer, change);
             let right = moved(right, slots, buffer, change);
             put_between(left, node, stretch, right)
         }
     }
 }
 
-/// Where an entry goes at a change of a buffer, if anywhere; its slot goes there too.
-fn move_slot(slots: &mut [Slot], entry: Entry, buffer: u32, change: Change) -> Option<Stretch>
-    requires made { entry.number < length slots.old }
+/// Where an entry goes at a change of a buffer, if anywhere.
+fn moved_stretch(slots: &[Slot], entry: Entry, buffer: u32, change: Change) -> Option<Stretch>
+    requires made { entry.number < length slots.now }
     requires can { CanMoveEntry buffer change entry }
-    ensures stretch { entry_of entry.number (span_of result) ≡
-        moved_entry buffer change (map overlay_of slots.old) entry }
-    ensures slots { map overlay_of slots.new ≡ move_all buffer change (map overlay_of slots.old)
-        (entry ∷ []) }
+    ensures { entry_of entry.number (span_of result) ≡
+        moved_entry buffer change (map bare_of slots.now) entry }
 {
     if !entry.is_touched(buffer, change) {
         return Some(entry.stretch);
     }
-    let slot = &mut slots[entry.number as usize];
-    slot.span = slot.moved(entry.stretch, buffer, change);
-    slot.span
+    slots[entry.number as usize].moved(entry.stretch, buffer, change)
 }
 
 /// An entry that has gone to a stretch, or nowhere, between two trees.

@@ -10,13 +10,13 @@ ghost use Rattle.ek_types.specs.Property.{prop_of};
 ghost use Rattle.ek_types.specs.Listing.{items_of};
 ghost use Rattle.overlay_set.specs.Numbered.{overlay_at, span_of, span_at, given_of, numbers_of};
 ghost use Rattle.overlay_set.specs.Numbered.{next_or, previous_or, HasRoomFor};
-ghost use Rattle.overlay_set.specs.Slots.{test_of, with_span, moved_by, overlay_of, CanMoveIn};
+ghost use Rattle.overlay_set.specs.Slots.{test_of, with_span, moved_by, bare_of, CanMoveIn};
 ghost use Rattle.overlay_set.specs.Entries.{HoldSame};
 
 use crate::bounds::Entry;
 use crate::moves::{move_in, put, take_out};
 use crate::slot::{Change, Question, Slot};
-use crate::tree::{Node, Tree, alone};
+use crate::tree::{Node, Tree, alone, with_key};
 use ek_types::{ListOf, Mem, PropSet, PropVal, Sym};
 use std::alloc::Global;
 use std::marker::Model;
@@ -25,7 +25,7 @@ use std::marker::Model;
 pub type Numbers = ListOf<u32>;
 
 /// Overlays by number, from 0 in the order in which they were made (GNU Emacs Lisp Reference Manual, Overlays). Places
-/// count from 0. Those that stand somewhere are in a tree too, by where they stand.
+/// count from 0. Those that stand somewhere are in a tree, which has their stretches.
 #[derive(Drop)]
 pub struct Overlays {
     slots: Vec<Slot>,
@@ -33,18 +33,18 @@ pub struct Overlays {
 }
 
 impl Model for Overlays {
-    ghost use Rattle.std.specs.Prelude.{List, map, length, ◌<◌, ◌^◌};
+    ghost use Rattle.std.specs.Prelude.{List, length, ◌<◌, ◌^◌};
     ghost use Rattle.text_model.specs.Marks.{Overlay};
 
     ghost Value = { List Overlay };
 
-    ghost use Rattle.overlay_set.specs.Slots.{overlay_of};
+    ghost use Rattle.overlay_set.specs.Seen.{seen_from};
     ghost use Rattle.overlay_set.specs.Entries.{HoldSame, entries_from};
 
-    ghost view = { λ a. map overlay_of a.slots.items };
+    ghost view = { λ a. seen_from a.tree 0 a.slots.items };
 
     ghost invariant = { λ a. (length a.slots.items < 2 ^ 32) ×
-        HoldSame a.tree (entries_from 0 (map overlay_of a.slots.items)) };
+        HoldSame a.tree (entries_from 0 (seen_from a.tree 0 a.slots.items)) };
 }
 
 impl Overlays {
@@ -84,11 +84,13 @@ impl Overlays {
         let alloc = *self.slots.allocator();
         let number = self.slots.len() as u32;
         let stretch = (buffer, from, to);
+        let entry = Entry { number, stretch };
         self.slots.reserve(1)?;
-        let node = alone(alloc, Entry { number, stretch })?;
+        let key = self.tree.key_for(entry);
+        let node = alone(alloc, entry, key)?;
         put(&mut self.tree, node);
         self.slots.push_reserved(Slot {
-            span: Some(stretch),
+            key,
             front,
             rear,
             props: PropSet::empty(alloc),
@@ -106,7 +108,7 @@ impl Overlays {
         ensures err { OnErr result (self.new ≡ self.old) }
     {
         let stretch = (buffer, from, to);
-        let node = alone(*self.slots.allocator(), Entry { number: k, stretch })?;
+        let node = alone(*self.slots.allocator(), Entry { number: k, stretch }, 0)?;
         self.remove(k);
         self.stand(node);
         Ok(())
@@ -119,9 +121,10 @@ impl Overlays {
         ensures { self.new ≡ slice_set self.old node.value.entry.number
             (with_span (overlay_at self.old node.value.entry.number) node.value.entry.stretch) }
     {
-        let Entry { number, stretch } = node.entry;
-        put(&mut self.tree, node);
-        self.slots[number as usize].span = Some(stretch);
+        let number = node.entry.number;
+        let key = self.tree.key_for(node.entry);
+        put(&mut self.tree, with_key(node, key));
+        self.slots[number as usize].key = key;
     }
 
     /// Takes overlay `k` out of its buffer ("Managing Overlays" there). It keeps its properties, and whether its ends
@@ -130,9 +133,8 @@ impl Overlays {
         requires { k < length self.old }
         ensures { self.new ≡ slice_set self.old k (record (overlay_at self.old k) { span = None }) }
     {
-        let slot = &mut self.slots[k as usize];
-        take_out(&mut self.tree, k, slot.span);
-        slot.span = None;
+        let span = self.span(k);
+        take_out(&mut self.tree, k, span);
     }
 
     /// Where overlay `k` stands: a buffer with two places in it, or nowhere.
@@ -140,7 +142,7 @@ impl Overlays {
         requires { k < length self.now }
         ensures { span_of result ≡ (overlay_at self.now k).span }
     {
-        self.slots[k as usize].span
+        self.tree.stretch(k, self.slots[k as usize].key)
     }
 
     /// Gives overlay `k` a property, or takes it away where `v` is none or nil. The overlay stays where it is, also
@@ -217,22 +219,21 @@ impl Overlays {
     pub fn winner(&self, buffer: u32, i: usize, name: Sym) -> Option<u32>
         ensures { result ≡ option_map (λ o. o.0) (winner buffer (i + 1) name.0 self.now) }
     {
-        self.tree
-            .winner(self.slots.as_slice(), buffer, i, name, None)
+        self.tree.winner(self.slots.as_slice(), buffer, i, name)
     }
 
     /// The first place behind `i` where an overlay of a buffer begins or ends, or `None` where there is none.
     pub fn next_change(&self, buffer: u32, i: usize) -> Option<usize>
         ensures { (last : ℕ) → next_end buffer (i + 1) last self.now ≡ next_or last result }
     {
-        self.tree.next_change(buffer, i, None)
+        self.tree.next_change(buffer, i)
     }
 
     /// The last place before `i` where an overlay of a buffer begins or ends, or `None` where there is none.
     pub fn prev_change(&self, buffer: u32, i: usize) -> Option<usize>
         ensures { (first : ℕ) → previous_end buffer (i + 1) first self.now ≡ previous_or first result }
     {
-        self.tree.prev_change(buffer, i, None)
+        self.tree.prev_change(buffer, i)
     }
 
     /// `n` characters were put in at `at` of a buffer: the starts and ends of its overlays behind `at` go on by `n`, and so
@@ -261,7 +262,7 @@ impl Overlays {
         requires { All (CanMoveIn buffer change) self.old }
         ensures { self.new ≡ map (moved_by buffer change) self.old }
     {
-        move_in(&mut self.tree, self.slots.as_mut_slice(), buffer, change);
+        move_in(&mut self.tree, self.slots.as_slice(), buffer, change);
     }
 
     /// A buffer was killed: its overlays have no buffer. They keep their properties.

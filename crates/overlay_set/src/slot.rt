@@ -8,7 +8,7 @@ ghost use Rattle.text_model.specs.OverlayQuestions.{covers, overlaps, stands_in,
 ghost use Rattle.text_model.specs.OverlayQuestions.{end_of, outranks, least, greatest};
 ghost use Rattle.ek_types.specs.Property.{prop_of};
 ghost use Rattle.overlay_set.specs.Numbered.{span_at, span_of, given_of, next_or, previous_or};
-ghost use Rattle.overlay_set.specs.Slots.{overlay_of, with_span, moved_by, test_of, CanMoveIn};
+ghost use Rattle.overlay_set.specs.Slots.{bare_of, with_span, moved_by, test_of, CanMoveIn};
 
 use ek_types::{Mem, PropSet, PropVal, Sym, place_after_delete, place_after_insert};
 
@@ -21,11 +21,11 @@ const PRIORITY: Sym = Sym(3);
 /// A buffer with two places in it.
 pub type Stretch = (u32, usize, usize);
 
-/// A stretch of a buffer, or none where the overlay has no buffer; whether its ends advance; and its properties (GNU
-/// Emacs Lisp Reference Manual, Overlays).
+/// What an overlay has besides its stretch: whether its ends advance, and its properties (GNU Emacs Lisp Reference Manual,
+/// Overlays). The key leads to it in the tree, where it stands somewhere.
 #[derive(Drop)]
 pub struct Slot {
-    pub span: Option<Stretch>,
+    pub key: usize,
     pub front: bool,
     pub rear: bool,
     pub props: PropSet,
@@ -111,7 +111,7 @@ impl Slot {
 
     /// Its priority: 0 where none is given as a number.
     fn rank(&self) -> i64
-        ensures { result ≡ rank (overlay_of self.now) }
+        ensures { result ≡ rank (bare_of self.now) }
     {
         match self.props.get(PRIORITY) {
             Some(PropVal::Int(i)) => *i,
@@ -119,23 +119,16 @@ impl Slot {
         }
     }
 
-    /// Its two places, or 0 where it has no buffer.
-    fn places(&self) -> (usize, usize)
-        ensures start { result.0 ≡ start_of (overlay_of self.now).span }
-        ensures end { result.1 ≡ end_of (overlay_of self.now).span }
+    /// Whether it wins in its stretch over another overlay of a smaller number in its own.
+    pub fn outranks(&self, stretch: Stretch, earlier: &Slot, other: Stretch) -> bool
+        ensures { result ≡ outranks (with_span (bare_of self.now) stretch)
+            (with_span (bare_of earlier.now) other) }
     {
-        self.span.map_or((0, 0), |(_, start, end)| (start, end))
-    }
-
-    /// Whether it wins over another overlay of a smaller number.
-    pub fn outranks(&self, earlier: &Slot) -> bool
-        ensures { result ≡ outranks (overlay_of self.now) (overlay_of earlier.now) }
-    {
-        let (rank, other) = (self.rank(), earlier.rank());
-        let (start, end) = self.places();
-        let (other_start, other_end) = earlier.places();
-        rank > other
-            || (rank == other
+        let (rank, other_rank) = (self.rank(), earlier.rank());
+        let (_, start, end) = stretch;
+        let (_, other_start, other_end) = other;
+        rank > other_rank
+            || (rank == other_rank
                 && (start > other_start || (start == other_start && end <= other_end)))
     }
 
@@ -151,7 +144,7 @@ impl Slot {
         requires start { n + stretch.1 ≤ usize.MAX }
         requires end { n + stretch.2 ≤ usize.MAX }
         ensures { Some (span_at result) ≡ (move_overlay stretch.0 all (insertion at n)
-            (with_span (overlay_of self.now) stretch)).span }
+            (with_span (bare_of self.now) stretch)).span }
     {
         let (buffer, start, end) = stretch;
         let start_advances = all || (self.front && (self.rear || start != end));
@@ -165,7 +158,7 @@ impl Slot {
         requires { from ≤ to }
         ensures { span_of result ≡ (evaporated stretch.0
             (move_overlay stretch.0 false (deletion from to)
-            (with_span (overlay_of self.now) stretch))).span }
+            (with_span (bare_of self.now) stretch))).span }
     {
         let (buffer, start, end) = stretch;
         let start = place_after_delete(from, to, start);
@@ -179,9 +172,9 @@ impl Slot {
 
     /// Where it goes from a stretch at a change of a buffer, if anywhere.
     pub fn moved(&self, stretch: Stretch, buffer: u32, change: Change) -> Option<Stretch>
-        requires { CanMoveIn buffer change (with_span (overlay_of self.now) stretch) }
-        ensures { record (overlay_of self.now) { span = span_of result } ≡
-            moved_by buffer change (with_span (overlay_of self.now) stretch) }
+        requires { CanMoveIn buffer change (with_span (bare_of self.now) stretch) }
+        ensures { record (bare_of self.now) { span = span_of result } ≡
+            moved_by buffer change (with_span (bare_of self.now) stretch) }
     {
         match change {
             _ if stretch.0 != buffer => Some(stretch),
@@ -204,10 +197,10 @@ impl Slot {
 
     /// An overlay of its own that is alike.
     pub fn copy(&self) -> Mem<Slot>
-        ensures { IfOk result (λ copy. overlay_of copy ≡ overlay_of self.now) }
+        ensures { IfOk result (λ copy. bare_of copy ≡ bare_of self.now) }
     {
         Ok(Slot {
-            span: self.span,
+            key: self.key,
             front: self.front,
             rear: self.rear,
             props: self.props.copy()?,

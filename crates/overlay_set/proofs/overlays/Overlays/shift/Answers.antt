@@ -3,7 +3,7 @@ use Rattle.std.proofs.lemmas.List.{set-set}
 use Rattle.text_model.specs.Marks.{Overlay}
 use Rattle.overlay_set.specs.Numbered.{overlay_at}
 use Rattle.overlay_set.specs.Slots.{with_span}
-use Rattle.overlay_set.proofs.ChangeLemmas.{overlay_at_set}
+use Rattle.overlay_set.proofs.Lists.{overlay_at_set}
 use Rattle.overlay_set.proofs.overlays.Overlays.shift.Goals as goal
 
 pub returns-clause-ok : goal.returns-clause-ok

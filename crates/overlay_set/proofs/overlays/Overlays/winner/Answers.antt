@@ -1,16 +1,14 @@
-use Rattle.std.proofs.Common.{All, map, subst, ◌∙◌}
-use Rattle.std.proofs.lemmas.List.{length-map}
-use Rattle.overlay_set.specs.Slots.{overlay_of}
+use Rattle.std.proofs.Common.{All, subst, ◌∙◌}
 use Rattle.overlay_set.specs.Entries.{IsMade}
-use Rattle.overlay_set.proofs.WholeLemmas.{whole_made, whole_winner}
+use Rattle.overlay_set.proofs.SeenLemmas.{bare-view, length-view, held-view}
+use Rattle.overlay_set.proofs.WholeLemmas.{whole_made, winner_alike}
 use Rattle.overlay_set.proofs.overlays.Overlays.winner.Goals as goal
 
-pub winner-requires-clause-made : goal.winner-requires-clause-made
-winner-requires-clause-made c =
-    let items = c.self.inside.slots.items in
-    let made = whole_made (map overlay_of items) c.self.inside.tree c.self.invariant.1 in
-    rw c.as_slice.ensures.value (subst (λ n. All (IsMade n) c.self.inside.tree) (length-map items overlay_of) made)
+pub winner-requires : goal.winner-requires
+winner-requires c =
+    let made = whole_made c.args.self.now c.self.inside.tree (held-view c.self.inside.tree c.self.inside.slots.items c.args.self.now c.self.view_is c.self.invariant.1) in
+    rw c.as_slice.ensures.value (subst (λ n. All (IsMade n) c.self.inside.tree) (length-view c.self.inside.tree c.self.inside.slots.items c.args.self.now c.self.view_is) made)
 
 pub returns : goal.returns
 returns c =
-    c.winner.ensures.exact ∙ rw (c.as_slice.ensures.value, ← c.self.view_is) (whole_winner c.args.buffer c.args.i c.args.name.0 (map overlay_of c.self.inside.slots.items) c.self.inside.tree c.self.invariant.1)
+    c.winner.ensures ∙ rw c.as_slice.ensures.value (winner_alike c.args.buffer c.args.i c.args.name.0 c.self.inside.slots.items c.args.self.now c.self.inside.tree (bare-view c.self.inside.tree c.self.inside.slots.items c.args.self.now c.self.view_is) (held-view c.self.inside.tree c.self.inside.slots.items c.args.self.now c.self.view_is c.self.invariant.1))
