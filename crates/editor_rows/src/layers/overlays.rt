@@ -1,8 +1,10 @@
 //! Worked cases of overlays. Emacs counts positions from 1, and places count from 0.
-ghost use Rattle.std.specs.Prelude.{◌≤◌};
+ghost use Rattle.std.specs.Prelude.{◌≤◌, ◌<◌, ◌+◌, ◌-◌, ◌^◌, All, IfOk};
+ghost use Rattle.editor_rows.specs.Upto.{EndsUpto};
 
 use ek_types::{Mem, PropVal, Sym};
 use overlay_set::{Numbers, Overlays};
+use std::alloc::Global;
 use std::process::Abort;
 use std::test::Fail;
 
@@ -213,5 +215,40 @@ fn winners_among_overlays_that_begin_together(rt: HostRuntime) -> Result<(), Fai
     }
     assert_eq!(rt; overlays.winner(0, 6, FACE), None);
     assert_eq!(rt; overlays.winner(0, 519, FACE), None);
+    Ok(())
+}
+
+/// Overlays from k to k + 1.
+fn apart(alloc: Global, count: usize) -> Mem<Overlays>
+    requires { count < 2 ^ 32 - 1 }
+    ensures { IfOk result (λ overlays. All (EndsUpto count) overlays) }
+{
+    let mut overlays = Overlays::new(alloc);
+    for k in 0..count {
+        overlays.make(0, k, k + 1, false, false)?;
+    }
+    Ok(overlays)
+}
+
+/// One character put in where no place is behind `most`.
+fn put_in(overlays: &mut Overlays, at: usize, most: usize)
+    requires upto { All (EndsUpto most) overlays.old }
+    requires room { most < 2 ^ 33 }
+    ensures { All (EndsUpto (most + 1)) overlays.new }
+{
+    overlays.note_insert(0, at, 1, false);
+}
+
+#[test]
+fn a_hundred_thousand_insertions_in_front_of_many_overlays(rt: HostRuntime) -> Result<(), Fail> {
+    let mut overlays = apart(rt.alloc(), 65_536)?;
+    for i in 0..100_000usize {
+        put_in(&mut overlays, 0, 65_536 + i);
+    }
+    assert_eq!(rt; span(&rt, &overlays, 0), Some((0, 0, 100_001)));
+    for k in 1..65_536u32 {
+        let from = 100_000 + k as usize;
+        assert_eq!(rt; span(&rt, &overlays, k), Some((0, from, from + 1)));
+    }
     Ok(())
 }
