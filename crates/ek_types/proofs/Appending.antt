@@ -6,7 +6,7 @@ use Rattle.std.proofs.lemmas.Bool.{leb-true, leb-false, ltb-false, le-leb, lt-le
 use Rattle.text_model.specs.Characters.{Ch}
 use Rattle.text_model.specs.Properties.{PropSet}
 use Rattle.ek_types.specs.Runs.{sets_from, AreRising, ends_by, set_at, rest_to, later_runs}
-use Rattle.ek_types.specs.declared.piece.Run.{Run}
+use Rattle.ek_types.specs.declared.content.Run.{Run}
 use Rattle.ek_types.proofs.Putting.{ends_in, ends_out, set_beside}
 
 -- ONE BEHIND THE OTHER

@@ -6,7 +6,7 @@ use Rattle.std.proofs.lemmas.List.{length-replicate}
 use Rattle.text_model.specs.Characters.{Ch}
 use Rattle.text_model.specs.Properties.{bare}
 use Rattle.ek_types.specs.Runs.{sets_from, AreRising}
-use Rattle.ek_types.specs.declared.piece.Run.{Run}
+use Rattle.ek_types.specs.declared.content.Run.{Run}
 
 -- LISTS SIDE BY SIDE
 pub firsts-zip : {A B : Type 0} (xs : List A) (ys : List B) → length xs ≤ length ys → map (λ c. c.0) (zip xs ys) ≡ xs

@@ -8,7 +8,7 @@ use Rattle.std.proofs.lemmas.Option.{slice_get-map}
 use Rattle.text_model.specs.Characters.{Ch}
 use Rattle.text_model.specs.Properties.{PropSet, with_sets}
 use Rattle.ek_types.specs.Runs.{sets_from, AreRising, start_of, ends_by, set_at, rest_to}
-use Rattle.ek_types.specs.declared.piece.Run.{Run}
+use Rattle.ek_types.specs.declared.content.Run.{Run}
 use Rattle.ek_types.proofs.Pieces.{length-sets_from}
 
 -- REPEATED VALUES

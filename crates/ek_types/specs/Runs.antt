@@ -1,7 +1,7 @@
 -- Runs of one property set, and the sets that they give the characters.
 use Rattle.std.specs.Prelude.{ℕ, zero, suc, ◌+◌, ◌-◌, ◌≤◌, nat_le, nat_lt, Bool, if◌then◌else◌, List, [], ◌∷◌, ◌++◌, map, replicate}
 use Rattle.text_model.specs.Properties.{PropSet}
-use Rattle.ek_types.specs.declared.piece.Run.{Run}
+use Rattle.ek_types.specs.declared.content.Run.{Run}
 
 -- the sets of the characters from a place on, one each; behind the last run there are none
 abbrev pub sets_from : (place : ℕ) → List Run → (size : ℕ) → List PropSet

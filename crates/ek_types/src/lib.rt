@@ -4,6 +4,7 @@
 
 mod character;
 mod chars;
+mod content;
 mod io;
 mod list;
 mod memory;

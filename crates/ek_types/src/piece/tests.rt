@@ -57,15 +57,6 @@ fn properties_of_the_parts_of_a_piece(rt: HostRuntime) -> Result<(), Fail> {
 }
 
 #[test]
-fn a_run_and_its_copy(rt: HostRuntime) -> Result<(), Fail> {
-    let set = PropSet::empty(rt.alloc()).with(FACE, &PropVal::Int(1))?;
-    let copy = Run { end: 3, set }.copy()?;
-    assert_eq!(rt; copy.end, 3);
-    assert_eq!(rt; copy.set.len(), 1);
-    Ok(())
-}
-
-#[test]
 fn a_piece_behind_another(rt: HostRuntime) -> Result<(), Fail> {
     let alloc = rt.alloc();
     let mut piece = bare_text(alloc, 3)?;
@@ -84,5 +75,21 @@ fn a_piece_behind_another(rt: HostRuntime) -> Result<(), Fail> {
     assert!(rt; piece.text().same(bare_text(alloc, 5)?.text()));
     assert!(rt; piece.props(0).same(piece.props(1)));
     assert!(rt; !piece.props(0).same(piece.props(2)));
+    Ok(())
+}
+
+#[test]
+fn a_shared_piece_and_its_copies(rt: HostRuntime) -> Result<(), Fail> {
+    let alloc = rt.alloc();
+    let mut piece = bare_text(alloc, 3)?;
+    paint(alloc, &mut piece, 0, 2, 1)?;
+    let shared = piece.shared(alloc)?;
+    let mut first = shared.copy()?;
+    let mut second = shared.copy()?.shared(alloc)?;
+    first.append(&shared)?;
+    paint(alloc, &mut second, 1, 3, 2)?;
+    assert_eq!(rt; faces(alloc, &shared)?.as_slice(), [1i64, 1, 0].as_slice());
+    assert_eq!(rt; faces(alloc, &first)?.as_slice(), [1i64, 1, 0, 1, 1, 0].as_slice());
+    assert_eq!(rt; faces(alloc, &second)?.as_slice(), [1i64, 2, 2].as_slice());
     Ok(())
 }

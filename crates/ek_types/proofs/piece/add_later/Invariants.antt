@@ -1,6 +1,0 @@
-use Rattle.std.proofs.Common.{◌≡◌, ◌++◌, take}
-use Rattle.ek_types.specs.Runs.{later_runs}
-use Rattle.ek_types.proofs.piece.add_later.Given as goal
-
-abbrev pub invariant-loop-run : goal.invariant-loop-run
-invariant-loop-run l = l.runs.items ≡ l.initial.runs.items ++ later_runs l.by (take l.run-index l.from)
