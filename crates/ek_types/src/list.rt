@@ -96,6 +96,14 @@ impl<T: Drop> ListOf<T> {
         Ok(())
     }
 
+    /// Drops all items. The room that they took stays as spare.
+    pub fn clear(&mut self)
+        ensures items { items_of self.new ≡ [] }
+        ensures spare { spare_of self.old ≤ spare_of self.new }
+    {
+        self.items.clear();
+    }
+
     /// Keeps the items that pass a test, in their order, and drops the others. It takes no memory.
     pub fn retain<F: FnMut(&T) -> bool>(&mut self, f: F)
         requires { F.IsAlwaysCallable f }

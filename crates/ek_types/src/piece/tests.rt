@@ -89,7 +89,10 @@ fn a_shared_piece_and_its_copies(rt: HostRuntime) -> Result<(), Fail> {
     first.append(&shared)?;
     paint(alloc, &mut second, 1, 3, 2)?;
     assert_eq!(rt; faces(alloc, &shared)?.as_slice(), [1i64, 1, 0].as_slice());
-    assert_eq!(rt; faces(alloc, &first)?.as_slice(), [1i64, 1, 0, 1, 1, 0].as_slice());
+    assert_eq!(rt;
+        faces(alloc, &first)?.as_slice(),
+        [1i64, 1, 0, 1, 1, 0].as_slice()
+    );
     assert_eq!(rt; faces(alloc, &second)?.as_slice(), [1i64, 2, 2].as_slice());
     Ok(())
 }
