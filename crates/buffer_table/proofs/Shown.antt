@@ -12,6 +12,7 @@ use Rattle.narrow_region.specs.Kept as kept
 use Rattle.editor_model.specs.Editor as shown
 use Rattle.editor_model.specs.Editor.{Editor, Live, live, buffer_at, empty_buffer, characters_in, change_buffer}
 use Rattle.editor_model.specs.TextCalls.{widened}
+use Rattle.editor_model.proofs.OneBuffer.{changed_alike}
 use Rattle.marker_set.specs.Numbered.{nowhere, marker_at}
 use Rattle.overlay_set.specs.Numbered.{no_overlay, overlay_at, span_at}
 use Rattle.text_pool.specs.Pool.{Pooled}
@@ -181,20 +182,6 @@ kept_in k s size id same exact sets within alive =
     omega (arith, sets here)
 
 -- WIDENING
-pub changed_alike : (e : Editor) (id : ℕ) (f g : Buffer → Buffer) → f (buffer_at e id) ≡ g (buffer_at e id) → change_buffer id f e ≡ change_buffer id g e
-changed_alike e id f g h = go (live e id) h
-  where
-    go : (o : Option Live) → f (let b : Buffer = elim o [ Some l ↦ l.buffer | None ↦ empty_buffer ] in b) ≡ g (let b : Buffer = elim o [ Some l ↦ l.buffer | None ↦ empty_buffer ] in b)
-        → (let x : Editor = elim o [
-          | None ↦ e
-          | Some l ↦ record e { buffers = slice_set e.buffers id (Some (record l { buffer = f l.buffer })); marks = e.marks }
-        ] in x) ≡ (let x : Editor = elim o [
-          | None ↦ e
-          | Some l ↦ record e { buffers = slice_set e.buffers id (Some (record l { buffer = g l.buffer })); marks = e.marks }
-        ] in x)
-    go None h = refl
-    go (Some l) h = ap (λ (b : Buffer). let x : Editor = record e { buffers = slice_set e.buffers id (Some (record l { buffer = b })); marks = e.marks } in x) h
-
 pub widened_to : (e : Editor) (id size : ℕ) → size ≡ length (buffer_at e id).text → (buffer_at e id).point ≤ size → change_buffer id (λ b. record b { begin = 0; end = size; point = clip 0 size b.point }) e ≡ change_buffer id widened e
 widened_to e id size h l =
     let b : Buffer = buffer_at e id in

@@ -1,1 +1,2 @@
 pub mod NumberedNames
+pub mod OneBuffer

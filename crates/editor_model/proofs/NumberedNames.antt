@@ -1,11 +1,11 @@
 -- Names that are the same, numbered names that differ, and how many of some numbers pass a test: what
 -- finding a free name for a buffer and for a process stands on.
-use Rattle.std.proofs.Common.{◌≡◌, ◌≢◌, ℕ, zero, suc, ◌+◌, ◌^◌, ◌<◌, ◌≤◌, Bool, true, false, List, [], ◌∷◌, ◌++◌, map, refl, ap, sym, arith}
+use Rattle.std.proofs.Common.{◌≡◌, ℕ, zero, suc, ◌+◌, ◌^◌, ◌<◌, ◌≤◌, Bool, true, false, List, [], ◌∷◌, ◌++◌, map, refl, ap, arith}
 use Rattle.std.specs.Prelude.{◌||◌, codes, decimal}
 use Rattle.std.proofs.lemmas.Bool.{and_parts}
 use Rattle.std.proofs.lemmas.Fmt.{decimal_injective}
 use Rattle.std.proofs.lemmas.List.{append_cancel_left, append_cancel_right}
-use Rattle.text_model.specs.Characters.{Ch, Scalar}
+use Rattle.text_model.specs.Characters.{Scalar}
 use Rattle.text_model.specs.Properties.{same_ch}
 use Rattle.text_model.proofs.Sameness.{same_ch-same, same_ch-sound}
 use Rattle.editor_model.specs.Editor.{Name, same_name, numbered_name}

@@ -19,13 +19,13 @@ use buffer_table::Editor;
 use ek_call::{Fault, Value, Values};
 use ek_types::Mem;
 
-pub fn current_buffer(editor: &Editor) -> Result<Value, Failure>
+pub(crate) fn current_buffer(editor: &Editor) -> Result<Value, Failure>
     ensures { Answers result (Answered (TheBuffer (editor_of editor.now).current)) }
 {
     Ok(buffer(editor.current()))
 }
 
-pub fn get_buffer(editor: &Editor, b: &Value) -> Result<Value, Failure>
+pub(crate) fn get_buffer(editor: &Editor, b: &Value) -> Result<Value, Failure>
     ensures { Answers result (calls.get_buffer (editor_of editor.now) (view b.now)) }
 {
     match b {
@@ -38,7 +38,7 @@ pub fn get_buffer(editor: &Editor, b: &Value) -> Result<Value, Failure>
     }
 }
 
-pub fn buffer_live_p(editor: &Editor, b: &Value) -> Result<Value, Failure>
+pub(crate) fn buffer_live_p(editor: &Editor, b: &Value) -> Result<Value, Failure>
     ensures { Answers result (calls.buffer_live_p (editor_of editor.now) (view b.now)) }
 {
     match b {
@@ -57,7 +57,7 @@ fn name(editor: &Editor, id: u32) -> Mem<Value>
     }
 }
 
-pub fn buffer_name(editor: &Editor, b: &Value) -> Result<Value, Failure>
+pub(crate) fn buffer_name(editor: &Editor, b: &Value) -> Result<Value, Failure>
     ensures { Answers result (calls.buffer_name (editor_of editor.now) (view b.now)) }
 {
     match b {
@@ -81,13 +81,13 @@ fn all_live(editor: &Editor) -> Mem<Values>
     Ok(values)
 }
 
-pub fn buffer_list(editor: &Editor) -> Result<Value, Failure>
+pub(crate) fn buffer_list(editor: &Editor) -> Result<Value, Failure>
     ensures { Answers result (calls.buffer_list (editor_of editor.now)) }
 {
     Ok(list(all_live(editor)?))
 }
 
-pub fn buffer_modified_p(editor: &Editor, b: &Value) -> Result<Value, Failure>
+pub(crate) fn buffer_modified_p(editor: &Editor, b: &Value) -> Result<Value, Failure>
     ensures { Answers result (calls.buffer_modified_p (editor_of editor.now) (view b.now)) }
 {
     must_be_buffer_or_nil(b)?;
@@ -95,7 +95,7 @@ pub fn buffer_modified_p(editor: &Editor, b: &Value) -> Result<Value, Failure>
     Ok(truth(editor.is_modified(id)))
 }
 
-pub fn set_buffer(editor: &mut Editor, b: &Value) -> Result<Value, Failure>
+pub(crate) fn set_buffer(editor: &mut Editor, b: &Value) -> Result<Value, Failure>
     ensures { Applies result (editor_of editor.old) (editor_of editor.new)
         (calls.set_buffer (editor_of editor.old) (view b.now)) }
 {
@@ -114,7 +114,7 @@ fn set_modified(editor: &mut Editor, on: bool)
     editor.set_modified(id, on);
 }
 
-pub fn set_buffer_modified_p(editor: &mut Editor, v: &Value) -> Result<Value, Failure>
+pub(crate) fn set_buffer_modified_p(editor: &mut Editor, v: &Value) -> Result<Value, Failure>
     ensures { Applies result (editor_of editor.old) (editor_of editor.new)
         (calls.set_buffer_modified_p (editor_of editor.old) (view v.now)) }
 {
@@ -135,7 +135,7 @@ fn make_named(editor: &mut Editor, v: &Value) -> Result<Value, Failure>
     Ok(Value::Buffer(id))
 }
 
-pub fn get_buffer_create(editor: &mut Editor, b: &Value) -> Result<Value, Failure>
+pub(crate) fn get_buffer_create(editor: &mut Editor, b: &Value) -> Result<Value, Failure>
     ensures { Applies result (editor_of editor.old) (editor_of editor.new)
         (calls.get_buffer_create (editor_of editor.old) (view b.now)) }
 {
@@ -149,7 +149,7 @@ pub fn get_buffer_create(editor: &mut Editor, b: &Value) -> Result<Value, Failur
     }
 }
 
-pub fn generate_new_buffer(editor: &mut Editor, v: &Value) -> Result<Value, Failure>
+pub(crate) fn generate_new_buffer(editor: &mut Editor, v: &Value) -> Result<Value, Failure>
     ensures { Applies result (editor_of editor.old) (editor_of editor.new)
         (calls.generate_new_buffer (editor_of editor.old) (view v.now)) }
 {
@@ -161,7 +161,7 @@ pub fn generate_new_buffer(editor: &mut Editor, v: &Value) -> Result<Value, Fail
     Ok(Value::Buffer(id))
 }
 
-pub fn rename_buffer(editor: &mut Editor, v: &Value) -> Result<Value, Failure>
+pub(crate) fn rename_buffer(editor: &mut Editor, v: &Value) -> Result<Value, Failure>
     ensures { Applies result (editor_of editor.old) (editor_of editor.new)
         (calls.rename_buffer (editor_of editor.old) (view v.now)) }
 {

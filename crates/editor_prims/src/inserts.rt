@@ -151,7 +151,12 @@ fn must_fit(editor: &Editor, args: &Values) -> Result<(), Fault>
 
 /// Inserts strings at point of the current buffer. All markers and overlays there may advance, and the text may inherit
 /// properties of its neighbours.
-pub fn insert(editor: &Editor, all: bool, inherit: bool, args: &Values) -> Result<Prepared, Failure>
+pub(crate) fn insert(
+    editor: &Editor,
+    all: bool,
+    inherit: bool,
+    args: &Values,
+) -> Result<Prepared, Failure>
     ensures { Prepares result (calls.insert (editor_of editor.now) all inherit
         (map view (items_of args.now))) }
 {

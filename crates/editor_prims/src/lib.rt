@@ -1,29 +1,29 @@
 //! The calls on buffers, texts, markers, properties, overlays and undo, on the whole editor.
 #![tactic(auto)]
 
-pub mod buffers;
+mod buffers;
 mod change;
 mod commits;
 mod failure;
-pub mod inserts;
+mod inserts;
 pub mod kinds;
 pub mod limits;
-pub mod markers;
+mod markers;
 mod names;
 pub mod objects;
-pub mod overlay_questions;
-pub mod overlays;
+mod overlay_questions;
+mod overlays;
 mod places;
-pub mod properties;
-pub mod property_changes;
+mod properties;
+mod property_changes;
 mod property_lists;
 mod property_values;
 mod replies;
 mod table;
-pub mod texts;
-pub mod undo;
-pub mod undo_more;
-pub mod undo_records;
+mod texts;
+mod undo;
+mod undo_more;
+mod undo_records;
 pub mod values;
 
 pub use change::{Change, Committed, Prepared, What};

@@ -20,7 +20,7 @@ use buffer_table::Editor;
 use ek_call::{Fault, Value};
 use ek_types::Mem;
 
-pub fn marker_position(editor: &Editor, m: &Value) -> Result<Value, Failure>
+pub(crate) fn marker_position(editor: &Editor, m: &Value) -> Result<Value, Failure>
     ensures { Answers result (calls.marker_position (editor_of editor.now) (view m.now)) }
 {
     let k = marker(m)?;
@@ -30,7 +30,7 @@ pub fn marker_position(editor: &Editor, m: &Value) -> Result<Value, Failure>
     }
 }
 
-pub fn marker_buffer(editor: &Editor, m: &Value) -> Result<Value, Failure>
+pub(crate) fn marker_buffer(editor: &Editor, m: &Value) -> Result<Value, Failure>
     ensures { Answers result (calls.marker_buffer (editor_of editor.now) (view m.now)) }
 {
     let k = marker(m)?;
@@ -40,7 +40,7 @@ pub fn marker_buffer(editor: &Editor, m: &Value) -> Result<Value, Failure>
     }
 }
 
-pub fn marker_insertion_type(editor: &Editor, m: &Value) -> Result<Value, Failure>
+pub(crate) fn marker_insertion_type(editor: &Editor, m: &Value) -> Result<Value, Failure>
     ensures { Answers result (calls.marker_insertion_type (editor_of editor.now) (view m.now)) }
 {
     let k = marker(m)?;
@@ -57,7 +57,7 @@ fn set_kind(editor: &mut Editor, k: u32, on: bool)
     }
 }
 
-pub fn set_marker_insertion_type(
+pub(crate) fn set_marker_insertion_type(
     editor: &mut Editor,
     m: &Value,
     kind: &Value,
@@ -99,7 +99,7 @@ fn new_marker(editor: &mut Editor, to: Option<(u32, usize)>, on: bool) -> Result
     Ok(Value::Marker(k))
 }
 
-pub fn make_marker(editor: &mut Editor) -> Result<Value, Failure>
+pub(crate) fn make_marker(editor: &mut Editor) -> Result<Value, Failure>
     ensures { Applies result (editor_of editor.old) (editor_of editor.new)
         (calls.make_marker (editor_of editor.old)) }
 {
@@ -116,7 +116,7 @@ fn point(editor: &Editor) -> (u32, usize)
     (id, editor.bounds(id).point)
 }
 
-pub fn point_marker(editor: &mut Editor) -> Result<Value, Failure>
+pub(crate) fn point_marker(editor: &mut Editor) -> Result<Value, Failure>
     ensures { Applies result (editor_of editor.old) (editor_of editor.new)
         (calls.point_marker (editor_of editor.old)) }
 {
@@ -124,7 +124,7 @@ pub fn point_marker(editor: &mut Editor) -> Result<Value, Failure>
     new_marker(editor, Some(to), false)
 }
 
-pub fn copy_marker(editor: &mut Editor, x: &Value, kind: &Value) -> Result<Value, Failure>
+pub(crate) fn copy_marker(editor: &mut Editor, x: &Value, kind: &Value) -> Result<Value, Failure>
     ensures { Applies result (editor_of editor.old) (editor_of editor.new)
         (calls.copy_marker (editor_of editor.old) (view x.now) (view kind.now)) }
 {
@@ -157,7 +157,7 @@ fn target(editor: &Editor, id: u32, x: &Value) -> Option<(u32, usize)>
 }
 
 /// Points a marker to a place of a live buffer, or nowhere. One that was never made stays as it is.
-pub fn put(editor: &mut Editor, k: u32, to: Option<(u32, usize)>)
+pub(crate) fn put(editor: &mut Editor, k: u32, to: Option<(u32, usize)>)
     requires { IfSome to (λ p. IsPlace (editor_of editor.old) p.0 p.1) }
     ensures { editor_of editor.new ≡ set_marker_spot k (spot_of to) (editor_of editor.old) }
 {
@@ -166,7 +166,12 @@ pub fn put(editor: &mut Editor, k: u32, to: Option<(u32, usize)>)
     }
 }
 
-pub fn set_marker(editor: &mut Editor, m: &Value, x: &Value, b: &Value) -> Result<Value, Failure>
+pub(crate) fn set_marker(
+    editor: &mut Editor,
+    m: &Value,
+    x: &Value,
+    b: &Value,
+) -> Result<Value, Failure>
     ensures { Applies result (editor_of editor.old) (editor_of editor.new)
         (calls.set_marker (editor_of editor.old) (view m.now) (view x.now) (view b.now)) }
 {

@@ -82,7 +82,7 @@ fn first_numbered(editor: &Editor, but_current: bool, name: &Chars) -> Mem<Chars
 /// The name itself, or the first with `<2>`, `<3>` and so on behind it that no live buffer has ("Buffer Names" in the
 /// GNU Emacs Lisp Reference Manual); the current buffer may be left out.
 #[tactic(auto, using(crate::proofs::NameLemmas::taken, crate::proofs::NameLemmas::not_taken, crate::proofs::NameLemmas::is_free, crate::proofs::NameLemmas::length_rivals))]
-pub fn free_name(editor: &Editor, but_current: bool, name: &Chars) -> Mem<Chars>
+pub(crate) fn free_name(editor: &Editor, but_current: bool, name: &Chars) -> Mem<Chars>
     ensures name { IfOk result (λ n. n.items ≡ free_name (rivals but_current (editor_of editor.now))
         name.now.items) }
     ensures free { IfOk result (λ n. find_from 0 (rivals but_current (editor_of editor.now))

@@ -73,7 +73,7 @@ fn covering_list(editor: &Editor, p: &Value) -> Mem<Value>
     overlay_list(&covering(editor, p)?)
 }
 
-pub fn overlays_at(editor: &Editor, p: &Value) -> Result<Value, Failure>
+pub(crate) fn overlays_at(editor: &Editor, p: &Value) -> Result<Value, Failure>
     ensures { Answers result (calls.overlays_at (editor_of editor.now) (view p.now)) }
 {
     must_be_position(p)?;
@@ -103,7 +103,7 @@ fn char_property(editor: &Editor, place: usize, name: Sym) -> Mem<Value>
     }
 }
 
-pub fn get_char_property(editor: &Editor, p: &Value, name: &Value) -> Result<Value, Failure>
+pub(crate) fn get_char_property(editor: &Editor, p: &Value, name: &Value) -> Result<Value, Failure>
     ensures { Answers result (calls.get_char_property (editor_of editor.now) (view p.now)
         (view name.now)) }
 {
@@ -206,7 +206,7 @@ fn standing_list(editor: &Editor, a: &Value, b: &Value) -> Mem<Value>
     overlay_list(&standing(editor, a, b)?)
 }
 
-pub fn overlays_in(editor: &Editor, a: &Value, b: &Value) -> Result<Value, Failure>
+pub(crate) fn overlays_in(editor: &Editor, a: &Value, b: &Value) -> Result<Value, Failure>
     ensures { Answers result (calls.overlays_in (editor_of editor.now) (view a.now) (view b.now)) }
 {
     must_be_position(a)?;
@@ -256,7 +256,7 @@ fn next_place(editor: &Editor, p: &Value) -> usize
     }
 }
 
-pub fn next_overlay_change(editor: &Editor, p: &Value) -> Result<Value, Failure>
+pub(crate) fn next_overlay_change(editor: &Editor, p: &Value) -> Result<Value, Failure>
     ensures { Answers result (calls.next_overlay_change (editor_of editor.now) (view p.now)) }
 {
     must_be_position(p)?;
@@ -282,7 +282,7 @@ fn previous_place(editor: &Editor, p: &Value) -> usize
     }
 }
 
-pub fn previous_overlay_change(editor: &Editor, p: &Value) -> Result<Value, Failure>
+pub(crate) fn previous_overlay_change(editor: &Editor, p: &Value) -> Result<Value, Failure>
     ensures { Answers result (calls.previous_overlay_change (editor_of editor.now) (view p.now)) }
 {
     must_be_position(p)?;

@@ -29,14 +29,14 @@ use ek_types::{Copied, Mem, PropSet, PropVal, Sym};
 const EVAPORATE: Sym = Sym(2);
 
 /// How many overlays were made.
-pub fn overlay_count(editor: &Editor) -> u32
+pub(crate) fn overlay_count(editor: &Editor) -> u32
     ensures { result ≡ length (editor_of editor.now).marks.overlays }
 {
     editor.marks().overlays.count()
 }
 
 /// Where an overlay stands.
-pub fn span(editor: &Editor, k: u32) -> Option<(u32, usize, usize)>
+pub(crate) fn span(editor: &Editor, k: u32) -> Option<(u32, usize, usize)>
     ensures span { span_of result ≡ (overlay_of (editor_of editor.now) k).span }
     ensures live { IfSome result (λ s. is_live (editor_of editor.now) s.0 ≡ true) }
 {
@@ -47,7 +47,7 @@ pub fn span(editor: &Editor, k: u32) -> Option<(u32, usize, usize)>
     }
 }
 
-pub fn overlay_start(editor: &Editor, o: &Value) -> Result<Value, Failure>
+pub(crate) fn overlay_start(editor: &Editor, o: &Value) -> Result<Value, Failure>
     ensures { Answers result (calls.overlay_start (editor_of editor.now) (view o.now)) }
 {
     let k = overlay(o)?;
@@ -57,7 +57,7 @@ pub fn overlay_start(editor: &Editor, o: &Value) -> Result<Value, Failure>
     }
 }
 
-pub fn overlay_end(editor: &Editor, o: &Value) -> Result<Value, Failure>
+pub(crate) fn overlay_end(editor: &Editor, o: &Value) -> Result<Value, Failure>
     ensures { Answers result (calls.overlay_end (editor_of editor.now) (view o.now)) }
 {
     let k = overlay(o)?;
@@ -67,7 +67,7 @@ pub fn overlay_end(editor: &Editor, o: &Value) -> Result<Value, Failure>
     }
 }
 
-pub fn overlay_buffer(editor: &Editor, o: &Value) -> Result<Value, Failure>
+pub(crate) fn overlay_buffer(editor: &Editor, o: &Value) -> Result<Value, Failure>
     ensures { Answers result (calls.overlay_buffer (editor_of editor.now) (view o.now)) }
 {
     let k = overlay(o)?;
@@ -87,7 +87,7 @@ fn remove(editor: &mut Editor, k: u32)
     }
 }
 
-pub fn delete_overlay(editor: &mut Editor, o: &Value) -> Result<Value, Failure>
+pub(crate) fn delete_overlay(editor: &mut Editor, o: &Value) -> Result<Value, Failure>
     ensures { Applies result (editor_of editor.old) (editor_of editor.new)
         (calls.delete_overlay (editor_of editor.old) (view o.now)) }
 {
@@ -97,7 +97,7 @@ pub fn delete_overlay(editor: &mut Editor, o: &Value) -> Result<Value, Failure>
 }
 
 /// The value of a property of an overlay, where it has one.
-pub fn overlay_value(editor: &Editor, k: u32, name: Sym) -> Option<&PropVal>
+pub(crate) fn overlay_value(editor: &Editor, k: u32, name: Sym) -> Option<&PropVal>
     ensures { option_map (λ v. prop_of v.now) result ≡
         get (overlay_of (editor_of editor.now) k).props (number_of name) }
 {
@@ -122,7 +122,7 @@ fn overlay_props(editor: &Editor, k: u32) -> Option<&PropSet>
     }
 }
 
-pub fn overlay_get(editor: &Editor, o: &Value, name: &Value) -> Result<Value, Failure>
+pub(crate) fn overlay_get(editor: &Editor, o: &Value, name: &Value) -> Result<Value, Failure>
     ensures { Answers result (calls.overlay_get (editor_of editor.now) (view o.now) (view name.now)) }
 {
     let k = overlay(o)?;
@@ -140,14 +140,14 @@ fn properties(editor: &Editor, k: u32) -> Mem<Value>
     }
 }
 
-pub fn overlay_properties(editor: &Editor, o: &Value) -> Result<Value, Failure>
+pub(crate) fn overlay_properties(editor: &Editor, o: &Value) -> Result<Value, Failure>
     ensures { Answers result (calls.overlay_properties (editor_of editor.now) (view o.now)) }
 {
     let k = overlay(o)?;
     Ok(properties(editor, k)?)
 }
 
-pub fn make_overlay(
+pub(crate) fn make_overlay(
     editor: &mut Editor,
     a: &Value,
     b: &Value,
@@ -212,7 +212,7 @@ fn put(editor: &mut Editor, k: u32, name: Sym, v: Option<&PropVal>) -> Mem<()>
     Ok(())
 }
 
-pub fn overlay_put(
+pub(crate) fn overlay_put(
     editor: &mut Editor,
     o: &Value,
     name: &Value,
@@ -268,7 +268,7 @@ fn home(editor: &Editor, k: u32, buffer: &Value, given: u32) -> u32
     }
 }
 
-pub fn move_overlay(
+pub(crate) fn move_overlay(
     editor: &mut Editor,
     o: &Value,
     a: &Value,

@@ -19,7 +19,7 @@ use ek_call::{Fault, Value};
 use ek_types::{Mem, NoMemory};
 
 /// Where a marker stands.
-pub fn spot(editor: &Editor, k: u32) -> Option<(u32, usize)>
+pub(crate) fn spot(editor: &Editor, k: u32) -> Option<(u32, usize)>
     ensures spot { spot_of result ≡ (marker_of (editor_of editor.now) k).spot }
     ensures place { IfSome result (λ p. IsPlace (editor_of editor.now) p.0 p.1) }
 {
@@ -31,7 +31,7 @@ pub fn spot(editor: &Editor, k: u32) -> Option<(u32, usize)>
 }
 
 /// The nearest place of a text.
-pub fn clipped(editor: &Editor, id: u32, place: usize) -> usize
+pub(crate) fn clipped(editor: &Editor, id: u32, place: usize) -> usize
     ensures exact { result ≡ clip 0 (length (buffer_at (editor_of editor.now) id).text) place }
     ensures within { result ≤ length (buffer_at (editor_of editor.now) id).text }
 {
@@ -39,7 +39,7 @@ pub fn clipped(editor: &Editor, id: u32, place: usize) -> usize
 }
 
 /// Whether a marker advances at an insertion.
-pub fn advances(editor: &Editor, k: u32) -> bool
+pub(crate) fn advances(editor: &Editor, k: u32) -> bool
     ensures { result ≡ (marker_of (editor_of editor.now) k).advances }
 {
     let markers = &editor.marks().markers;
@@ -51,7 +51,7 @@ pub fn advances(editor: &Editor, k: u32) -> bool
 }
 
 /// The number of a position: a marker counts as its own, whatever its buffer.
-pub fn number(editor: &Editor, v: &Value) -> Option<i128>
+pub(crate) fn number(editor: &Editor, v: &Value) -> Option<i128>
     ensures { result ≡ number (editor_of editor.now) (view v.now) }
 {
     match v {
@@ -65,7 +65,7 @@ pub fn number(editor: &Editor, v: &Value) -> Option<i128>
 }
 
 /// The place of a position; whatever lies before the text counts as its beginning.
-pub fn place(editor: &Editor, v: &Value) -> usize
+pub(crate) fn place(editor: &Editor, v: &Value) -> usize
     ensures { result ≡ place (editor_of editor.now) (view v.now) }
 {
     match v {
@@ -82,7 +82,7 @@ pub fn place(editor: &Editor, v: &Value) -> usize
 }
 
 /// Whether a position lies before the text, as 0 does.
-pub fn is_before_text(editor: &Editor, v: &Value) -> bool
+pub(crate) fn is_before_text(editor: &Editor, v: &Value) -> bool
     ensures { result ≡ (position (editor_of editor.now) (view v.now) == 0) }
 {
     match number(editor, v) {
@@ -92,7 +92,7 @@ pub fn is_before_text(editor: &Editor, v: &Value) -> bool
 }
 
 /// A position as a number that stands for its place. One that is too large counts as want of memory.
-pub fn position(editor: &Editor, v: &Value) -> Mem<i64>
+pub(crate) fn position(editor: &Editor, v: &Value) -> Mem<i64>
     ensures { IfOk result (λ i. place_of i ≡ place (editor_of editor.now) (view v.now)) }
 {
     match v {
@@ -105,14 +105,14 @@ pub fn position(editor: &Editor, v: &Value) -> Mem<i64>
 }
 
 /// The smaller of two places.
-pub fn from_of(editor: &Editor, a: &Value, b: &Value) -> usize
+pub(crate) fn from_of(editor: &Editor, a: &Value, b: &Value) -> usize
     ensures { result ≡ from_of (editor_of editor.now) (view a.now) (view b.now) }
 {
     place(editor, a).min(place(editor, b))
 }
 
 /// The larger of two places.
-pub fn to_of(editor: &Editor, a: &Value, b: &Value) -> usize
+pub(crate) fn to_of(editor: &Editor, a: &Value, b: &Value) -> usize
     ensures { result ≡ to_of (editor_of editor.now) (view a.now) (view b.now) }
 {
     place(editor, a).max(place(editor, b))
@@ -134,13 +134,13 @@ fn lies_in(low: usize, high: usize, editor: &Editor, v: &Value) -> bool
 }
 
 /// A marker that points nowhere is no position.
-pub fn must_point_somewhere(editor: &Editor, v: &Value) -> Result<(), Fault>
+pub(crate) fn must_point_somewhere(editor: &Editor, v: &Value) -> Result<(), Fault>
     ensures { fault_in result ≡ must_point_somewhere (editor_of editor.now) (view v.now) }
 {
     must(points_somewhere(editor, v), Fault::ArgsOutOfRange)
 }
 
-pub fn must_be_nil_or_somewhere(editor: &Editor, v: &Value) -> Result<(), Fault>
+pub(crate) fn must_be_nil_or_somewhere(editor: &Editor, v: &Value) -> Result<(), Fault>
     ensures { fault_in result ≡ must_be_nil_or_somewhere (editor_of editor.now) (view v.now) }
 {
     must(
@@ -150,14 +150,14 @@ pub fn must_be_nil_or_somewhere(editor: &Editor, v: &Value) -> Result<(), Fault>
 }
 
 /// A position from one place to another, both included.
-pub fn must_lie_in(low: usize, high: usize, editor: &Editor, v: &Value) -> Result<(), Fault>
+pub(crate) fn must_lie_in(low: usize, high: usize, editor: &Editor, v: &Value) -> Result<(), Fault>
     ensures { fault_in result ≡ must_lie_in low high (editor_of editor.now) (view v.now) }
 {
     must(lies_in(low, high, editor, v), Fault::ArgsOutOfRange)
 }
 
 /// A position in the accessible portion of a buffer.
-pub fn must_be_accessible(id: u32, editor: &Editor, v: &Value) -> Result<(), Fault>
+pub(crate) fn must_be_accessible(id: u32, editor: &Editor, v: &Value) -> Result<(), Fault>
     ensures { fault_in result ≡ must_be_accessible (buffer_at (editor_of editor.now) id)
         (editor_of editor.now) (view v.now) }
 {
@@ -165,7 +165,7 @@ pub fn must_be_accessible(id: u32, editor: &Editor, v: &Value) -> Result<(), Fau
     must_lie_in(portion.start, portion.end, editor, v)
 }
 
-pub fn must_be_nil_or_accessible(id: u32, editor: &Editor, v: &Value) -> Result<(), Fault>
+pub(crate) fn must_be_nil_or_accessible(id: u32, editor: &Editor, v: &Value) -> Result<(), Fault>
     ensures { fault_in result ≡ must_be_nil_or_accessible (buffer_at (editor_of editor.now) id)
         (editor_of editor.now) (view v.now) }
 {

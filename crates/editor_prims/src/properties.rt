@@ -26,7 +26,7 @@ use ek_call::{Fault, Value};
 use ek_types::{Mem, NoMemory, PropSet, PropVal, Sym, same_option};
 
 /// The property set of the character of the accessible portion at a place, where there is one.
-pub fn set_at(editor: &Editor, id: u32, place: usize) -> Option<&PropSet>
+pub(crate) fn set_at(editor: &Editor, id: u32, place: usize) -> Option<&PropSet>
     ensures { unwrap_or (option_map (λ s. s.now) result) [] ≡
         calls.set_at (buffer_at (editor_of editor.now) id) place }
 {
@@ -38,7 +38,7 @@ pub fn set_at(editor: &Editor, id: u32, place: usize) -> Option<&PropSet>
 }
 
 /// The value of a property of the character of the accessible portion at a place; nil where there is none.
-pub fn text_property(editor: &Editor, place: usize, name: Sym) -> Mem<Value>
+pub(crate) fn text_property(editor: &Editor, place: usize, name: Sym) -> Mem<Value>
     ensures { IfOk result (λ v. view v ≡ of_prop
         (get (calls.set_at (here (editor_of editor.now)) place) (number_of name))) }
 {
@@ -58,7 +58,7 @@ fn text_properties(editor: &Editor, place: usize) -> Mem<Value>
     }
 }
 
-pub fn get_text_property(editor: &Editor, p: &Value, name: &Value) -> Result<Value, Failure>
+pub(crate) fn get_text_property(editor: &Editor, p: &Value, name: &Value) -> Result<Value, Failure>
     ensures { Answers result (calls.get_text_property (editor_of editor.now) (view p.now)
         (view name.now)) }
 {
@@ -68,7 +68,7 @@ pub fn get_text_property(editor: &Editor, p: &Value, name: &Value) -> Result<Val
     Ok(text_property(editor, place(editor, p), name)?)
 }
 
-pub fn text_properties_at(editor: &Editor, p: &Value) -> Result<Value, Failure>
+pub(crate) fn text_properties_at(editor: &Editor, p: &Value) -> Result<Value, Failure>
     ensures { Answers result (calls.text_properties_at (editor_of editor.now) (view p.now)) }
 {
     must_be_position(p)?;
@@ -196,7 +196,11 @@ fn previous_before(editor: &Editor, p: &Value, name: Option<Sym>, limit: &Value)
     )
 }
 
-pub fn next_property_change(editor: &Editor, p: &Value, limit: &Value) -> Result<Value, Failure>
+pub(crate) fn next_property_change(
+    editor: &Editor,
+    p: &Value,
+    limit: &Value,
+) -> Result<Value, Failure>
     ensures { Answers result (calls.next_property_change (editor_of editor.now) (view p.now)
         (view limit.now)) }
 {
@@ -207,7 +211,7 @@ pub fn next_property_change(editor: &Editor, p: &Value, limit: &Value) -> Result
     Ok(next_after(editor, p, None, limit)?)
 }
 
-pub fn next_single_property_change(
+pub(crate) fn next_single_property_change(
     editor: &Editor,
     p: &Value,
     name: &Value,
@@ -224,7 +228,11 @@ pub fn next_single_property_change(
     Ok(next_after(editor, p, Some(name), limit)?)
 }
 
-pub fn previous_property_change(editor: &Editor, p: &Value, limit: &Value) -> Result<Value, Failure>
+pub(crate) fn previous_property_change(
+    editor: &Editor,
+    p: &Value,
+    limit: &Value,
+) -> Result<Value, Failure>
     ensures { Answers result (calls.previous_property_change (editor_of editor.now) (view p.now)
         (view limit.now)) }
 {
@@ -235,7 +243,7 @@ pub fn previous_property_change(editor: &Editor, p: &Value, limit: &Value) -> Re
     Ok(previous_before(editor, p, None, limit)?)
 }
 
-pub fn previous_single_property_change(
+pub(crate) fn previous_single_property_change(
     editor: &Editor,
     p: &Value,
     name: &Value,
@@ -296,7 +304,7 @@ fn found_place(found: Option<usize>) -> Mem<Value>
 }
 
 /// The tests of a question on the property's value in a region.
-pub fn must_be_value_in_region(
+pub(crate) fn must_be_value_in_region(
     editor: &Editor,
     a: &Value,
     b: &Value,
@@ -347,7 +355,7 @@ fn first_in_region(
     found_place(first_place(editor, from, to, name, value.as_ref(), has))
 }
 
-pub fn text_property_any(
+pub(crate) fn text_property_any(
     editor: &Editor,
     a: &Value,
     b: &Value,
@@ -361,7 +369,7 @@ pub fn text_property_any(
     Ok(first_in_region(editor, a, b, name, v, true)?)
 }
 
-pub fn text_property_not_all(
+pub(crate) fn text_property_not_all(
     editor: &Editor,
     a: &Value,
     b: &Value,

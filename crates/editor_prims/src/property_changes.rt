@@ -72,7 +72,7 @@ fn put_edit(alloc: Global, name: Sym, value: Option<PropVal>) -> Mem<PropEdit>
     }
 }
 
-pub fn put_text_property(
+pub(crate) fn put_text_property(
     editor: &Editor,
     a: &Value,
     b: &Value,
@@ -114,7 +114,7 @@ fn replacing(alloc: Global, list: &Pairs) -> Mem<PropEdit>
     Ok(PropEdit::Replace(set_of_pairs(alloc, list)?))
 }
 
-pub fn add_text_properties(
+pub(crate) fn add_text_properties(
     editor: &Editor,
     a: &Value,
     b: &Value,
@@ -132,7 +132,7 @@ pub fn add_text_properties(
     Ok(change(editor, a, b, edit, Value::T)?)
 }
 
-pub fn remove_text_properties(
+pub(crate) fn remove_text_properties(
     editor: &Editor,
     a: &Value,
     b: &Value,
@@ -150,7 +150,7 @@ pub fn remove_text_properties(
     Ok(change(editor, a, b, edit, Value::T)?)
 }
 
-pub fn set_text_properties(
+pub(crate) fn set_text_properties(
     editor: &Editor,
     a: &Value,
     b: &Value,

@@ -109,7 +109,7 @@ fn pairs_in(words: &Values) -> Mem<Option<Pairs>>
 }
 
 /// The pairs that a value gives, where it is a property list.
-pub fn pairs(alloc: Global, v: &Value) -> Mem<Option<Pairs>>
+pub(crate) fn pairs(alloc: Global, v: &Value) -> Mem<Option<Pairs>>
     ensures { IfOk result (λ l. option_map (λ ps. backwards (items_of ps)) l ≡ as_pairs (view v.now)) }
 {
     match v {
@@ -120,7 +120,7 @@ pub fn pairs(alloc: Global, v: &Value) -> Mem<Option<Pairs>>
 }
 
 /// Refuses what is no property list.
-pub fn must_be_pairs(list: Option<Pairs>) -> Result<Pairs, Fault>
+pub(crate) fn must_be_pairs(list: Option<Pairs>) -> Result<Pairs, Fault>
     ensures test { fault_in result ≡ refuse model.WrongType (is_some list) }
     ensures content { IfOk result (λ l. list ≡ Some l) }
 {
@@ -141,7 +141,7 @@ fn with_value(set: PropSet, pair: &Pair) -> Mem<PropSet>
 }
 
 /// The pairs with a value as a set.
-pub fn set_of_pairs(alloc: Global, list: &Pairs) -> Mem<PropSet>
+pub(crate) fn set_of_pairs(alloc: Global, list: &Pairs) -> Mem<PropSet>
     ensures { IfOk result (λ s. s ≡ set_of_pairs (backwards (items_of list.now))) }
 {
     let mut set = PropSet::empty(alloc);
@@ -152,7 +152,7 @@ pub fn set_of_pairs(alloc: Global, list: &Pairs) -> Mem<PropSet>
 }
 
 /// The names of all pairs.
-pub fn names_of_pairs(alloc: Global, list: &Pairs) -> Mem<SymList>
+pub(crate) fn names_of_pairs(alloc: Global, list: &Pairs) -> Mem<SymList>
     ensures { IfOk result (λ names. map number_of (items_of names) ≡
         names_of_pairs (backwards (items_of list.now))) }
 {
@@ -182,7 +182,7 @@ fn push_if_nil(names: &mut SymList, pair: &Pair) -> Mem<()>
 }
 
 /// The names of the pairs without a value.
-pub fn nil_names(alloc: Global, list: &Pairs) -> Mem<SymList>
+pub(crate) fn nil_names(alloc: Global, list: &Pairs) -> Mem<SymList>
     ensures { IfOk result (λ names. map number_of (items_of names) ≡
         nil_names (backwards (items_of list.now))) }
 {

@@ -57,7 +57,7 @@ fn symbols(items: &Values) -> Mem<SymList>
 }
 
 /// Whether a value can be a property's: nil, t, an integer, a symbol, a string, or a list of symbols.
-pub fn is_property_value(v: &Value) -> bool
+pub(crate) fn is_property_value(v: &Value) -> bool
     ensures { result ≡ is_some (as_prop (view v.now)) }
 {
     match v {
@@ -67,14 +67,14 @@ pub fn is_property_value(v: &Value) -> bool
     }
 }
 
-pub fn must_be_property_value(v: &Value) -> Result<(), Fault>
+pub(crate) fn must_be_property_value(v: &Value) -> Result<(), Fault>
     ensures { fault_in result ≡ must_be_property_value (view v.now) }
 {
     must(is_property_value(v), Fault::WrongType)
 }
 
 /// The property's value that a value gives; `None` where it is nil, or can't be one.
-pub fn property_value(v: &Value) -> Mem<Option<PropVal>>
+pub(crate) fn property_value(v: &Value) -> Mem<Option<PropVal>>
     ensures value { IfOk result (λ p. option_map prop_of p ≡ value_of (view v.now)) }
     ensures given { IfOk result (λ p. given_of (option_map prop_of p) ≡ value_of (view v.now)) }
 {

@@ -13,7 +13,7 @@ use ek_call::{Reply, Value};
 use ek_types::{Mem, NoMemory};
 
 /// The reply of a call.
-pub fn reply(answer: Result<Value, Failure>) -> Mem<Reply>
+pub(crate) fn reply(answer: Result<Value, Failure>) -> Mem<Reply>
     ensures asks { (call : Meant) → Answers answer call → IfOk result (λ r. reply_of r ≡ call) }
     ensures applies { (old new : model.Editor) (call : answers.Applied) →
         Applies answer old new call → IfOk result (λ r. record {
@@ -31,7 +31,7 @@ pub fn reply(answer: Result<Value, Failure>) -> Mem<Reply>
 }
 
 /// What a call that changes a text comes to before anything is changed.
-pub fn prepared(call: Result<Prepared, Failure>) -> Mem<Prepared>
+pub(crate) fn prepared(call: Result<Prepared, Failure>) -> Mem<Prepared>
     ensures { (meant : answers.Prepared) → Prepares call meant →
         IfOk result (λ p. prepared_of p ≡ meant) }
 {
@@ -43,7 +43,7 @@ pub fn prepared(call: Result<Prepared, Failure>) -> Mem<Prepared>
 }
 
 /// What a commit comes to.
-pub fn committed(call: Result<Committed, Failure>) -> Mem<Committed>
+pub(crate) fn committed(call: Result<Committed, Failure>) -> Mem<Committed>
     ensures ok { (old new : model.Editor) (meant : answers.Commit) → Commits call old new meant →
         IfOk result (λ c. record { editor = new; committed = committed_of c } ≡ meant) }
     ensures err { (old new : model.Editor) (meant : answers.Commit) → Commits call old new meant →

@@ -28,25 +28,25 @@ use ek_call::{Fault, Value};
 use ek_types::{Chars, Copied, Mem, Piece};
 use std::alloc::Global;
 
-pub fn point(editor: &Editor) -> Result<Value, Failure>
+pub(crate) fn point(editor: &Editor) -> Result<Value, Failure>
     ensures { Answers result (Answered (at_place (here (editor_of editor.now)).point)) }
 {
     Ok(at_place(editor.bounds(editor.current()).point)?)
 }
 
-pub fn point_min(editor: &Editor) -> Result<Value, Failure>
+pub(crate) fn point_min(editor: &Editor) -> Result<Value, Failure>
     ensures { Answers result (Answered (at_place (here (editor_of editor.now)).begin)) }
 {
     Ok(at_place(editor.bounds(editor.current()).start)?)
 }
 
-pub fn point_max(editor: &Editor) -> Result<Value, Failure>
+pub(crate) fn point_max(editor: &Editor) -> Result<Value, Failure>
     ensures { Answers result (Answered (at_place (here (editor_of editor.now)).end)) }
 {
     Ok(at_place(editor.bounds(editor.current()).end)?)
 }
 
-pub fn buffer_narrowed_p(editor: &Editor) -> Result<Value, Failure>
+pub(crate) fn buffer_narrowed_p(editor: &Editor) -> Result<Value, Failure>
     ensures { Answers result (Answered (truth (calls.is_narrowed (here (editor_of editor.now))))) }
 {
     let id = editor.current();
@@ -55,7 +55,7 @@ pub fn buffer_narrowed_p(editor: &Editor) -> Result<Value, Failure>
     Ok(truth(!whole))
 }
 
-pub fn buffer_size(editor: &Editor, b: &Value) -> Result<Value, Failure>
+pub(crate) fn buffer_size(editor: &Editor, b: &Value) -> Result<Value, Failure>
     ensures { Answers result (calls.buffer_size (editor_of editor.now) (view b.now)) }
 {
     must_be_buffer_or_nil(b)?;
@@ -75,7 +75,7 @@ fn code_at(editor: &Editor, id: u32, place: usize) -> Value
     Value::Int(i64::from(editor.char_at(id, place).code()))
 }
 
-pub fn char_after(editor: &Editor, p: &Value) -> Result<Value, Failure>
+pub(crate) fn char_after(editor: &Editor, p: &Value) -> Result<Value, Failure>
     ensures { Answers result (calls.char_after (editor_of editor.now) (view p.now)) }
 {
     let id = editor.current();
@@ -103,7 +103,7 @@ fn part(editor: &Editor, id: u32, from: usize, to: usize) -> Mem<Piece>
     editor.substring(id, from, to)
 }
 
-pub fn buffer_string(editor: &Editor) -> Result<Value, Failure>
+pub(crate) fn buffer_string(editor: &Editor) -> Result<Value, Failure>
     ensures { Answers result (calls.buffer_string (editor_of editor.now)) }
 {
     let id = editor.current();
@@ -152,14 +152,14 @@ fn region_text(editor: &Editor, a: &Value, b: &Value) -> Mem<Piece>
     )
 }
 
-pub fn buffer_substring(editor: &Editor, a: &Value, b: &Value) -> Result<Value, Failure>
+pub(crate) fn buffer_substring(editor: &Editor, a: &Value, b: &Value) -> Result<Value, Failure>
     ensures { Answers result (calls.buffer_substring (editor_of editor.now) (view a.now) (view b.now)) }
 {
     must_fit_a_region(editor, a, b)?;
     Ok(Value::Str(region_text(editor, a, b)?))
 }
 
-pub fn buffer_substring_no_properties(
+pub(crate) fn buffer_substring_no_properties(
     editor: &Editor,
     a: &Value,
     b: &Value,
@@ -172,7 +172,11 @@ pub fn buffer_substring_no_properties(
     Ok(plain(editor.allocator(), text.text())?)
 }
 
-pub fn delete_and_extract_region(editor: &Editor, a: &Value, b: &Value) -> Result<Prepared, Failure>
+pub(crate) fn delete_and_extract_region(
+    editor: &Editor,
+    a: &Value,
+    b: &Value,
+) -> Result<Prepared, Failure>
     ensures { Prepares result (calls.delete_and_extract_region (editor_of editor.now) (view a.now)
         (view b.now)) }
 {
@@ -217,7 +221,7 @@ fn deletion(
     })
 }
 
-pub fn delete_region(editor: &Editor, a: &Value, b: &Value) -> Result<Prepared, Failure>
+pub(crate) fn delete_region(editor: &Editor, a: &Value, b: &Value) -> Result<Prepared, Failure>
     ensures { Prepares result (calls.delete_region (editor_of editor.now) (view a.now) (view b.now)) }
 {
     must_be_a_region(editor, a, b)?;
@@ -231,7 +235,7 @@ pub fn delete_region(editor: &Editor, a: &Value, b: &Value) -> Result<Prepared, 
     ))
 }
 
-pub fn erase_buffer(editor: &Editor) -> Result<Prepared, Failure>
+pub(crate) fn erase_buffer(editor: &Editor) -> Result<Prepared, Failure>
     ensures { Prepares result (calls.erase_buffer (editor_of editor.now)) }
 {
     let id = editor.current();
@@ -247,7 +251,7 @@ fn go_to(editor: &mut Editor, position: i64)
     editor.goto(id, position);
 }
 
-pub fn goto_char(editor: &mut Editor, p: &Value) -> Result<Value, Failure>
+pub(crate) fn goto_char(editor: &mut Editor, p: &Value) -> Result<Value, Failure>
     ensures { Applies result (editor_of editor.old) (editor_of editor.new)
         (calls.goto_char (editor_of editor.old) (view p.now)) }
 {
@@ -270,7 +274,7 @@ fn narrow(editor: &mut Editor, from: usize, to: usize)
     editor.narrow(id, from, to);
 }
 
-pub fn narrow_to_region(editor: &mut Editor, a: &Value, b: &Value) -> Result<Value, Failure>
+pub(crate) fn narrow_to_region(editor: &mut Editor, a: &Value, b: &Value) -> Result<Value, Failure>
     ensures { Applies result (editor_of editor.old) (editor_of editor.new)
         (calls.narrow_to_region (editor_of editor.old) (view a.now) (view b.now)) }
 {
@@ -285,7 +289,7 @@ pub fn narrow_to_region(editor: &mut Editor, a: &Value, b: &Value) -> Result<Val
     Ok(Value::Nil)
 }
 
-pub fn widen(editor: &mut Editor) -> Result<Value, Failure>
+pub(crate) fn widen(editor: &mut Editor) -> Result<Value, Failure>
     ensures { Applies result (editor_of editor.old) (editor_of editor.new)
         (calls.widen (editor_of editor.old)) }
 {
@@ -295,7 +299,7 @@ pub fn widen(editor: &mut Editor) -> Result<Value, Failure>
 }
 
 /// The change that puts a piece in at a place; an empty piece changes nothing.
-pub fn insertion(buffer: u32, at: usize, piece: Piece, all: bool) -> Prepared
+pub(crate) fn insertion(buffer: u32, at: usize, piece: Piece, all: bool) -> Prepared
     ensures { prepared_of result ≡ calls.insertion buffer at piece all }
 {
     if piece.is_empty() {
@@ -327,7 +331,7 @@ fn place_or(default: usize, editor: &Editor, v: &Value) -> usize
     }
 }
 
-pub fn insert_buffer_substring(
+pub(crate) fn insert_buffer_substring(
     editor: &Editor,
     buffer: &Value,
     a: &Value,

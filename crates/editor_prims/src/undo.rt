@@ -22,7 +22,7 @@ fn end_group(editor: &mut Editor) -> Mem<()>
     editor.undo_boundary(id)
 }
 
-pub fn undo_boundary(editor: &mut Editor) -> Result<Value, Failure>
+pub(crate) fn undo_boundary(editor: &mut Editor) -> Result<Value, Failure>
     ensures { Applies result (editor_of editor.old) (editor_of editor.new)
         (calls.undo_boundary (editor_of editor.old)) }
 {
@@ -46,7 +46,7 @@ fn disable(editor: &mut Editor)
     editor.undo_enable(id, false);
 }
 
-pub fn buffer_enable_undo(editor: &mut Editor) -> Result<Value, Failure>
+pub(crate) fn buffer_enable_undo(editor: &mut Editor) -> Result<Value, Failure>
     ensures { Applies result (editor_of editor.old) (editor_of editor.new)
         (calls.buffer_enable_undo (editor_of editor.old)) }
 {
@@ -54,7 +54,7 @@ pub fn buffer_enable_undo(editor: &mut Editor) -> Result<Value, Failure>
     Ok(Value::Nil)
 }
 
-pub fn buffer_disable_undo(editor: &mut Editor) -> Result<Value, Failure>
+pub(crate) fn buffer_disable_undo(editor: &mut Editor) -> Result<Value, Failure>
     ensures { Applies result (editor_of editor.old) (editor_of editor.new)
         (calls.buffer_disable_undo (editor_of editor.old)) }
 {
@@ -73,7 +73,7 @@ fn start(editor: &mut Editor)
 
 /// All records of the current buffer become pending, where it records. It is refused where it doesn't.
 #[tactic(auto, using(crate::proofs::Changing::test_passed))]
-pub fn undo_start(editor: &mut Editor) -> Result<Value, Failure>
+pub(crate) fn undo_start(editor: &mut Editor) -> Result<Value, Failure>
     ensures { Applies result (editor_of editor.old) (editor_of editor.new)
         (calls.undo_start (editor_of editor.old)) }
 {

@@ -48,7 +48,7 @@ fn groups(i: i64) -> Result<u32, Fault>
 }
 
 /// The plan of undoing some groups, or why it is refused.
-pub fn plan(editor: &Editor, id: u32, groups: u32) -> Result<Plan, Failure>
+pub(crate) fn plan(editor: &Editor, id: u32, groups: u32) -> Result<Plan, Failure>
     requires { 1 ≤ groups }
     ensures { Planned result groups (buffer_at (editor_of editor.now) id) }
 {
@@ -61,7 +61,7 @@ pub fn plan(editor: &Editor, id: u32, groups: u32) -> Result<Plan, Failure>
 }
 
 /// Undoes some groups of records of the current buffer.
-pub fn undo_more(editor: &Editor, v: &Value) -> Result<Prepared, Failure>
+pub(crate) fn undo_more(editor: &Editor, v: &Value) -> Result<Prepared, Failure>
     ensures { Prepares result (calls.undo_more (editor_of editor.now) (view v.now)) }
 {
     let groups = groups(integer(v)?)?;

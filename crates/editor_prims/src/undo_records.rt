@@ -76,7 +76,7 @@ fn record_values(editor: &Editor) -> Mem<Values>
     Ok(values)
 }
 
-pub fn buffer_undo_list(editor: &Editor) -> Result<Value, Failure>
+pub(crate) fn buffer_undo_list(editor: &Editor) -> Result<Value, Failure>
     ensures { Answers result (calls.buffer_undo_list (editor_of editor.now)) }
 {
     if !editor.is_recording(editor.current()) {

@@ -47,7 +47,7 @@ fn keep_restriction(kernel: &mut Kernel) -> Mem<()>
 }
 
 /// Begins a block, and says what is to be restored behind it. A refusal leaves all as it was.
-pub fn open(kernel: &mut Kernel, block: Block) -> Mem<Kept>
+pub(crate) fn open(kernel: &mut Kernel, block: Block) -> Mem<Kept>
     ensures kept { IfOk result (λ kept. kept_as kept ≡ kept_of (block_of block) (state_of kernel.old)) }
     ensures ok { OnOk result (state_of kernel.new ≡ opened (block_of block) (state_of kernel.old)) }
     ensures err { OnErr result (state_of kernel.new ≡ state_of kernel.old) }
@@ -67,7 +67,7 @@ pub fn open(kernel: &mut Kernel, block: Block) -> Mem<Kept>
 }
 
 /// Makes a buffer current, if it lives.
-pub fn make_current(kernel: &mut Kernel, buffer: u32)
+pub(crate) fn make_current(kernel: &mut Kernel, buffer: u32)
     ensures { state_of kernel.new ≡ if_live (state_of kernel.old) buffer
         (current buffer (state_of kernel.old)) }
 {
@@ -132,7 +132,7 @@ fn pop(kernel: &mut Kernel)
 }
 
 /// Restores what a block kept.
-pub fn restore(kernel: &mut Kernel, kept: Kept)
+pub(crate) fn restore(kernel: &mut Kernel, kept: Kept)
     ensures { state_of kernel.new ≡ restored (kept_as kept) (state_of kernel.old) }
 {
     match kept {

@@ -30,7 +30,7 @@ fn is_last(editor: &Editor, buffer: u32) -> bool
 }
 
 /// The last live buffer is killed only where one more can be made.
-pub fn must_be_replaceable(editor: &Editor, buffer: u32) -> Result<(), Fault>
+pub(crate) fn must_be_replaceable(editor: &Editor, buffer: u32) -> Result<(), Fault>
     ensures { fault_in result ≡ must_be_replaceable (editor_of editor.now) buffer }
 {
     if is_last(editor, buffer) {
@@ -48,7 +48,7 @@ fn runs_in(process: &Process, buffer: u32) -> bool
 }
 
 /// The running processes of a buffer, by rising number.
-pub fn running_in(kernel: &Kernel, buffer: u32) -> Mem<Vec<u32>>
+pub(crate) fn running_in(kernel: &Kernel, buffer: u32) -> Mem<Vec<u32>>
     ensures { IfOk result (λ ps. ps.items ≡ running_in (state_of kernel.now) buffer) }
 {
     let mut found = Vec::new(kernel.alloc);
@@ -61,7 +61,7 @@ pub fn running_in(kernel: &Kernel, buffer: u32) -> Mem<Vec<u32>>
 }
 
 /// Whether a buffer has a running process.
-pub fn has_running(kernel: &Kernel, buffer: u32) -> bool
+pub(crate) fn has_running(kernel: &Kernel, buffer: u32) -> bool
     ensures { result ≡ nat_lt 0 (length (running_in (state_of kernel.now) buffer)) }
 {
     for p in 0..kernel.processes.count() {
@@ -101,7 +101,7 @@ fn kill_if_replaceable(kernel: &mut Kernel, buffer: u32) -> Mem<Reply>
 }
 
 /// Kills a buffer, if it lives. A refusal leaves all as it was.
-pub fn kill_live(kernel: &mut Kernel, buffer: u32) -> Mem<Reply>
+pub(crate) fn kill_live(kernel: &mut Kernel, buffer: u32) -> Mem<Reply>
     ensures reply { IfOk result (λ r. reply_of r ≡
         (killed_by (state_of kernel.old).editor buffer).reply) }
     ensures ok { OnOk result (state_of kernel.new ≡

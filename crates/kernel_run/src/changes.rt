@@ -30,7 +30,7 @@ fn fits(kernel: &Kernel, change: &Change) -> bool
 
 /// Keeps the ends of a change, which move with the text. A refusal leaves all as it was; it is answered, too, where the ends
 /// don't lie in the text: no call prepares such a change.
-pub fn keep_ends(kernel: &mut Kernel, change: &Change) -> Mem<()>
+pub(crate) fn keep_ends(kernel: &mut Kernel, change: &Change) -> Mem<()>
     ensures ok { OnOk result (state_of kernel.new ≡
         begun (change_of change.now) (state_of kernel.old)) }
     ensures err { OnErr result (state_of kernel.new ≡ state_of kernel.old) }
@@ -76,7 +76,7 @@ fn drop_kept(kernel: &mut Kernel)
 }
 
 /// Makes a change at its kept ends, which are kept no longer. A refusal leaves all as it was.
-pub fn commit(kernel: &mut Kernel, change: &Change) -> Mem<Committed>
+pub(crate) fn commit(kernel: &mut Kernel, change: &Change) -> Mem<Committed>
     ensures done { IfOk result (λ d. committed_of d ≡
         (done_at (change_of change.now) (state_of kernel.old)).committed) }
     ensures ok { IfOk result (λ d. state_of kernel.new ≡
@@ -96,7 +96,7 @@ fn position(place: usize) -> Mem<Value>
 }
 
 /// The ends of a change, as its hook functions get them.
-pub fn ends(alloc: Global, change: &Change) -> Mem<Values>
+pub(crate) fn ends(alloc: Global, change: &Change) -> Mem<Values>
     ensures { IfOk result (λ args. map view (items_of args) ≡ ends_of change.now.from change.now.to) }
 {
     let mut args = ListOf::new(alloc);
@@ -106,7 +106,7 @@ pub fn ends(alloc: Global, change: &Change) -> Mem<Values>
 }
 
 /// The ends behind a change, and the length before it, as its hook functions get them.
-pub fn ends_behind(alloc: Global, from: usize, to: usize, old: usize) -> Mem<Values>
+pub(crate) fn ends_behind(alloc: Global, from: usize, to: usize, old: usize) -> Mem<Values>
     ensures { IfOk result (λ args. map view (items_of args) ≡ ends_behind from to old) }
 {
     let mut args = ListOf::new(alloc);

@@ -8,7 +8,7 @@ use ek_call::{Value, Values};
 
 /// Whether two values are of one kind and have the same content: strings by their characters alone, also in lists.
 #[cycle(equal)]
-pub fn are_equal(a: &Value, b: &Value) -> bool
+pub(crate) fn are_equal(a: &Value, b: &Value) -> bool
     ensures { result ≡ equal (view a.now) (view b.now) }
 {
     match (a, b) {

@@ -29,7 +29,7 @@ use kernel_steps::{Kind, Program};
 use std::alloc::Global;
 
 /// A handler is entered: its parameters are bound. A refusal leaves all as it was.
-pub fn enter(kernel: &mut Kernel, params: &[Sym], args: &Values) -> Mem<()>
+pub(crate) fn enter(kernel: &mut Kernel, params: &[Sym], args: &Values) -> Mem<()>
     ensures ok { OnOk result (state_of kernel.new ≡
         in_scope (bound_params (map number_of params.now) (map view (items_of args.now))) (record
         (state_of kernel.old) { depth = (state_of kernel.old).depth + 1 })) }
@@ -44,7 +44,7 @@ pub fn enter(kernel: &mut Kernel, params: &[Sym], args: &Values) -> Mem<()>
 }
 
 /// A handler is left, and the buffer that was current before it is put back, if it lives.
-pub fn leave(kernel: &mut Kernel, current: u32)
+pub(crate) fn leave(kernel: &mut Kernel, current: u32)
     ensures { state_of kernel.new ≡ left_state (state_of kernel.old) current }
 {
     kernel.depth = kernel.depth.saturating_sub(1);
@@ -73,7 +73,7 @@ fn clear_hooks(kernel: &mut Kernel, buffer: u32, before: bool)
 
 /// What the end of a handler does besides: a process leaves the list behind its sentinel, and a hook function that ended by a
 /// fault empties the list that it stands on.
-pub fn end_handler(kernel: &mut Kernel, kind: Kind, faulted: bool)
+pub(crate) fn end_handler(kernel: &mut Kernel, kind: Kind, faulted: bool)
     ensures { state_of kernel.new ≡ ended_state (kind_of kind) faulted (state_of kernel.old) }
 {
     match kind {
@@ -85,7 +85,7 @@ pub fn end_handler(kernel: &mut Kernel, kind: Kind, faulted: bool)
 }
 
 /// The hook functions of a kind, in a list of their own.
-pub fn hooks(kernel: &Kernel, kind: Kind) -> Mem<SymList>
+pub(crate) fn hooks(kernel: &Kernel, kind: Kind) -> Mem<SymList>
     ensures { IfOk result (λ names. map number_of (items_of names) ≡
         hook_names (kind_of kind) (state_of kernel.now)) }
 {
@@ -110,7 +110,7 @@ fn made<P: Program>(kernel: &Kernel, program: &P) -> Made
 }
 
 /// A native's call, if a script might make it, with each empty list as nil.
-pub fn allow<P: Program>(
+pub(crate) fn allow<P: Program>(
     kernel: &Kernel,
     program: &P,
     asked: &NativeCall,
@@ -217,7 +217,7 @@ fn prepare_text(kernel: &mut Kernel, p: u32, text: Piece) -> Prepared
 }
 
 /// Prepares the insertion of a default handler, whose buffer becomes current. A refusal leaves all as it was.
-pub fn prepare_default(kernel: &mut Kernel, kind: Kind, args: &Values) -> Mem<Prepared>
+pub(crate) fn prepare_default(kernel: &mut Kernel, kind: Kind, args: &Values) -> Mem<Prepared>
     ensures prepared { IfOk result (λ p. prepared_of p ≡
         default_prepared (kind_of kind) (map view (items_of args.now)) (state_of kernel.old)) }
     ensures ok { OnOk result (state_of kernel.new ≡

@@ -36,7 +36,7 @@ fn entry_of(p: u32, entered: Entered) -> Option<Entry>
 }
 
 /// Asks a process for its output, or for its end once that has ended. All memory is taken before it is asked.
-pub fn hear<P: Program, H: Host>(
+pub(crate) fn hear<P: Program, H: Host>(
     kernel: &mut Kernel,
     program: &P,
     host: &mut H,
@@ -61,14 +61,14 @@ pub fn hear<P: Program, H: Host>(
 }
 
 /// Whether a process was made and runs.
-pub fn is_running(kernel: &Kernel, p: u32) -> bool
+pub(crate) fn is_running(kernel: &Kernel, p: u32) -> bool
     ensures { result ≡ is_running (state_of kernel.now) p }
 {
     p < kernel.processes.count() && matches!(kernel.processes.get(p).status(), Status::Run)
 }
 
 /// Kills a process that runs, and says what is to be entered then. All memory is taken before it is killed.
-pub fn kill<P: Program, H: Host>(
+pub(crate) fn kill<P: Program, H: Host>(
     kernel: &mut Kernel,
     program: &P,
     host: &mut H,

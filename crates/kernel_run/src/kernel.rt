@@ -8,7 +8,8 @@ use crate::place::StartPlace;
 use crate::scopes::Scopes;
 use buffer_table::Editor;
 use change_hooks::Hooks;
-use ek_types::Mem;
+use ek_call::Values;
+use ek_types::{ListOf, Mem};
 use process_table::Processes;
 use std::alloc::Global;
 
@@ -28,6 +29,8 @@ pub struct Kernel {
     pub(crate) sent: u32,
     /// Room for the process that is being started.
     pub(crate) place: Option<StartPlace>,
+    /// Room for the arguments of the next call.
+    pub(crate) room: Values,
     pub(crate) alloc: Global,
 }
 
@@ -47,6 +50,7 @@ impl Kernel {
             asked: 0,
             sent: 0,
             place: None,
+            room: ListOf::new(alloc),
             alloc,
         })
     }
@@ -76,6 +80,7 @@ impl Kernel {
             asked: _,
             sent: _,
             place,
+            room: _,
             alloc: _,
         } = self;
         if let Some(place) = place {

@@ -8,7 +8,7 @@ use ek_call::Primitive;
 use kernel_steps::Manner;
 
 /// Whether a call only asks, sets state, changes a text, or concerns handlers: hooks and processes.
-pub fn manner(prim: Primitive) -> Manner
+pub(crate) fn manner(prim: Primitive) -> Manner
     ensures { manner_as result ≡ manner_of (prim_of prim) }
 {
     match prim {

@@ -27,7 +27,7 @@ const MOST_PROCESSES: u32 = 256;
 const MOST_ROUNDS: u32 = 1000;
 
 /// The process that a value gives: itself, or the listed one of a name. Where there is none it is the first.
-pub fn process(kernel: &Kernel, v: &Value) -> u32
+pub(crate) fn process(kernel: &Kernel, v: &Value) -> u32
     ensures { result ≡ process_of (state_of kernel.now) (view v.now) }
 {
     match v {
@@ -38,7 +38,7 @@ pub fn process(kernel: &Kernel, v: &Value) -> u32
 }
 
 /// The buffer that a value gives: itself, the live one of a name, or else the current one.
-pub fn buffer(editor: &Editor, v: &Value) -> u32
+pub(crate) fn buffer(editor: &Editor, v: &Value) -> u32
     ensures { result ≡ buffer_of (editor_of editor.now) (view v.now) }
 {
     match v {
@@ -49,7 +49,7 @@ pub fn buffer(editor: &Editor, v: &Value) -> u32
 }
 
 /// The buffer that a value gives a process: none for nil.
-pub fn process_buffer(editor: &Editor, v: &Value) -> Option<u32>
+pub(crate) fn process_buffer(editor: &Editor, v: &Value) -> Option<u32>
     ensures { result ≡ process_buffer (editor_of editor.now) (view v.now) }
 {
     match v {
@@ -81,7 +81,7 @@ fn target(kernel: &Kernel, v: &Value) -> Option<u32>
 }
 
 /// The wait that a call asks for.
-pub fn new_wait(kernel: &Kernel, args: &Values) -> Mem<Wait>
+pub(crate) fn new_wait(kernel: &Kernel, args: &Values) -> Mem<Wait>
     ensures waiting { IfOk result (λ w. w.waiting ≡
         waiting_of (state_of kernel.now) (map view (items_of args.now))) }
     ensures room { IfOk result (λ w. w.room ≡ 256) }

@@ -62,9 +62,9 @@ const MOST_ROUNDS: i64 = 1000;
 const NESTING_BOUND: u32 = 16;
 
 /// The symbols of the two lists of hook functions.
-pub const BEFORE_CHANGE_FUNCTIONS: u32 = 4;
+pub(crate) const BEFORE_CHANGE_FUNCTIONS: u32 = 4;
 
-pub const AFTER_CHANGE_FUNCTIONS: u32 = 5;
+pub(crate) const AFTER_CHANGE_FUNCTIONS: u32 = 5;
 
 // TESTS
 
@@ -171,7 +171,7 @@ fn must_be_word(v: &Value) -> Result<(), Fault>
 }
 
 /// Whether no live buffer has a name that is given.
-pub fn is_new_name(editor: &Editor, v: &Value) -> bool
+pub(crate) fn is_new_name(editor: &Editor, v: &Value) -> bool
     ensures { result ≡ is_new_name (editor_of editor.now) (view v.now) }
 {
     match v {
@@ -201,7 +201,7 @@ fn must_be_in_range(v: &Value) -> Result<(), Fault>
 }
 
 /// Whether an exchange may be made.
-pub fn may_ask(kernel: &Kernel) -> bool
+pub(crate) fn may_ask(kernel: &Kernel) -> bool
     ensures { result ≡ may_ask (state_of kernel.now) }
 {
     kernel.asked < MOST_EXCHANGES
@@ -394,7 +394,7 @@ fn test_set_buffer(kernel: &Kernel, p: &Value, b: &Value) -> Result<(), Fault>
 }
 
 /// Whether the input of a process was closed. Where there is none it counts as closed.
-pub fn is_closed(kernel: &Kernel, p: u32) -> bool
+pub(crate) fn is_closed(kernel: &Kernel, p: u32) -> bool
     ensures { result ≡ is_closed (state_of kernel.now) p }
 {
     p >= kernel.processes.count() || kernel.processes.get(p).closed()
@@ -500,7 +500,7 @@ fn test<P: Program>(
 }
 
 /// Why a call on hooks or processes is refused.
-pub fn refusal<P: Program>(
+pub(crate) fn refusal<P: Program>(
     kernel: &Kernel,
     program: &P,
     prim: Primitive,

@@ -38,7 +38,7 @@ use std::alloc::Global;
 // HOOKS
 
 /// The symbol that a value is; the first one where it is none.
-pub fn symbol_of(v: &Value) -> Sym
+pub(crate) fn symbol_of(v: &Value) -> Sym
     ensures { result.0 ≡ symbol_of (view v.now) }
 {
     match v {
@@ -48,7 +48,7 @@ pub fn symbol_of(v: &Value) -> Sym
 }
 
 /// Whether a value names the functions before a change.
-pub fn is_before(hook: &Value) -> bool
+pub(crate) fn is_before(hook: &Value) -> bool
     ensures { result ≡ (symbol_of (view hook.now) == before_change_functions) }
 {
     symbol_of(hook).0 == BEFORE_CHANGE_FUNCTIONS
@@ -353,7 +353,7 @@ fn set_buffer(kernel: &mut Kernel, v: &Value, b: &Value) -> Mem<Value>
 
 /// Makes a call on hooks or processes that asks the host nothing, enters nothing and isn't refused. Want of memory leaves
 /// all as it was.
-pub fn call_silently<P: Program>(
+pub(crate) fn call_silently<P: Program>(
     kernel: &mut Kernel,
     program: &P,
     prim: Primitive,

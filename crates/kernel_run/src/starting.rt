@@ -31,7 +31,7 @@ use marker_set::Room;
 use std::mem;
 
 /// Counts an exchange.
-pub fn count_asked(kernel: &mut Kernel)
+pub(crate) fn count_asked(kernel: &mut Kernel)
     requires { may_ask (state_of kernel.old) ≡ true }
     ensures { state_of kernel.new ≡ asked_once (state_of kernel.old) }
 {
@@ -39,7 +39,7 @@ pub fn count_asked(kernel: &mut Kernel)
 }
 
 /// Counts an exchange that sent so many bytes.
-pub fn count_sent(kernel: &mut Kernel, bytes: usize)
+pub(crate) fn count_sent(kernel: &mut Kernel, bytes: usize)
     requires asked { may_ask (state_of kernel.old) ≡ true }
     requires sent { (state_of kernel.old).sent + bytes ≤ most_sent }
     ensures { state_of kernel.new ≡ counted bytes (state_of kernel.old) }
@@ -49,7 +49,7 @@ pub fn count_sent(kernel: &mut Kernel, bytes: usize)
 }
 
 /// Counts an exchange, by which the input of a process was closed.
-pub fn note_closed(kernel: &mut Kernel, p: u32)
+pub(crate) fn note_closed(kernel: &mut Kernel, p: u32)
     requires asked { may_ask (state_of kernel.old) ≡ true }
     requires made { p < length (state_of kernel.old).processes }
     ensures { state_of kernel.new ≡ change_process p with_input_closed
@@ -100,7 +100,11 @@ fn reserve_place(kernel: &Kernel, args: &Values) -> Mem<StartPlace>
 }
 
 /// Takes all the memory that a start needs, for its process, its mark and its buffer. The state is as it was.
-pub fn reserve_process<P: Program>(kernel: &mut Kernel, program: &P, args: &Values) -> Mem<()>
+pub(crate) fn reserve_process<P: Program>(
+    kernel: &mut Kernel,
+    program: &P,
+    args: &Values,
+) -> Mem<()>
     requires { Passes (P.meant program.now) (state_of kernel.old) StartProcess
         (map view (items_of args.now)) }
     ensures place { OnOk result (HasPlace kernel.new (map view (items_of args.now))) }
@@ -175,7 +179,7 @@ fn start_in(kernel: &mut Kernel, place: StartPlace, args: &Values, child: u32) -
 }
 
 /// Makes the process of a child that was started, and gives its number. It takes no memory.
-pub fn start<P: Program>(kernel: &mut Kernel, program: &P, args: &Values, child: u32) -> u32
+pub(crate) fn start<P: Program>(kernel: &mut Kernel, program: &P, args: &Values, child: u32) -> u32
     requires passes { Passes (P.meant program.now) (state_of kernel.old) StartProcess
         (map view (items_of args.now)) }
     requires place { HasPlace kernel.old (map view (items_of args.now)) }

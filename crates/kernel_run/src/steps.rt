@@ -37,6 +37,15 @@ impl kernel_steps::Kernel for Kernel {
         }
     }
 
+    fn take_room(&mut self) -> Values {
+        mem::replace(&mut self.room, ListOf::new(self.alloc))
+    }
+
+    fn give_room(&mut self, args: Values) {
+        self.room = args;
+        self.room.clear();
+    }
+
     fn assign(&mut self, name: Sym, value: Value) -> Mem<()> {
         if self.scopes.value(name).is_some() {
             self.scopes.set(name, value);

@@ -41,7 +41,7 @@ fn word(kind: Kind) -> Word
 }
 
 /// Writes the line of a handler's entry.
-pub fn tell_entry<K: Sink>(
+pub(crate) fn tell_entry<K: Sink>(
     kernel: &Kernel,
     symbols: &Symbols,
     kind: Kind,
@@ -58,7 +58,7 @@ pub fn tell_entry<K: Sink>(
 }
 
 /// Writes the line of a handler's end.
-pub fn tell_exit<K: Sink>(
+pub(crate) fn tell_exit<K: Sink>(
     kernel: &Kernel,
     symbols: &Symbols,
     handler: Option<Sym>,
@@ -72,7 +72,7 @@ pub fn tell_exit<K: Sink>(
 }
 
 /// Writes the line of a reply.
-pub fn tell_reply<K: Sink>(
+pub(crate) fn tell_reply<K: Sink>(
     kernel: &Kernel,
     symbols: &Symbols,
     reply: &Reply,
@@ -86,7 +86,7 @@ pub fn tell_reply<K: Sink>(
 }
 
 /// Writes the line of the kill of a process at the end of a run.
-pub fn tell_kill<K: Sink>(
+pub(crate) fn tell_kill<K: Sink>(
     kernel: &Kernel,
     symbols: &Symbols,
     p: u32,
@@ -100,7 +100,11 @@ pub fn tell_kill<K: Sink>(
 }
 
 /// Writes the dump.
-pub fn tell_dump<K: Sink>(kernel: &Kernel, symbols: &Symbols, sink: &mut K) -> Result<(), SinkFault>
+pub(crate) fn tell_dump<K: Sink>(
+    kernel: &Kernel,
+    symbols: &Symbols,
+    sink: &mut K,
+) -> Result<(), SinkFault>
     ensures { Writes (K.state sink.old) (K.state sink.new) result (line symbols.now
         (state_of kernel.now) Dumped) }
 {

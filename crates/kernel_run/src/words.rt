@@ -19,7 +19,7 @@ use kernel_steps::{Command, Program};
 use std::alloc::Global;
 
 /// The characters of a string; none where the value is no string.
-pub fn name_of(alloc: Global, v: &Value) -> Mem<Chars>
+pub(crate) fn name_of(alloc: Global, v: &Value) -> Mem<Chars>
     ensures { IfOk result (λ name. name.items ≡ name_of (view v.now)) }
 {
     match v {
@@ -51,7 +51,7 @@ fn are_plain(text: &Piece) -> bool
 }
 
 /// Whether a value can be a word of a command.
-pub fn is_word(v: &Value) -> bool
+pub(crate) fn is_word(v: &Value) -> bool
     ensures { result ≡ is_word (view v.now) }
 {
     match v {
@@ -61,7 +61,7 @@ pub fn is_word(v: &Value) -> bool
 }
 
 /// How many bytes a text is, coded in UTF-8 with raw bytes as they are.
-pub fn encoded_length(text: &Piece) -> u128
+pub(crate) fn encoded_length(text: &Piece) -> u128
     ensures { result ≡ length (encoded text.now) }
 {
     let mut length = 0;
@@ -86,7 +86,7 @@ fn encoded(alloc: Global, text: &Piece) -> Mem<Vec<u8>>
 }
 
 /// The bytes of the text that is to be sent, the second argument.
-pub fn bytes_given(kernel: &Kernel, args: &Values) -> Mem<Vec<u8>>
+pub(crate) fn bytes_given(kernel: &Kernel, args: &Values) -> Mem<Vec<u8>>
     ensures { IfOk result (λ bytes. bytes.items ≡ bytes_of (arg (map view (items_of args.now)) 1)) }
 {
     let nil = nil();
@@ -145,7 +145,7 @@ fn all_words(alloc: Global, args: &Values) -> Mem<Vec<String>>
 }
 
 /// The program that a start asks for, and its arguments.
-pub fn command<P: Program>(kernel: &Kernel, program: &P, args: &Values) -> Mem<Command>
+pub(crate) fn command<P: Program>(kernel: &Kernel, program: &P, args: &Values) -> Mem<Command>
     requires { Passes (P.meant program.now) (state_of kernel.now) StartProcess
         (map view (items_of args.now)) }
     ensures program { IfOk result (λ command. string_bytes command.program ≡

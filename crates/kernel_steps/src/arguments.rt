@@ -1,5 +1,5 @@
 //! The values of arguments.
-ghost use Rattle.std.specs.Prelude.{◌≡◌, map, IfOk, option_map};
+ghost use Rattle.std.specs.Prelude.{◌≡◌, [], map, IfOk, option_map};
 ghost use Rattle.plain_machine.specs.Forms.{evaluate};
 ghost use Rattle.ek_types.specs.Listing.{items_of};
 ghost use Rattle.ek_call.specs.Meaning.{arg_of, view};
@@ -7,8 +7,7 @@ ghost use Rattle.kernel_steps.specs.Arguments.{value_of_arg, test_of};
 
 use crate::kernel::Kernel;
 use ek_call::{Arg, Args, Value, Values};
-use ek_types::{Copied, ListOf, Mem};
-use std::alloc::Global;
+use ek_types::{Copied, Mem};
 
 /// The value of an argument, if it has one: a name may stand for nothing.
 fn value<'a, M: Kernel>(kernel: &'a M, arg: &'a Arg) -> Option<&'a Value>
@@ -20,12 +19,13 @@ fn value<'a, M: Kernel>(kernel: &'a M, arg: &'a Arg) -> Option<&'a Value>
     }
 }
 
-/// The values of all arguments, if each has one.
-pub fn values<M: Kernel>(alloc: Global, kernel: &M, args: &Args) -> Mem<Option<Values>>
+/// The values of all arguments in an empty list, if each has one.
+fn fill<M: Kernel>(kernel: &M, args: &Args, room: Values) -> Mem<Option<Values>>
+    requires { items_of room ≡ [] }
     ensures { IfOk result (λ found. option_map (λ vs. map view (items_of vs)) found ≡
         evaluate (M.state kernel.now) (map arg_of (items_of args.now))) }
 {
-    let mut values = ListOf::new(alloc);
+    let mut values = room;
     for i in 0..args.len() {
         let Some(value) = value(kernel, args.at(i)) else {
             return Ok(None);
@@ -35,8 +35,18 @@ pub fn values<M: Kernel>(alloc: Global, kernel: &M, args: &Args) -> Mem<Option<V
     Ok(Some(values))
 }
 
+/// The values of all arguments, if each has one.
+pub(crate) fn values<M: Kernel>(kernel: &mut M, args: &Args) -> Mem<Option<Values>>
+    ensures values { IfOk result (λ found. option_map (λ vs. map view (items_of vs)) found ≡
+        evaluate (M.state kernel.old) (map arg_of (items_of args.now))) }
+    ensures state { M.state kernel.new ≡ M.state kernel.old }
+{
+    let room = kernel.take_room();
+    fill(kernel, args, room)
+}
+
 /// Whether two arguments are equal, if both have values.
-pub fn are_equal<M: Kernel>(kernel: &M, a: &Arg, b: &Arg) -> Option<bool>
+pub(crate) fn are_equal<M: Kernel>(kernel: &M, a: &Arg, b: &Arg) -> Option<bool>
     ensures { result ≡ test_of (M.state kernel.now) (arg_of a.now) (arg_of b.now) }
 {
     let Some(x) = value(kernel, a) else {

@@ -51,7 +51,7 @@ fn set_editor<M: Kernel, P: Program, K: Sink>(
 
 /// Makes a call and writes the line of its reply.
 #[cycle(run)]
-pub fn call<M: Kernel, P: Program, H: Host, K: Sink>(
+pub(crate) fn call<M: Kernel, P: Program, H: Host, K: Sink>(
     kernel: &mut M,
     program: &P,
     host: &mut H,

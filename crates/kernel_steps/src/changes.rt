@@ -23,7 +23,7 @@ use host_link::Host;
 
 /// A call that changes a text.
 #[cycle(run)]
-pub fn change_text<M: Kernel, P: Program, H: Host, K: Sink>(
+pub(crate) fn change_text<M: Kernel, P: Program, H: Host, K: Sink>(
     kernel: &mut M,
     program: &P,
     host: &mut H,
@@ -53,7 +53,7 @@ pub fn change_text<M: Kernel, P: Program, H: Host, K: Sink>(
 
 /// Makes a change that was prepared.
 #[cycle(run)]
-pub fn make_change<M: Kernel, P: Program, H: Host, K: Sink>(
+pub(crate) fn make_change<M: Kernel, P: Program, H: Host, K: Sink>(
     kernel: &mut M,
     program: &P,
     host: &mut H,

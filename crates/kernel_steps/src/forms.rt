@@ -157,8 +157,12 @@ fn run_call<M: Kernel, P: Program, H: Host, K: Sink>(
         kernel.old kernel.new host.old host.new (K.state sink.old) (K.state sink.new)
         (AnswersForm result view (P.meant program.now) (call_of form.now)) }
 {
-    match values(form.args.allocator(), kernel, &form.args)? {
+    match values(kernel, &form.args)? {
         None => Err(refuse(kernel, program, sink, Fault::VoidVariable)),
-        Some(args) => call(kernel, program, host, sink, form.prim, &args),
+        Some(args) => {
+            let answer = call(kernel, program, host, sink, form.prim, &args);
+            kernel.give_room(args);
+            answer
+        }
     }
 }

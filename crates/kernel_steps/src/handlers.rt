@@ -29,7 +29,7 @@ const MOST_REPLIES: u32 = 256;
 /// Enters a handler, runs it and leaves it. Says whether it ended by a fault, which ends the
 /// handler alone.
 #[cycle(run)]
-pub fn handle<M: Kernel, P: Program, H: Host, K: Sink>(
+pub(crate) fn handle<M: Kernel, P: Program, H: Host, K: Sink>(
     kernel: &mut M,
     program: &P,
     host: &mut H,
@@ -82,7 +82,7 @@ fn run_handler<M: Kernel, P: Program, H: Host, K: Sink>(
 }
 
 /// Whether a handler ended by a fault, by how its code ended.
-pub fn has_faulted(ran: Result<(), Halt>) -> Result<bool, Stop>
+pub(crate) fn has_faulted(ran: Result<(), Halt>) -> Result<bool, Stop>
     ensures { result ≡ ended_by ran }
 {
     match ran {

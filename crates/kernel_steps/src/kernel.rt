@@ -1,5 +1,5 @@
 //! What a run keeps.
-ghost use Rattle.std.specs.Prelude.{◌≡◌, ◌+◌, ◌-◌, ◌<◌, ◌≤◌, IsSome, true, length, map};
+ghost use Rattle.std.specs.Prelude.{◌≡◌, ◌+◌, ◌-◌, ◌<◌, ◌≤◌, [], IsSome, true, length, map};
 ghost use Rattle.std.specs.Prelude.{string_bytes, IfOk, OnOk, OnErr, option_map};
 ghost use Rattle.editor_model.specs.Values.{equal};
 ghost use Rattle.editor_model.specs.Prims.{manner_of};
@@ -132,6 +132,15 @@ pub trait Kernel {
     /// The value of a parameter or register.
     fn value(&self, name: Sym) -> Option<&Value>
         ensures { option_map (λ v. view v.now) result ≡ value_of (state self.now) name.0 };
+
+    /// An empty list for the arguments of a call, in the room of one that was given back where there is one.
+    fn take_room(&mut self) -> Values
+        ensures empty { items_of result ≡ [] }
+        ensures state { state self.new ≡ state self.old };
+
+    /// Takes the arguments of a call back, so that the next one finds their room.
+    fn give_room(&mut self, args: Values)
+        ensures { state self.new ≡ state self.old };
 
     /// Gives a parameter or register a value. A refusal leaves all as it was.
     fn assign(&mut self, name: Sym, value: Value) -> Mem<()>

@@ -19,7 +19,7 @@ use ek_types::Sink;
 use host_link::{Host, SendAnswer, Spawned};
 
 /// A call that enters no handler, and isn't refused before it is made.
-pub fn call_other<M: Kernel, P: Program, H: Host, K: Sink>(
+pub(crate) fn call_other<M: Kernel, P: Program, H: Host, K: Sink>(
     kernel: &mut M,
     program: &P,
     host: &mut H,

@@ -13,7 +13,7 @@ use ek_call::{Fault, Reply, Value};
 use ek_types::Sink;
 
 /// Writes the line of a reply. A refusal goes on outwards.
-pub fn tell<M: Kernel, P: Program, K: Sink>(
+pub(crate) fn tell<M: Kernel, P: Program, K: Sink>(
     kernel: &M,
     program: &P,
     sink: &mut K,
@@ -30,7 +30,7 @@ pub fn tell<M: Kernel, P: Program, K: Sink>(
 }
 
 /// Writes the line of a refusal that no call came to, and says why the work is left.
-pub fn refuse<M: Kernel, P: Program, K: Sink>(
+pub(crate) fn refuse<M: Kernel, P: Program, K: Sink>(
     kernel: &M,
     program: &P,
     sink: &mut K,

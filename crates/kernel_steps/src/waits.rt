@@ -26,7 +26,7 @@ use wait_loop::{Step, Wait};
 
 /// A call that concerns hooks or processes.
 #[cycle(run)]
-pub fn call_process<M: Kernel, P: Program, H: Host, K: Sink>(
+pub(crate) fn call_process<M: Kernel, P: Program, H: Host, K: Sink>(
     kernel: &mut M,
     program: &P,
     host: &mut H,

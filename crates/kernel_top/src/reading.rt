@@ -31,7 +31,7 @@ impl From<AllocError> for Refused {
 const PIECE: usize = 4096;
 
 /// All the bytes of a source. No more than one byte behind the longest script is asked for.
-pub fn read_all<S: Source>(alloc: Global, source: &mut S) -> Result<Vec<u8>, Refused>
+pub(crate) fn read_all<S: Source>(alloc: Global, source: &mut S) -> Result<Vec<u8>, Refused>
     ensures all { IfOk result (λ all. IsAll all.items (S.state source.old) (S.state source.new)) }
     ensures some { IfErr result (λ why. IsGivenUp why (S.state source.old) (S.state source.new)) }
     ensures cause { HasCause (S.state source.old).faults (S.state source.new).faults

@@ -24,7 +24,7 @@ pub enum Status {
 }
 
 /// The status of a script that was run, by how that ended.
-pub fn status_of(ended: Result<(), Stop>) -> Status
+pub(crate) fn status_of(ended: Result<(), Stop>) -> Status
     ensures { result ≡ status_of ended }
 {
     match ended {
@@ -35,7 +35,7 @@ pub fn status_of(ended: Result<(), Stop>) -> Status
 }
 
 /// The status of a drill whose script was run, by whether the summary was written.
-pub fn written_status(written: Result<(), SinkFault>) -> Status
+pub(crate) fn written_status(written: Result<(), SinkFault>) -> Status
     ensures { result ≡ written_status written }
 {
     match written {

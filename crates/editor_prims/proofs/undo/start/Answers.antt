@@ -4,7 +4,7 @@ use Rattle.text_model.specs.Undo.{started}
 use Rattle.text_model.specs.Commit.{Buffer}
 use Rattle.editor_model.specs.Editor.{buffer_at, change_buffer}
 use Rattle.buffer_table.specs.Kept.{editor_of}
-use Rattle.editor_prims.proofs.Changing.{changed_alike}
+use Rattle.editor_model.proofs.OneBuffer.{changed_alike}
 use Rattle.editor_prims.proofs.undo.start.Goals as goal
 
 pub returns : goal.returns

@@ -4,7 +4,7 @@ use Rattle.plain_machine.specs.Forms.{evaluate}
 use Rattle.ek_types.specs.Listing.{items_of}
 use Rattle.ek_call.specs.Meaning.{arg_of, view}
 use Rattle.kernel_steps.proofs.Evaluating.{prefixed, one_more, none_there, map_more}
-use Rattle.kernel_steps.proofs.arguments.values.Goals as goal
+use Rattle.kernel_steps.proofs.arguments.fill.Goals as goal
 
 pub returns-in_default : goal.returns-in_default
 returns-in_default g c =
