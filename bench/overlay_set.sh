@@ -1,14 +1,19 @@
 #!/bin/sh
-# How long questions and changes of many overlays take, and how the time grows with their number.
+# How much processor time questions and changes of many overlays take, and how it grows with their number.
 #
-# - winners: 2,000,000 calls of `winner`, at the places in turn, among overlays from k to k + 1 that each have a property.
-# - nested, together: a call at each of 64 places among overlays of which each lies in the one before, and among overlays
-#   that all begin at one place. Each call goes over all overlays that cover its place, so the tree doesn't help there:
-#   where twice as many cover it, a call takes twice as long.
-# - at the end, at the front: one character put in, 10,000 times, behind all overlays from k to k + 1 and before them.
-#   An insertion adds to the shift of each part behind it, and goes through those that it cuts.
+# The overlays of one buffer each have a property and stand apart, from k to k + 1; nested, each in the one before; or
+# together, all at one place. Among them:
 #
-# `emacs -Q --batch` does the same beside it where it is installed: 2,000 winners, and the insertions.
+# - winners: 2,000,000 calls of `winner` at the places in turn, where they stand apart; else 64 in the middle, each of which
+#   goes over all overlays that cover it, so that the tree doesn't help there.
+# - insertions of one character, 10,000 times: in front of all overlays, behind all, and where they stand apart at places
+#   that wander in the middle; else there 64 times, since each goes through all overlays that it cuts.
+# - deletions of 64 characters, 64 times, in the middle: each cuts 64 overlays that stand apart, and all others.
+#
+# Twice as many overlays take twice as long where a call goes over all of them, and hardly longer elsewhere.
+#
+# `emacs -Q --batch` and `nvim` do some of it beside it where they are installed, of 8,192 and 16,384 overlays: Emacs all
+# but fewer times, Neovim the changes of extmarks that stand apart.
 #
 #     bench/overlay_set.sh [COUNT ..]        (16384 32768 65536 if none is given)
 set -eu
@@ -22,18 +27,16 @@ scratch_program bench_overlays text_model ek_types overlay_set <<'PROGRAM'
 ghost use Rattle.std.specs.Prelude.{◌≤◌, ◌<◌, ◌+◌, ◌-◌, ◌^◌, All, IfOk};
 ghost use Rattle.bench_overlays.specs.Upto.{EndsUpto};
 
+use bench_clock::used;
 use ek_types::{Mem, NoMemory, PropVal, Sym};
 use overlay_set::Overlays;
-use std::time::Instant;
 use std::{env, io};
 
 const FACE: Sym = Sym(14);
 
-const WINNERS: u32 = 2_000_000;
+const FEW: usize = 64;
 
-const INSERTIONS: usize = 10_000;
-
-/// How overlay `k` of `count` stands.
+/// How overlays stand.
 #[derive(Clone, Copy)]
 enum Shape {
     Apart,
@@ -42,11 +45,25 @@ enum Shape {
 }
 
 impl Shape {
-    fn places(self, k: usize, count: usize) -> (usize, usize) {
+    /// Where overlay `k` of `count` begins and ends.
+    fn places(self, k: usize, count: usize) -> (usize, usize)
+        requires within { k < count }
+        requires small { count < 2 ^ 32 }
+        ensures ordered { result.0 ≤ result.1 }
+        ensures upto { result.1 ≤ count + count }
+    {
         match self {
-            Shape::Apart => (k, k.saturating_add(1)),
-            Shape::Nested => (k, count.saturating_mul(2).saturating_sub(k).max(k)),
-            Shape::Together => (0, k.saturating_add(1)),
+            Shape::Apart => (k, k + 1),
+            Shape::Nested => (k, count + (count - k)),
+            Shape::Together => (count / 2, count / 2 + 1),
+        }
+    }
+
+    /// A place in the middle of the overlays of `count`.
+    fn middle(self, count: usize) -> usize {
+        match self {
+            Shape::Nested => count,
+            _ => count / 2,
         }
     }
 
@@ -55,6 +72,32 @@ impl Shape {
             Shape::Apart => "apart",
             Shape::Nested => "nested",
             Shape::Together => "together",
+        }
+    }
+}
+
+/// Where characters are put in.
+#[derive(Clone, Copy)]
+enum Way {
+    Front,
+    End,
+    Wandering,
+}
+
+impl Way {
+    fn place(self, i: usize, middle: usize, most: usize) -> usize {
+        match self {
+            Way::Front => 0,
+            Way::End => most,
+            Way::Wandering => middle.saturating_add(i.wrapping_mul(7) % 41).saturating_sub(20),
+        }
+    }
+
+    fn name(self) -> &'static str {
+        match self {
+            Way::Front => "insertions in front",
+            Way::End => "insertions behind all",
+            Way::Wandering => "insertions in the middle",
         }
     }
 }
@@ -68,7 +111,9 @@ fn with_face(overlays: &mut Overlays, from: usize, to: usize) -> Mem<()> {
     overlays.put(k, FACE, Some(&PropVal::Truth))
 }
 
-fn overlays_of(rt: &HostRuntime, shape: Shape, count: usize) -> Mem<Overlays> {
+fn faces(rt: &HostRuntime, shape: Shape, count: usize) -> Mem<Overlays>
+    requires { count < 2 ^ 32 }
+{
     let mut overlays = Overlays::new(rt.alloc());
     for k in 0..count {
         let (from, to) = shape.places(k, count);
@@ -77,30 +122,15 @@ fn overlays_of(rt: &HostRuntime, shape: Shape, count: usize) -> Mem<Overlays> {
     Ok(overlays)
 }
 
-fn winners(rt: &HostRuntime, shape: Shape, count: u32, calls: u32, step: u32) -> io::Result<()> {
-    let Ok(overlays) = overlays_of(rt, shape, count as usize) else {
-        return println!(rt; "no memory");
-    };
-    let mut right = 0u32;
-    let start = Instant::now(rt)?;
-    for i in 0..calls {
-        let place = i.wrapping_mul(step) % count.max(1);
-        if overlays.winner(0, place as usize, FACE) == Some(place) {
-            right = right.saturating_add(1);
-        }
-    }
-    let time = start.elapsed(rt)?.as_millis();
-    println!(rt; "overlay_set {} {count}: {calls} winners {time} ms, {right} of them right", shape.name())
-}
-
-/// Overlays from k to k + 1.
-fn apart(rt: &HostRuntime, count: usize) -> Mem<Overlays>
+/// The same without faces, and no place behind twice their number.
+fn plain(rt: &HostRuntime, shape: Shape, count: usize) -> Mem<Overlays>
     requires { count < 2 ^ 32 - 1 }
-    ensures { IfOk result (λ overlays. All (EndsUpto count) overlays) }
+    ensures { IfOk result (λ overlays. All (EndsUpto (count + count)) overlays) }
 {
     let mut overlays = Overlays::new(rt.alloc());
     for k in 0..count {
-        overlays.make(0, k, k + 1, false, false)?;
+        let (from, to) = shape.places(k, count);
+        overlays.make(0, from, to, false, false)?;
     }
     Ok(overlays)
 }
@@ -108,46 +138,95 @@ fn apart(rt: &HostRuntime, count: usize) -> Mem<Overlays>
 /// One character put in where no place is behind `most`.
 fn put_in(overlays: &mut Overlays, at: usize, most: usize)
     requires upto { All (EndsUpto most) overlays.old }
-    requires room { most < 2 ^ 33 }
+    requires room { most < 2 ^ 34 }
     ensures { All (EndsUpto (most + 1)) overlays.new }
 {
     overlays.note_insert(0, at, 1, false);
 }
 
-fn insertions(rt: &HostRuntime, count: u32, at_front: bool) -> io::Result<()> {
-    if count == u32::MAX {
-        return Ok(());
-    }
-    let count = count as usize;
-    let Ok(mut overlays) = apart(rt, count) else {
+fn say(rt: &HostRuntime, shape: Shape, count: usize, times: usize, what: &str, start: u64) -> io::Result<()> {
+    let micros = used(rt)?.saturating_sub(start) / 1000;
+    println!(rt; "overlay_set {} {count}: {times} {what} {micros} us", shape.name())
+}
+
+fn winners(rt: &HostRuntime, shape: Shape, count: usize, times: usize) -> io::Result<()>
+    requires { count < 2 ^ 32 }
+{
+    let start = used(rt)?;
+    let Ok(overlays) = faces(rt, shape, count) else {
         return println!(rt; "no memory");
     };
-    let start = Instant::now(rt)?;
-    for i in 0..INSERTIONS {
-        let most = count + i;
-        let at = if at_front { 0 } else { most };
-        put_in(&mut overlays, at, most);
+    say(rt, shape, count, count, "made", start)?;
+    let mut found = 0usize;
+    let start = used(rt)?;
+    for i in 0..times {
+        let place = match shape {
+            Shape::Apart => i % count.max(1),
+            _ => shape.middle(count),
+        };
+        if overlays.winner(0, place, FACE).is_some() {
+            found = found.saturating_add(1);
+        }
     }
-    let time = start.elapsed(rt)?.as_millis();
-    let way = if at_front { "front" } else { "end" };
-    println!(rt; "overlay_set apart {count}: {INSERTIONS} insertions at the {way} {time} ms")
+    say(rt, shape, count, found, "winners", start)
+}
+
+fn insertions(rt: &HostRuntime, shape: Shape, count: usize, way: Way, times: usize) -> io::Result<()>
+    requires count { count < 2 ^ 32 - 1 }
+    requires times { times < 2 ^ 32 }
+{
+    let Ok(mut overlays) = plain(rt, shape, count) else {
+        return println!(rt; "no memory");
+    };
+    let start = used(rt)?;
+    for i in 0..times {
+        let most = count + count + i;
+        put_in(&mut overlays, way.place(i, shape.middle(count), most), most);
+    }
+    say(rt, shape, count, times, way.name(), start)
+}
+
+fn deletions(rt: &HostRuntime, shape: Shape, count: usize) -> io::Result<()>
+    requires { count < 2 ^ 32 }
+{
+    let Ok(mut overlays) = faces(rt, shape, count) else {
+        return println!(rt; "no memory");
+    };
+    let from = shape.middle(count).saturating_sub(32);
+    let start = used(rt)?;
+    for _i in 0..FEW {
+        overlays.note_delete(0, from, from.saturating_add(64));
+    }
+    say(rt, shape, count, FEW, "deletions", start)
+}
+
+fn measured(rt: &HostRuntime, shape: Shape, count: usize, winners_asked: usize, cuts: usize) -> io::Result<()>
+    requires count { count < 2 ^ 32 - 1 }
+    requires cuts { cuts < 2 ^ 32 }
+{
+    winners(rt, shape, count, winners_asked)?;
+    insertions(rt, shape, count, Way::Front, 10_000)?;
+    insertions(rt, shape, count, Way::End, 10_000)?;
+    insertions(rt, shape, count, Way::Wandering, cuts)?;
+    deletions(rt, shape, count)
 }
 
 fn main(rt: HostRuntime) -> io::Result<()> {
     for word in env::args(&rt)? {
-        if let Ok(count) = word.parse::<u32>() {
-            winners(&rt, Shape::Apart, count, WINNERS, 1)?;
-            winners(&rt, Shape::Nested, count, 64, count / 64)?;
-            winners(&rt, Shape::Together, count, 64, count / 64)?;
-            insertions(&rt, count, false)?;
-            insertions(&rt, count, true)?;
+        let Ok(count) = word.parse::<u32>() else {
+            continue;
+        };
+        if count < u32::MAX {
+            measured(&rt, Shape::Apart, count as usize, 2_000_000, 10_000)?;
+            measured(&rt, Shape::Nested, count as usize, FEW, FEW)?;
+            measured(&rt, Shape::Together, count as usize, FEW, FEW)?;
         }
     }
     Ok(())
 }
 PROGRAM
 
-mkdir -p specs proofs/put_in proofs/apart proofs/insertions
+mkdir -p specs proofs/put_in proofs/plain proofs/insertions
 cat > specs/Lib.antt <<'PROOF'
 pub mod Upto
 PROOF
@@ -216,13 +295,13 @@ note_insert-requires c = all_room 0 c.args.most c.args.overlays.now (omega (arit
 pub returns : goal.returns
 returns c = rw c.note_insert.ensures (all_upto 0 c.args.at c.args.most c.args.overlays.now c.requires.upto)
 PROOF
-cat > proofs/apart/Invariants.antt <<'PROOF'
-use Rattle.std.proofs.Common.{◌≡◌, All, length}
+cat > proofs/plain/Invariants.antt <<'PROOF'
+use Rattle.std.proofs.Common.{◌≡◌, ◌+◌, All, length}
 use Rattle.bench_overlays.specs.Upto.{EndsUpto}
-use Rattle.bench_overlays.proofs.apart.Given as goal
+use Rattle.bench_overlays.proofs.plain.Given as goal
 
 abbrev pub invariant-loop-k : goal.invariant-loop-k
-invariant-loop-k l = record { made : length l.overlays ≡ l.k; upto : All (EndsUpto l.count) l.overlays }
+invariant-loop-k l = record { made : length l.overlays ≡ l.k; upto : All (EndsUpto (l.count + l.count)) l.overlays }
 PROOF
 cat > proofs/insertions/Invariants.antt <<'PROOF'
 use Rattle.std.proofs.Common.{All, ◌+◌}
@@ -230,29 +309,125 @@ use Rattle.bench_overlays.specs.Upto.{EndsUpto}
 use Rattle.bench_overlays.proofs.insertions.Given as goal
 
 abbrev pub invariant-loop-i : goal.invariant-loop-i
-invariant-loop-i l = All (EndsUpto (l.count + l.i)) l.overlays
+invariant-loop-i l = All (EndsUpto (l.count + l.count + l.i)) l.overlays
 PROOF
 
-RT_SECONDS=3600 quietly rt run -- $counts
+proved $counts
 
-if ! command -v emacs > /dev/null; then
+if command -v emacs > /dev/null; then
+    cat > "$work/overlays.el" <<'LISP'
+;; -*- lexical-binding: t -*-
+(defun places (shape k count)
+  (pcase shape
+    ('apart (cons (+ k 1) (+ k 2)))
+    ('nested (cons (+ k 1) (1+ (- (* 2 count) k))))
+    ('together (cons (1+ (/ count 2)) (+ (/ count 2) 2)))))
+
+(defun in-the-middle (shape count)
+  (1+ (if (eq shape 'nested) count (/ count 2))))
+
+(defun made (shape count)
+  (erase-buffer)
+  (remove-overlays)
+  (insert (make-string (* 2 count) ?x))
+  (dotimes (k count)
+    (let ((place (places shape k count)))
+      (overlay-put (make-overlay (car place) (cdr place)) 'face t))))
+
+(defmacro told (shape count times what &rest body)
+  `(let ((start (float-time (get-internal-run-time))))
+     ,@body
+     (princ (format "emacs %s %d: %d %s %d us\n" ,shape ,count ,times ,what
+                    (* 1000000 (- (float-time (get-internal-run-time)) start))))))
+
+(defun measured (shape count winners insertions cuts)
+  (with-temp-buffer
+    (buffer-disable-undo)
+    (told shape count count "made" (made shape count))
+    (told shape count winners "winners"
+          (dotimes (i winners)
+            (get-char-property (if (eq shape 'apart) (1+ (% i count)) (in-the-middle shape count)) 'face)))
+    (dolist (way '(front end middle))
+      (made shape count)
+      (let ((times (if (eq way 'middle) cuts insertions))
+            (middle (in-the-middle shape count)))
+        (told shape count times (format "insertions (%s)" way)
+              (dotimes (i times)
+                (goto-char (pcase way
+                             ('front (point-min))
+                             ('end (point-max))
+                             (_ (+ middle (% (* 7 i) 41) -20))))
+                (insert "x")))))
+    (made shape count)
+    (let ((from (- (in-the-middle shape count) 32)))
+      (told shape count 64 "deletions"
+            (dotimes (_ 64)
+              (delete-region from (+ from 64)))))))
+
+(byte-compile 'measured)
+(dolist (count '(8192 16384))
+  (measured 'apart count 2000 1000 1000)
+  (measured 'nested count 64 1000 64)
+  (measured 'together count 64 1000 64))
+LISP
+    times_over emacs -Q --batch -l "$work/overlays.el"
+else
     echo "emacs is not installed here"
-    exit 0
 fi
-for count in $counts; do
-    emacs -Q --batch --eval "
-(with-temp-buffer
-  (insert (make-string (1+ $count) ?x))
-  (dotimes (k $count)
-    (overlay-put (make-overlay (+ k 1) (+ k 2)) 'face t))
-  (let ((start (float-time)))
-    (dotimes (i 2000)
-      (get-char-property (1+ (* i (/ $count 2000))) 'face))
-    (princ (format \"emacs apart $count: 2000 winners %d ms\n\" (* 1000 (- (float-time) start)))))
-  (dolist (way '(end front))
-    (let ((start (float-time)))
-      (dotimes (i 10000)
-        (goto-char (if (eq way 'end) (point-max) (point-min)))
-        (insert \"x\"))
-      (princ (format \"emacs apart $count: 10000 insertions at the %s %d ms\n\" way (* 1000 (- (float-time) start)))))))"
-done
+
+if command -v nvim > /dev/null; then
+    cat > "$work/overlays.lua" <<'LUA'
+local space = vim.api.nvim_create_namespace('bench')
+
+local function told(count, times, what, work)
+  local start = os.clock()
+  for i = 1, times do
+    work(i)
+  end
+  io.write(string.format('nvim apart %d: %d %s %d us\n', count, times, what, (os.clock() - start) * 1000000))
+end
+
+local function with_marks(count)
+  local buffer = vim.api.nvim_create_buf(false, true)
+  vim.bo[buffer].undolevels = -1
+  vim.api.nvim_buf_set_lines(buffer, 0, -1, false, { string.rep('x', 2 * count) })
+  return buffer
+end
+
+local function mark(buffer, k)
+  vim.api.nvim_buf_set_extmark(buffer, space, 0, k, { end_row = 0, end_col = k + 1, hl_group = 'Search' })
+end
+
+local function marked(count)
+  local buffer = with_marks(count)
+  for k = 0, count - 1 do
+    mark(buffer, k)
+  end
+  return buffer
+end
+
+for _, count in ipairs({ 8192, 16384 }) do
+  local buffer = with_marks(count)
+  told(count, count, 'made', function(k) mark(buffer, k - 1) end)
+  local places = {
+    { 'front', function() return 0 end },
+    { 'end', function(i) return 2 * count + i - 1 end },
+    { 'middle', function(i) return count / 2 + (7 * i) % 41 - 20 end },
+  }
+  for _, place in ipairs(places) do
+    local changed = marked(count)
+    told(count, 1000, 'insertions (' .. place[1] .. ')', function(i)
+      local at = place[2](i)
+      vim.api.nvim_buf_set_text(changed, 0, at, 0, at, { 'x' })
+    end)
+  end
+  local cut = marked(count)
+  told(count, 64, 'deletions', function()
+    vim.api.nvim_buf_set_text(cut, 0, count / 2 - 32, 0, count / 2 + 32, {})
+  end)
+end
+LUA
+    times_over nvim --clean --headless -l "$work/overlays.lua"
+else
+    echo "nvim is not installed here"
+fi

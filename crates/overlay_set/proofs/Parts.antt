@@ -1,6 +1,6 @@
 -- Parts of a list of entries, and parts of which nothing counts.
 use Rattle.std.proofs.lemmas.Bool.{and_parts, eqb-true}
-use Rattle.std.proofs.Common.{◌≡◌, ℕ, Bool, true, false, not, ◌==◌, ◌&&◌, List, [], ◌∷◌, ◌++◌, All, filter, Box, Global, refl, ap, sym, ◌∙◌, subst}
+use Rattle.std.proofs.Common.{◌≡◌, ℕ, ◌+◌, ◌%◌, ◌^◌, Bool, true, false, not, ◌==◌, ◌&&◌, List, [], ◌∷◌, ◌++◌, map, All, filter, Box, Global, refl, ap, sym, ◌∙◌, subst}
 use Rattle.std.specs.List.{flat_map}
 use Rattle.std.proofs.lemmas.List.Elements.{All-nil, All-cons, All-head, All-tail, All-append, All-weaker, All-map}
 use Rattle.overlay_set.specs.Entries.{Holds, HasBounds, entries_in, entries_of, is_same, without, raised}
@@ -9,7 +9,7 @@ use Rattle.overlay_set.specs.declared.bounds.Bounds.{Bounds}
 use Rattle.overlay_set.specs.declared.tree.Link.{Link}
 use Rattle.overlay_set.specs.declared.tree.Link.TheVariants.{Full}
 use Rattle.overlay_set.specs.declared.tree.Node.{Node}
-use Rattle.overlay_set.proofs.Shifts.{All-unmap}
+use Rattle.overlay_set.proofs.Shifts.{All-unmap, node_at, three_raised}
 
 pub all_left : (P : Entry → Type 0) (xs : List Entry) (e : Entry) (ys : List Entry) → All P (xs ++ e ∷ ys) → All P xs
 all_left P [] e ys h = All-nil P
@@ -53,8 +53,15 @@ filter_none p (x ∷ xs) h = let e : p x ≡ false = All-head (λ e. p e ≡ fal
 pub none_passes : (p : Entry → Bool) (b : Bounds) (r : Bool) (xs : List Entry) → ((e : Entry) → Holds b e → p e ≡ true → r ≡ true) → r ≡ false → All (Holds b) xs → All (λ e. p e ≡ false) xs
 none_passes p b r xs h k all = All-weaker (Holds b) (λ e. p e ≡ false) (λ e held. fails (p e) r (h e held) k) xs all
 
-pub none_found : (p : Entry → Bool) (b : Bounds) (r : Bool) (xs : List Entry) → ((e : Entry) → Holds b e → p e ≡ true → r ≡ true) → r ≡ false → All (Holds b) xs → filter p xs ≡ []
-none_found p b r xs h k all = filter_none p xs (none_passes p b r xs h k all)
+none_raised : (p : Entry → Bool) (b : Bounds) (by : ℕ) (r : Bool) (xs : List Entry) → ((e : Entry) → Holds b e → p (raised by e) ≡ true → r ≡ true) → r ≡ false → All (Holds b) xs → filter p (map (raised by) xs) ≡ []
+none_raised p b by r xs h k all = filter_none p (map (raised by) xs) (All-map (λ e. p e ≡ false) (raised by) xs (none_passes (λ e. p (raised by e)) b r xs h k all))
+
+-- of a tree seen from a base
+pub none_at : (p : Entry → Bool) (root : Link) (top : Box Node Global) (n : Node) (now : List Entry) (base by : ℕ) (r : Bool) → root ≡ Full top → HasBounds root → entries_of root ≡ now → n ≡ top.value → by ≡ (base + n.shift) % 2 ^ 64 →
+    ((e : Entry) → Holds n.bounds e → p (raised by e) ≡ true → r ≡ true) → r ≡ false → filter p (map (raised base) now) ≡ []
+none_at p root top n now base by r e k v d h more fails =
+    let own : All (Holds n.bounds) (n.left ++ n.entry ∷ n.right) = subst (λ (m : Node). All (Holds m.bounds) (m.left ++ m.entry ∷ m.right)) (sym d) (subst HasBounds e k) in
+    ap (filter p) (node_at root top n now base by e v d h ∙ sym (three_raised by n.left n.entry n.right)) ∙ none_raised p n.bounds by r (n.left ++ n.entry ∷ n.right) more fails own
 
 pub filter_all : (p : Entry → Bool) (xs : List Entry) → All (λ e. p e ≡ true) xs → filter p xs ≡ xs
 filter_all p [] h = refl

@@ -233,11 +233,13 @@ impl Bounds {
             && self.ends.holds(end)
     }
 
-    /// Whether an entry may pass a test.
-    pub(crate) fn may_pass(self, buffer: u32, question: Question) -> bool
-        ensures { (e : Entry) → Holds self e → passes buffer question e ≡ true → result ≡ true }
+    /// Whether an entry may pass a test when its places are counted from a shift.
+    pub(crate) fn may_pass(&self, buffer: u32, question: Question, by: usize) -> bool
+        ensures { (e : Entry) → Holds self.now e → passes buffer question (raised by e) ≡ true →
+            result ≡ true }
     {
-        self.buffers.holds(buffer as usize) && question.may_pass(self.starts.least, self.ends.most)
+        self.buffers.holds(buffer as usize)
+            && question.may_pass(self.starts.raised(by).least, self.ends.raised(by).most)
     }
 
     /// Whether a change of the buffer may move an entry.

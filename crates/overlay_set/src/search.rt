@@ -82,7 +82,7 @@ impl Tree {
             Link::Full(node) => {
                 let node: &Node = node;
                 let by = base.wrapping_add(node.shift);
-                if !node.bounds.raised(by).may_pass(buffer, question) {
+                if !node.bounds.may_pass(buffer, question, by) {
                     return Ok(());
                 }
                 node.left.found_from(buffer, question, by, numbers)?;
@@ -99,38 +99,40 @@ impl Tree {
             (strongest buffer i name.0 (map bare_of slots.now) None self.now) }
     {
         let _ = &self.root;
-        let entry = self.winner_from(slots, buffer, i, name, None, 0)?;
-        Some(entry.number)
+        let mut best = None;
+        self.winner_from(slots, buffer, i, name, 0, &mut best);
+        Some(best?.number)
     }
 
-    /// Of the entries that cover a place of a buffer and have a property, and of the best so far, the one that wins, where
-    /// places are counted from a base.
+    /// Puts in the place of the best so far the one that wins of it and the entries that cover a place of a buffer and have
+    /// a property, where places are counted from a base.
     fn winner_from(
         &self,
         slots: &[Slot],
         buffer: u32,
         i: usize,
         name: Sym,
-        best: Option<Entry>,
         base: usize,
-    ) -> Option<Entry>
+        best: &mut Option<Entry>,
+    )
         requires made { All (IsMade (length slots.now)) self.now }
-        requires best { All (IsMade (length slots.now)) (option_to_list best) }
-        ensures exact { result ≡ strongest buffer i name.0 (map bare_of slots.now) best
+        requires best { All (IsMade (length slots.now)) (option_to_list best.old) }
+        ensures exact { best.new ≡ strongest buffer i name.0 (map bare_of slots.now) best.old
             (map (raised base) self.now) }
-        ensures made { All (IsMade (length slots.now)) (option_to_list result) }
+        ensures made { All (IsMade (length slots.now)) (option_to_list best.new) }
     {
         match &self.root {
-            Link::Empty => best,
+            Link::Empty => {}
             Link::Full(node) => {
                 let node: &Node = node;
                 let by = base.wrapping_add(node.shift);
-                if !node.bounds.raised(by).may_pass(buffer, Question::At { i }) {
-                    return best;
+                if !node.bounds.may_pass(buffer, Question::At { i }, by) {
+                    return;
                 }
-                let best = node.left.winner_from(slots, buffer, i, name, best, by);
-                let best = stronger_where(slots, node.entry.raised(by), buffer, i, name, best);
-                node.right.winner_from(slots, buffer, i, name, best, by)
+                node.left.winner_from(slots, buffer, i, name, by, best);
+                let entry = node.entry.raised(by);
+                *best = stronger_where(slots, entry, buffer, i, name, *best);
+                node.right.winner_from(slots, buffer, i, name, by, best);
             }
         }
     }
