@@ -52,6 +52,7 @@ fn decode(table: &mut Processes, p: u32, got: &Got, bytes: &[u8], out: &mut Char
 {
     // Read for what it ensures: at most 3 bytes are held.
     let _held = table.get(p).held();
+    process_table::output_stands();
     match got {
         Got::Bytes(_) => table.feed(p, bytes, out),
         Got::End | Got::Failed => table.drain(p, out),

@@ -9,7 +9,6 @@ mod log;
 mod memory_host;
 mod play;
 mod recorder;
-#[cfg(test)]
 mod shown;
 
 pub use asking::{Answer, Answers, Ask, ByteList, Exchange, Exchanges, WordList};

@@ -1,67 +1,66 @@
-//! Exchanges as text, for tests.
-use crate::asking::{Answer, Ask, Exchange, Exchanges};
-use std::alloc::{AllocError, Global};
+//! Exchanges as text: `read 0: bytes abc`, with no end of line.
+use crate::asking::{Answer, Ask, ByteList, Exchange};
+use std::fmt;
 
-fn push_bytes(alloc: Global, text: &mut String, bytes: &[u8]) -> Result<(), AllocError> {
-    let part = String::from_utf8_lossy(alloc, bytes)?;
-    text.push_str(part.as_str())
+/// Bytes as the text that they are; bytes that aren't UTF-8 with an escape for each byte that isn't printable ASCII.
+#[derive(Clone, Copy)]
+struct ByteText<'a>(&'a [u8]);
+
+fn shown(bytes: &ByteList) -> ByteText<'_> {
+    ByteText(bytes.as_slice())
 }
 
-fn push_ask(alloc: Global, text: &mut String, ask: &Ask) -> Result<(), AllocError> {
-    match ask {
-        Ask::Spawn(program, args) => {
-            text.push_str("spawn ")?;
-            push_bytes(alloc, text, program.as_slice())?;
-            for i in 0..args.len() {
-                text.push_str(" ")?;
-                push_bytes(alloc, text, args.at(i).as_slice())?;
+impl<'a> fmt::Display for ByteText<'a> {
+    fn fmt<W: fmt::Write>(&self, f: &mut fmt::Formatter<W>) -> fmt::Result {
+        match str::from_utf8(self.0) {
+            Ok(text) => f.write_str(text),
+            Err(_) => write!(f, "{}", self.0.escape_ascii()),
+        }
+    }
+}
+
+impl fmt::Display for Ask {
+    fn fmt<W: fmt::Write>(&self, f: &mut fmt::Formatter<W>) -> fmt::Result {
+        match self {
+            Ask::Spawn(program, args) => {
+                write!(f, "spawn {}", shown(program))?;
+                for arg in args.as_slice() {
+                    write!(f, " {}", shown(arg))?;
+                }
+                Ok(())
             }
-            Ok(())
+            Ask::Read(child) => write!(f, "read {child}"),
+            Ask::End(child) => write!(f, "end {child}"),
+            Ask::Send(child, bytes) => write!(f, "send {child} {}", shown(bytes)),
+            Ask::Close(child) => write!(f, "close {child}"),
+            Ask::Kill(child) => write!(f, "kill {child}"),
         }
-        Ask::Read(child) => write!(text, "read {child}"),
-        Ask::End(child) => write!(text, "end {child}"),
-        Ask::Send(child, bytes) => {
-            write!(text, "send {child} ")?;
-            push_bytes(alloc, text, bytes.as_slice())
-        }
-        Ask::Close(child) => write!(text, "close {child}"),
-        Ask::Kill(child) => write!(text, "kill {child}"),
     }
 }
 
-fn push_answer(alloc: Global, text: &mut String, answer: &Answer) -> Result<(), AllocError> {
-    match answer {
-        Answer::Started(child) => write!(text, "started {child}"),
-        Answer::Refused => text.push_str("refused"),
-        Answer::Bytes(bytes) => {
-            text.push_str("bytes ")?;
-            push_bytes(alloc, text, bytes.as_slice())
+impl fmt::Display for Answer {
+    fn fmt<W: fmt::Write>(&self, f: &mut fmt::Formatter<W>) -> fmt::Result {
+        match self {
+            Answer::Started(child) => write!(f, "started {child}"),
+            Answer::Refused => f.write_str("refused"),
+            Answer::Bytes(bytes) => write!(f, "bytes {}", shown(bytes)),
+            Answer::Nothing => f.write_str("nothing"),
+            Answer::End => f.write_str("end"),
+            Answer::Code(code) => write!(f, "code {code}"),
+            Answer::Signal => f.write_str("signal"),
+            Answer::Running => f.write_str("running"),
+            Answer::Sent => f.write_str("sent"),
+            Answer::Broken => f.write_str("broken"),
+            Answer::Closed => f.write_str("closed"),
+            Answer::Killed => f.write_str("killed"),
+            Answer::Failed => f.write_str("failed"),
         }
-        Answer::Nothing => text.push_str("nothing"),
-        Answer::End => text.push_str("end"),
-        Answer::Code(code) => write!(text, "code {code}"),
-        Answer::Signal => text.push_str("signal"),
-        Answer::Running => text.push_str("running"),
-        Answer::Sent => text.push_str("sent"),
-        Answer::Broken => text.push_str("broken"),
-        Answer::Closed => text.push_str("closed"),
-        Answer::Killed => text.push_str("killed"),
-        Answer::Failed => text.push_str("failed"),
     }
 }
 
-fn push_exchange(alloc: Global, text: &mut String, exchange: &Exchange) -> Result<(), AllocError> {
-    push_ask(alloc, text, &exchange.ask)?;
-    text.push_str(": ")?;
-    push_answer(alloc, text, &exchange.answer)?;
-    text.push_str("\n")
-}
-
-/// A line for each exchange.
-pub(crate) fn shown(alloc: Global, list: &Exchanges) -> Result<String, AllocError> {
-    let mut text = String::new(alloc);
-    for i in 0..list.len() {
-        push_exchange(alloc, &mut text, list.at(i))?;
+impl fmt::Display for Exchange {
+    fn fmt<W: fmt::Write>(&self, f: &mut fmt::Formatter<W>) -> fmt::Result {
+        let Exchange { ask, answer } = self;
+        write!(f, "{ask}: {answer}")
     }
-    Ok(text)
 }

@@ -43,11 +43,6 @@ changed_stands p f g table s alike stands = go (process s p) refl
         ∙ sym (map-set kept s.processes p (g x))
         ∙ ap (map kept) (sym (changed_process s p g x e))
 
--- a change that the machine makes in the same words
-pub written_stands : (items table : List Process) (p : ℕ) (x new : Process) (f g : Process → Process) → items ≡ table → p < length table → x ≡ get_or items p x → new ≡ f x → ((y : Process) → f (kept y) ≡ kept (g y)) → (s : State) → StandsFor table s.processes → StandsFor (slice_set items p new) (change_process p g s).processes
-written_stands items table p x new f g seen within read is alike s stands =
-    written items table p x new f seen within read is ∙ changed_stands p f g table s (λ y e. alike y) stands
-
 -- NAMES THAT DIFFER
 -- neither its name nor whether it is listed was changed
 pub invariant_same : (items : List Process) (p : ℕ) (x new : Process) → (length items ≤ 256) × NamesDiffer items → p < length items → x ≡ get_or items p x → key new ≡ key x → (length (slice_set items p new) ≤ 256) × NamesDiffer (slice_set items p new)

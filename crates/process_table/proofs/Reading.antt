@@ -1,5 +1,5 @@
 -- Output that is read: what the program's decoder makes of the tail is what the machine makes of all bytes.
-use Rattle.std.proofs.Common.{◌≡◌, ℕ, ◌+◌, ◌<◌, false, List, [], ◌++◌, length, drop, get_or, ap, sym, ◌∙◌, arith}
+use Rattle.std.proofs.Common.{◌≡◌, ℕ, ◌+◌, ◌<◌, false, List, [], ◌++◌, length, drop, get_or, true, refl, ap, sym, ◌∙◌, arith}
 use Rattle.std.specs.Prelude.{if◌then◌else◌, slice_set, Option, Some, None, option_map}
 use Rattle.std.proofs.Common.{append-nil}
 use Rattle.std.proofs.Math.Seq.{drop-append_seam}
@@ -9,7 +9,7 @@ use Rattle.text_model.specs.Decoding.{characters, tail, all_characters}
 use Rattle.text_model.proofs.Decodings.{open_law, tail_law, all_law}
 use Rattle.plain_machine.specs.State.{State, Process, process, change_process}
 use Rattle.plain_machine.specs.Waits.{more_characters}
-use Rattle.process_table.specs.Table.{kept, StandsFor, changed, held_by, with_held}
+use Rattle.process_table.specs.Table.{kept, StandsFor, changed, held_by, with_held, with_drained}
 use Rattle.process_table.proofs.Changing.{changed_stands, read_process, written}
 
 -- THE BYTES HELD
@@ -41,9 +41,9 @@ fed_stands table s p x new stands there reads =
         ap (λ b. record y { bytes = b })
         (ap (λ b. tail (b ++ new)) (held_stands table s p x stands there reads) ∙ sym (tail_law x.bytes new) ∙ ap (λ d. if d then [] else tail (x.bytes ++ new)) (sym open_still))
 
-pub fed_heard : (table : List Process) (s : State) (p : ℕ) (x : Process) (new : List ℕ) (out : List Ch) → StandsFor table s.processes → process s p ≡ Some x → x.drained ≡ false → out ++ characters (held_by table p ++ new) ≡ out ++ more_characters (characters x.bytes) (characters (x.bytes ++ new))
-fed_heard table s p x new out stands there reads =
-    ap (λ b. out ++ characters (b ++ new)) (held_stands table s p x stands there reads) ∙ ap (λ t. out ++ t) (sym (more_read x.bytes new))
+pub fed_text : (table : List Process) (s : State) (p : ℕ) (x : Process) (new : List ℕ) → StandsFor table s.processes → process s p ≡ Some x → x.drained ≡ false → characters (held_by table p ++ new) ≡ more_characters (characters x.bytes) (characters (x.bytes ++ new))
+fed_text table s p x new stands there reads =
+    ap (λ b. characters (b ++ new)) (held_stands table s p x stands there reads) ∙ sym (more_read x.bytes new)
 
 -- THE END OF OUTPUT
 pub more_drained : (old : List ℕ) → more_characters (characters old) (all_characters old) ≡ all_characters (tail old)
@@ -51,9 +51,11 @@ more_drained old =
     let whole : all_characters old ≡ characters old ++ all_characters (tail old) = ap all_characters (sym (append-nil old)) ∙ all_law old [] ∙ ap (λ t. characters old ++ all_characters t) (append-nil (tail old)) in
     ap (drop (length (characters old))) whole ∙ drop-append_seam (characters old) (all_characters (tail old))
 
-pub drained_heard : (table : List Process) (s : State) (p : ℕ) (x : Process) (out : List Ch) → StandsFor table s.processes → process s p ≡ Some x → x.drained ≡ false → out ++ all_characters (held_by table p) ≡ out ++ more_characters (characters x.bytes) (all_characters x.bytes)
-drained_heard table s p x out stands there reads =
-    ap (λ b. out ++ all_characters b) (held_stands table s p x stands there reads) ∙ ap (λ t. out ++ t) (sym (more_drained x.bytes))
+pub drained_stands : (table : List Process) (s : State) (p : ℕ) → StandsFor table s.processes → StandsFor (changed p with_drained table) (change_process p (λ y. record y { drained = true }) s).processes
+drained_stands table s p stands = changed_stands p with_drained (λ y. record y { drained = true }) table s (λ y there. refl) stands
+
+pub drained_text : (table : List Process) (s : State) (p : ℕ) (x : Process) → StandsFor table s.processes → process s p ≡ Some x → x.drained ≡ false → all_characters (held_by table p) ≡ more_characters (characters x.bytes) (all_characters x.bytes)
+drained_text table s p x stands there reads = ap all_characters (held_stands table s p x stands there reads) ∙ sym (more_drained x.bytes)
 
 -- IN THE TABLE
 -- a process of the table, and what a call of it said of the bytes that it held

@@ -3,9 +3,6 @@ use Rattle.std.proofs.Common.{◌≡◌, ℕ, zero, suc, ◌+◌, ◌<◌, Bool,
 use Rattle.std.specs.Prelude.{Option, Some, None, is_some, unwrap_or, Result, Ok, Err, IfOk}
 use Rattle.std.specs.Option.{ok_or}
 use Rattle.std.proofs.lemmas.List.{length-map}
-use Rattle.text_model.specs.Characters.{Ch}
-use Rattle.text_model.specs.Properties.{Cell}
-use Rattle.ek_types.specs.Listing.{Roomy}
 use Rattle.editor_model.specs.Values.{Value, Nil, T, Int, Sym, Str, Items, Dotted, TheBuffer, TheMarker, TheOverlay, TheProcess, WrongType, NoSuchProcess}
 use Rattle.editor_model.specs.Answers.{first_fault, refuse}
 use Rattle.editor_model.specs.Editor.{Name, numbered_name}
@@ -64,17 +61,6 @@ found_made table n o r found is = subst (λ (z : Result ℕ declared.Fault). IfO
     go None e = tt
     go (Some p) e = omega (arith, find_within 0 p table n e)
 
-pub found_resolves : (table : List Process) (t : List Cell) (o : Option ℕ) (r : Result ℕ declared.Fault) → o ≡ find_process 0 table (name_of (Str t)) → r ≡ ok_or o fault.NoSuchProcess → Resolves (with_table table) (Str t) r
-found_resolves table t o r found is = subst (λ (z : Result ℕ declared.Fault). Resolves (with_table table) (Str t) z) (sym is) (go o (sym found))
-  where
-    go : (o : Option ℕ) → find_process 0 table (name_of (Str t)) ≡ o → Resolves (with_table table) (Str t) (ok_or o fault.NoSuchProcess)
-    go None e = ap (λ o. first_fault (refuse WrongType true ∷ refuse NoSuchProcess (is_some o) ∷ [])) e
-    go (Some p) e = (ap (λ o. first_fault (refuse WrongType true ∷ refuse NoSuchProcess (is_some o) ∷ [])) e, ap (λ o. unwrap_or o 0) e)
-
-pub named_resolves : (table : List Process) (v : Value) (t : List Cell) (o : Option ℕ) (r : Result ℕ declared.Fault) → v ≡ Str t → o ≡ find_process 0 table (name_of (Str t)) → r ≡ ok_or o fault.NoSuchProcess → (s : State) → StandsFor table s.processes → Resolves s v r
-named_resolves table v t o r is_name found is s stands =
-    resolves_stands table s v r stands (subst (λ (w : Value). Resolves (with_table table) w r) (sym is_name) (found_resolves table t o r found is))
-
 -- NAMES
 free_stands : (tries n : ℕ) (table all : List Process) (name : Name) → StandsFor table all → free_name tries n table name ≡ free_name tries n all name
 free_stands zero n table all name stands = refl
@@ -93,11 +79,3 @@ name_stands table all name stands =
   where
     choice : Bool → Name → Name
     choice b rest = elim b [ true ↦ rest | false ↦ name ]
-
--- a name that is answered, by what was found under the name itself
-pub named_so : {E : Type 0} (table all : List Process) (name given : Name) (found : Option ℕ) (b : Bool) (result : Result (Roomy Ch) E) → found ≡ find_process 0 table name → is_some found ≡ b → (elim b [ true ↦ free_name (length table) 1 table name | false ↦ name ]) ≡ given → IfOk result (λ n. n.items ≡ given) → StandsFor table all → IfOk result (λ n. n.items ≡ process_name all name)
-named_so table all name given found b (Err e) is test choice named stands = tt
-named_so table all name given found b (Ok n) is test choice named stands =
-    named ∙ sym choice
-    ∙ sym (ap (λ (d : Bool). let k : Name = elim d [ true ↦ free_name (length table) 1 table name | false ↦ name ] in k) (ap is_some (sym is) ∙ test))
-    ∙ name_stands table all name stands

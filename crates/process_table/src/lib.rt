@@ -7,7 +7,7 @@ mod place;
 mod process;
 mod processes;
 
-pub use laws::{changes_stand, processes_stand};
+pub use laws::{answers_stand, changes_stand, output_stands, processes_stand};
 pub use place::Place;
 pub use process::{Filter, Process, Status};
 pub use processes::Processes;

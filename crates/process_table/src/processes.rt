@@ -1,17 +1,16 @@
 //! All processes of a run, by number.
 ghost use Rattle.std.specs.Prelude.{◌≡◌, ◌+◌, ◌<◌, ◌≤◌, [], ◌∷◌, ◌++◌, List, length, map};
-ghost use Rattle.std.specs.Prelude.{option_map, slice_get, Some, None, true, false, OnOk, OnErr};
+ghost use Rattle.std.specs.Prelude.{option_map, slice_get, Some, None, OnOk, OnErr};
 ghost use Rattle.std.specs.Prelude.{IfOk};
 ghost use Rattle.text_model.specs.Decoding.{characters, tail, all_characters};
-ghost use Rattle.plain_machine.specs.State.{State, Process as Meant, process, change_process};
+ghost use Rattle.plain_machine.specs.State.{Process as Meant};
 ghost use Rattle.plain_machine.specs.Arguments.{find_process, free_name, process_name};
 ghost use Rattle.plain_machine.specs.Calls.{with_filter, with_sentinel, of_buffer, with_input_closed};
 ghost use Rattle.plain_machine.specs.Handling.{unlisted};
-ghost use Rattle.plain_machine.specs.Waits.{more_characters};
 ghost use Rattle.ek_types.specs.Property.{number_of};
 ghost use Rattle.ek_call.specs.Meaning.{view};
 ghost use Rattle.process_table.specs.Meaning.{status_of, filter_of};
-ghost use Rattle.process_table.specs.Table.{NamesDiffer, StandsFor, new_process, with_table};
+ghost use Rattle.process_table.specs.Table.{NamesDiffer, new_process, with_table};
 ghost use Rattle.process_table.specs.Table.{changed, held_by, with_status, with_held, with_drained};
 ghost use Rattle.process_table.specs.Resolving.{Resolves, IsMade};
 
@@ -122,8 +121,6 @@ impl Processes {
         requires { IsMade (length self.now) (view v.now) }
         ensures resolves { Resolves (with_table self.now) (view v.now) result }
         ensures made { IfOk result (λ p. p < length self.now) }
-        ensures machine { (s : State) → StandsFor self.now s.processes →
-            Resolves s (view v.now) result }
     {
         match v {
             Value::Process(p) => Ok(*p),
@@ -155,8 +152,6 @@ impl Processes {
     pub fn free_name(&self, name: &Chars) -> Mem<Chars>
         ensures name { IfOk result (λ n. n.items ≡ process_name self.now name.now.items) }
         ensures free { IfOk result (λ n. find_process 0 self.now n.items ≡ None) }
-        ensures machine { (all : List Meant) → StandsFor self.now all →
-            IfOk result (λ n. n.items ≡ process_name all name.now.items) }
     {
         if self.find(name).is_none() {
             name.copy()
@@ -246,14 +241,6 @@ impl Processes {
         ensures count { length self.new ≡ length self.old }
         ensures table { self.new ≡ changed p (with_held (tail (held_by self.old p ++ bytes.now)))
             self.old }
-        ensures machine { (s : State) (x : Meant) → StandsFor self.old s.processes →
-            process s p ≡ Some x → x.drained ≡ false →
-            StandsFor self.new (change_process p (λ y. record y { bytes = x.bytes ++ bytes.now })
-            s).processes }
-        ensures heard { (s : State) (x : Meant) → StandsFor self.old s.processes →
-            process s p ≡ Some x → x.drained ≡ false →
-            out.new.items ≡ out.old.items ++
-            more_characters (characters x.bytes) (characters (x.bytes ++ bytes.now)) }
     {
         self.list[p as usize].feed(bytes, out);
     }
@@ -267,12 +254,6 @@ impl Processes {
         ensures spare { out.new.spare + length (all_characters (held_by self.old p)) ≡ out.old.spare }
         ensures count { length self.new ≡ length self.old }
         ensures table { self.new ≡ changed p with_drained self.old }
-        ensures machine { (s : State) → StandsFor self.old s.processes →
-            StandsFor self.new (change_process p (λ y. record y { drained = true }) s).processes }
-        ensures heard { (s : State) (x : Meant) → StandsFor self.old s.processes →
-            process s p ≡ Some x → x.drained ≡ false →
-            out.new.items ≡ out.old.items ++
-            more_characters (characters x.bytes) (all_characters x.bytes) }
     {
         self.list[p as usize].drain(out);
     }

@@ -3,7 +3,6 @@ ghost use Rattle.std.specs.Prelude.{◌≡◌, [], IfOk};
 use super::*;
 use crate::asking::Answers;
 use crate::recorder::Recorder;
-use crate::shown::shown;
 use ek_types::{Copied, ListOf, NoMemory};
 use std::test::Fail;
 
@@ -27,6 +26,15 @@ fn host(alloc: Global, fails: Vec<u32>) -> Mem<MemoryHost>
     Ok(MemoryHost::new(plays, fails))
 }
 
+/// A line for each exchange.
+fn shown(alloc: Global, list: &Exchanges) -> Mem<String> {
+    let mut text = String::new(alloc);
+    for exchange in list.as_slice() {
+        writeln!(text, "{exchange}")?;
+    }
+    Ok(text)
+}
+
 /// Every kind of call on a host that has one play.
 fn all_calls<H: Host>(alloc: Global, host: &mut H) -> Mem<String>
     requires { (H.state host.old).kills ≡ [] }
@@ -47,7 +55,7 @@ fn all_calls<H: Host>(alloc: Global, host: &mut H) -> Mem<String>
         let _ = host.kill(child);
     }
     match host.told() {
-        Some(list) => Ok(shown(alloc, list)?),
+        Some(list) => shown(alloc, list),
         None => Err(NoMemory),
     }
 }

@@ -1,16 +1,23 @@
-use Rattle.std.proofs.Common.{◌<◌, ◌++◌, ap, ◌∙◌, arith}
+use Rattle.std.proofs.Common.{◌<◌, ◌++◌, true, ap, sym, subst, ◌∙◌, arith}
 use Rattle.std.proofs.lemmas.List.Elements.{All-from_get_or}
-use Rattle.text_model.specs.Decoding.{characters, all_characters}
-use Rattle.plain_machine.specs.Waits.{asked_more, more_characters}
+use Rattle.text_model.specs.Decoding.{all_characters, characters}
+use Rattle.plain_machine.specs.State.{change_process}
+use Rattle.plain_machine.specs.Waits.{asked_more}
+use Rattle.process_table.specs.Table.{StandsFor, held_by}
 use Rattle.handler_run.proofs.Taking.{took_bytes, took_end, took_nothing}
 use Rattle.handler_run.proofs.answers.decode.Goals as goal
 
 pub returns-in-Bytes-clause-machine : goal.returns-in-Bytes-clause-machine
 returns-in-Bytes-clause-machine c = λ empty s x stands found undrained.
-    took_bytes s c.args.p x c.feed.new.self c.feed.new.out.items c.args.got.now c.in-Bytes.field-0 c.args.bytes.now c.in-Bytes.is c.requires.read
-    (All-from_get_or (λ b. b < 256) c.args.bytes.now 0 (λ i h. omega (arith, c.type_inv.bytes i)))
-    (c.feed.ensures.machine (asked_more s) x stands found undrained)
-    (c.feed.ensures.heard (asked_more s) x stands found undrained ∙ ap (λ l. l ++ more_characters (characters x.bytes) (characters (x.bytes ++ c.args.bytes.now))) empty)
+    let p = c.args.p in
+    let bytes = c.args.bytes.now in
+    let now = asked_more s in
+    took_bytes s p x c.feed.new.self c.feed.new.out.items c.args.got.now c.in-Bytes.field-0 bytes c.in-Bytes.is c.requires.read
+    (All-from_get_or (λ b. b < 256) bytes 0 (λ i h. omega (arith, c.type_inv.bytes i)))
+    (subst (λ t. StandsFor t (change_process p (λ y. record y { bytes = x.bytes ++ bytes }) now).processes) (sym c.feed.ensures.table) (c.output_stands.ensures.fed c.args.table.now now p x bytes stands found undrained))
+    (c.feed.ensures.items
+    ∙ ap (λ l. l ++ characters (held_by c.args.table.now p ++ bytes)) empty
+    ∙ c.output_stands.ensures.fed_text c.args.table.now now p x bytes stands found undrained)
 
 pub returns-in-Nothing-clause-machine : goal.returns-in-Nothing-clause-machine
 returns-in-Nothing-clause-machine c = λ empty s x stands found undrained.
@@ -18,6 +25,10 @@ returns-in-Nothing-clause-machine c = λ empty s x stands found undrained.
 
 pub returns-in-End-clause-machine : goal.returns-in-End-clause-machine
 returns-in-End-clause-machine c = λ empty s x stands found undrained.
-    took_end s c.args.p x c.drain.new.self c.drain.new.out.items c.args.got.now c.args.bytes.now c.in-End.is
-    (c.drain.ensures.machine (asked_more s) stands)
-    (c.drain.ensures.heard (asked_more s) x stands found undrained ∙ ap (λ l. l ++ more_characters (characters x.bytes) (all_characters x.bytes)) empty)
+    let p = c.args.p in
+    let now = asked_more s in
+    took_end s p x c.drain.new.self c.drain.new.out.items c.args.got.now c.args.bytes.now c.in-End.is
+    (subst (λ t. StandsFor t (change_process p (λ y. record y { drained = true }) now).processes) (sym c.drain.ensures.table) (c.output_stands.ensures.drained c.args.table.now now p stands))
+    (c.drain.ensures.items
+    ∙ ap (λ l. l ++ all_characters (held_by c.args.table.now p)) empty
+    ∙ c.output_stands.ensures.drained_text c.args.table.now now p x stands found undrained)

@@ -1,8 +1,8 @@
-use Rattle.std.proofs.Common.{◌<◌, length, refl, ap, ◌∙◌, arith, true}
+use Rattle.std.proofs.Common.{◌<◌, length, ap, arith}
 use Rattle.process_table.specs.Table.{with_drained}
-use Rattle.process_table.proofs.Changing.{written, written_stands, invariant_same}
+use Rattle.process_table.proofs.Changing.{written, invariant_same}
 use Rattle.process_table.proofs.Finding.{key}
-use Rattle.process_table.proofs.Reading.{drained_items, drained_spare, drained_heard}
+use Rattle.process_table.proofs.Reading.{drained_items, drained_spare}
 use Rattle.process_table.proofs.processes.Processes.drain.Goals as goal
 
 pub invariant_of-self : goal.invariant_of-self
@@ -18,11 +18,3 @@ returns-clause-spare c = drained_spare _ _ _ c.index_mut.result.now c.self.view_
 
 pub returns-clause-table : goal.returns-clause-table
 returns-clause-table c = written _ _ _ c.index_mut.result.now _ with_drained c.self.view_is c.requires.made c.index_mut.ensures.value c.drain.ensures.process
-
-pub returns-clause-machine : goal.returns-clause-machine
-returns-clause-machine c = written_stands _ _ _ c.index_mut.result.now _ with_drained (λ y. record y { drained = true }) c.self.view_is c.requires.made c.index_mut.ensures.value c.drain.ensures.process (λ y. refl)
-
-pub returns-clause-heard : goal.returns-clause-heard
-returns-clause-heard c = λ s x stands there reads.
-    drained_items _ _ _ c.index_mut.result.now c.self.view_is c.requires.made c.index_mut.ensures.value _ _ c.drain.ensures.items
-    ∙ drained_heard c.args.self.now s c.args.p x c.args.out.now.items stands there reads

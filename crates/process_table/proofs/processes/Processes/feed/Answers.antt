@@ -1,7 +1,7 @@
-use Rattle.std.proofs.Common.{◌<◌, length, ap, ◌∙◌, arith}
+use Rattle.std.proofs.Common.{◌<◌, length, ap, arith}
 use Rattle.process_table.proofs.Changing.{invariant_same}
 use Rattle.process_table.proofs.Finding.{key}
-use Rattle.process_table.proofs.Reading.{fed_items, fed_spare, fed_table, fed_stands, fed_heard}
+use Rattle.process_table.proofs.Reading.{fed_items, fed_spare, fed_table}
 use Rattle.process_table.proofs.processes.Processes.feed.Goals as goal
 
 pub invariant_of-self : goal.invariant_of-self
@@ -17,13 +17,3 @@ returns-clause-spare c = fed_spare _ _ _ c.index_mut.result.now c.self.view_is c
 
 pub returns-clause-table : goal.returns-clause-table
 returns-clause-table c = fed_table _ _ _ c.index_mut.result.now c.self.view_is c.requires.made c.index_mut.ensures.value c.args.bytes.now _ c.feed.ensures.process
-
-pub returns-clause-machine : goal.returns-clause-machine
-returns-clause-machine c = λ s x stands there reads.
-    fed_table _ _ _ c.index_mut.result.now c.self.view_is c.requires.made c.index_mut.ensures.value c.args.bytes.now _ c.feed.ensures.process
-    ∙ fed_stands c.args.self.now s c.args.p x c.args.bytes.now stands there reads
-
-pub returns-clause-heard : goal.returns-clause-heard
-returns-clause-heard c = λ s x stands there reads.
-    fed_items _ _ _ c.index_mut.result.now c.self.view_is c.requires.made c.index_mut.ensures.value c.args.bytes.now _ _ c.feed.ensures.items
-    ∙ fed_heard c.args.self.now s c.args.p x c.args.bytes.now c.args.out.now.items stands there reads
