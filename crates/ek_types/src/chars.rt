@@ -1,7 +1,7 @@
 //! A list of characters with a spare.
 ghost use Rattle.std.specs.Prelude.{◌≡◌, ◌+◌, ◌<◌, ◌≤◌, length, [], ◌∷◌, ◌++◌, OnOk, OnErr, IfOk};
-ghost use Rattle.std.specs.Prelude.{IsOk, slice_get, Some, ◌==◌};
-ghost use Rattle.text_model.specs.Characters.{IsCharacter};
+ghost use Rattle.std.specs.Prelude.{IsOk, slice_get, Some, ◌==◌, map};
+ghost use Rattle.text_model.specs.Characters.{IsCharacter, Scalar};
 ghost use Rattle.ek_types.specs.Seen.{ch_of};
 
 use crate::character::Ch;
@@ -75,6 +75,56 @@ impl Chars {
         ensures spare { self.new.spare + 1 ≡ self.old.spare }
     {
         self.items.push_reserved(c);
+    }
+
+    /// Puts other characters behind these. A refusal leaves them as they were and the spare no smaller.
+    pub fn extend(&mut self, more: &Chars) -> Mem<()>
+        ensures ok { OnOk result (self.new.items ≡ self.old.items ++ more.now.items) }
+        ensures room { OnOk result (self.old.spare ≤ self.new.spare + length more.now.items) }
+        ensures err { OnErr result (self.new.items ≡ self.old.items) }
+        ensures kept { OnErr result (self.old.spare ≤ self.new.spare) }
+        ensures had { length more.now.items ≤ self.old.spare → IsOk result }
+    {
+        self.items.extend_from_slice(&more.items)?;
+        Ok(())
+    }
+
+    /// Puts other characters behind these, with no memory taken. There must be spare for them, which falls by no more than
+    /// their number.
+    pub fn extend_spare(&mut self, more: &Chars)
+        requires { length more.now.items ≤ self.old.spare }
+        ensures items { self.new.items ≡ self.old.items ++ more.now.items }
+        ensures spare { self.old.spare ≤ self.new.spare + length more.now.items }
+    {
+        let Ok(()) = self.extend(more) else {
+            unreachable!()
+        };
+    }
+
+    /// Puts the characters that have these bytes as their numbers behind the others, each of ASCII for itself. A refusal
+    /// leaves them as they were and the spare no smaller.
+    pub fn extend_bytes(&mut self, bytes: &[u8]) -> Mem<()>
+        ensures ok { OnOk result (self.new.items ≡ self.old.items ++ map Scalar bytes.now) }
+        ensures room { OnOk result (self.old.spare ≤ self.new.spare + length bytes.now) }
+        ensures err { OnErr result (self.new.items ≡ self.old.items) }
+        ensures kept { OnErr result (self.old.spare ≤ self.new.spare) }
+        ensures had { length bytes.now ≤ self.old.spare → IsOk result }
+    {
+        self.reserve(bytes.len())?;
+        self.extend_bytes_spare(bytes);
+        Ok(())
+    }
+
+    /// Puts the characters that have these bytes as their numbers behind the others, with no memory taken. There must be
+    /// spare for them, which falls by their number.
+    pub fn extend_bytes_spare(&mut self, bytes: &[u8])
+        requires { length bytes.now ≤ self.old.spare }
+        ensures items { self.new.items ≡ self.old.items ++ map Scalar bytes.now }
+        ensures spare { self.new.spare + length bytes.now ≡ self.old.spare }
+    {
+        for byte in bytes {
+            self.push_spare(Ch::Scalar(char::from(*byte)));
+        }
     }
 
     /// How many characters there are.

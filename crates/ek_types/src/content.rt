@@ -138,16 +138,6 @@ fn add_later(runs: &mut Vec<Run>, from: &[Run], by: usize) -> Mem<()>
     Ok(())
 }
 
-/// Puts the characters of one text behind those of another, with no memory taken.
-fn add_text(text: &mut Chars, more: &Chars)
-    requires { length more.now.items ≤ text.old.spare }
-    ensures { text.new.items ≡ text.old.items ++ more.now.items }
-{
-    for i in 0..more.len() {
-        text.push_spare(more.at(i));
-    }
-}
-
 impl Content {
     /// The characters without properties. It takes no memory.
     pub fn plain(alloc: Global, text: Chars) -> Content
@@ -226,7 +216,7 @@ impl Content {
         add_later(&mut new, &more.runs, size)?;
         self.text.reserve(more.text.len())?;
         self.runs.splice(count..count, new)?;
-        add_text(&mut self.text, &more.text);
+        self.text.extend_spare(&more.text);
         Ok(())
     }
 

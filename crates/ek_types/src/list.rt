@@ -85,14 +85,18 @@ impl<T> ListOf<T> {
 }
 
 impl<T: Drop> ListOf<T> {
-    /// Puts an item behind the others. A refusal leaves the list as it was and the spare no smaller.
+    /// Puts an item behind the others. A refusal leaves the list as it was and the spare no smaller. The first item gets
+    /// room for itself alone, since most lists of a script hold one; from there on the room is doubled.
     pub fn push(&mut self, x: T) -> Mem<()>
         ensures ok { OnOk result (items_of self.new ≡ items_of self.old ++ x ∷ []) }
         ensures room { OnOk result (spare_of self.old ≤ spare_of self.new + 1) }
         ensures err { OnErr result (items_of self.new ≡ items_of self.old) }
         ensures kept { OnErr result (spare_of self.old ≤ spare_of self.new) }
     {
-        self.items.push(x)?;
+        if self.items.len() == self.items.capacity() {
+            self.items.reserve_exact(self.items.len().max(1))?;
+        }
+        self.items.push_reserved(x);
         Ok(())
     }
 

@@ -11,7 +11,7 @@ use Rattle.ek_types.proofs.Appending.{appended_sets, zip_append}
 use Rattle.ek_types.proofs.content.Content.append.Goals as goal
 
 -- the runs afterwards
-laid : (c : goal.After-add_text) → c.splice.new.self.items ≡
+laid : (c : goal.After-extend_spare) → c.splice.new.self.items ≡
     c.self.inside.runs.items ++ (rest_to 0 (length c.self.inside.text.items) (length c.self.inside.runs.items) c.self.inside.runs.items ++ later_runs (length c.self.inside.text.items) c.more.inside.runs.items)
 laid c =
     let spliced = c.in_ok-splice.ensures.items in
@@ -25,8 +25,8 @@ laid c =
     let behind : drop (length runs) runs ≡ [] = drop_all (length runs) runs (omega arith) in
     rw (spliced.4, same, c.in_ok-add_later.ensures, c.in_ok-new.ensures, c.deref.ensures.value, c.deref-2.ensures.value, c.len-count.ensures, c.len-size.ensures, size, front, behind, append-nil) refl
 
-text_is : (c : goal.After-add_text) → c.add_text.new.text.items ≡ c.self.inside.text.items ++ c.more.inside.text.items
-text_is c = c.add_text.ensures ∙ ap (λ t. t ++ c.more.inside.text.items) c.in_ok-reserve.ensures.items
+text_is : (c : goal.After-extend_spare) → c.extend_spare.new.self.items ≡ c.self.inside.text.items ++ c.more.inside.text.items
+text_is c = c.extend_spare.ensures.items ∙ ap (λ t. t ++ c.more.inside.text.items) c.in_ok-reserve.ensures.items
 
 pub invariant_of-self-2 : goal.invariant_of-self-2
 invariant_of-self-2 c =
