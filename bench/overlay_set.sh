@@ -1,13 +1,13 @@
 #!/bin/sh
 # How much processor time questions and changes of many overlays take, and how it grows with their number.
 #
-# The overlays of one buffer each have a property and stand apart, from k to k + 1; nested, each in the one before; or
-# together, all at one place. Among them:
+# The overlays of one buffer stand apart, from k to k + 1; nested, each in the one before; or together, all at one place.
+# Among them:
 #
-# - winners: 2,000,000 calls of `winner` at the places in turn, where they stand apart; else 64 in the middle, each of which
-#   goes over all overlays that cover it, so that the tree doesn't help there.
+# - winners: 2,000,000 calls of `winner` for a property that each has, at the places in turn, where they stand apart; else
+#   64 in the middle, each of which goes over all overlays, since they cover it.
 # - insertions of one character, 10,000 times: in front of all overlays, behind all, and where they stand apart at places
-#   that wander in the middle; else there 64 times, since each goes through all overlays that it cuts.
+#   that wander in the middle; else in the middle 64 times, since each goes through all overlays, which it cuts.
 # - deletions of 64 characters, 64 times, in the middle: each cuts 64 overlays that stand apart, and all others.
 #
 # Twice as many overlays take twice as long where a call goes over all of them, and hardly longer elsewhere.
@@ -81,15 +81,22 @@ impl Shape {
 enum Way {
     Front,
     End,
-    Wandering,
+    Middle,
 }
 
 impl Way {
-    fn place(self, i: usize, middle: usize, most: usize) -> usize {
+    /// A place among the overlays of `count`, where none is behind `most`.
+    fn place(self, shape: Shape, i: usize, count: usize, most: usize) -> usize {
+        let middle = shape.middle(count);
         match self {
             Way::Front => 0,
             Way::End => most,
-            Way::Wandering => middle.saturating_add(i.wrapping_mul(7) % 41).saturating_sub(20),
+            Way::Middle => match shape {
+                Shape::Apart => middle
+                    .saturating_add(i.wrapping_mul(7) % 41)
+                    .saturating_sub(20),
+                _ => middle,
+            },
         }
     }
 
@@ -97,7 +104,7 @@ impl Way {
         match self {
             Way::Front => "insertions in front",
             Way::End => "insertions behind all",
-            Way::Wandering => "insertions in the middle",
+            Way::Middle => "insertions in the middle",
         }
     }
 }
@@ -144,7 +151,14 @@ fn put_in(overlays: &mut Overlays, at: usize, most: usize)
     overlays.note_insert(0, at, 1, false);
 }
 
-fn say(rt: &HostRuntime, shape: Shape, count: usize, times: usize, what: &str, start: u64) -> io::Result<()> {
+fn say(
+    rt: &HostRuntime,
+    shape: Shape,
+    count: usize,
+    times: usize,
+    what: &str,
+    start: u64,
+) -> io::Result<()> {
     let micros = used(rt)?.saturating_sub(start) / 1000;
     println!(rt; "overlay_set {} {count}: {times} {what} {micros} us", shape.name())
 }
@@ -171,7 +185,13 @@ fn winners(rt: &HostRuntime, shape: Shape, count: usize, times: usize) -> io::Re
     say(rt, shape, count, found, "winners", start)
 }
 
-fn insertions(rt: &HostRuntime, shape: Shape, count: usize, way: Way, times: usize) -> io::Result<()>
+fn insertions(
+    rt: &HostRuntime,
+    shape: Shape,
+    count: usize,
+    way: Way,
+    times: usize,
+) -> io::Result<()>
     requires count { count < 2 ^ 32 - 1 }
     requires times { times < 2 ^ 32 }
 {
@@ -181,7 +201,7 @@ fn insertions(rt: &HostRuntime, shape: Shape, count: usize, way: Way, times: usi
     let start = used(rt)?;
     for i in 0..times {
         let most = count + count + i;
-        put_in(&mut overlays, way.place(i, shape.middle(count), most), most);
+        put_in(&mut overlays, way.place(shape, i, count, most), most);
     }
     say(rt, shape, count, times, way.name(), start)
 }
@@ -200,14 +220,20 @@ fn deletions(rt: &HostRuntime, shape: Shape, count: usize) -> io::Result<()>
     say(rt, shape, count, FEW, "deletions", start)
 }
 
-fn measured(rt: &HostRuntime, shape: Shape, count: usize, winners_asked: usize, cuts: usize) -> io::Result<()>
+fn measured(
+    rt: &HostRuntime,
+    shape: Shape,
+    count: usize,
+    questions: usize,
+    cuts: usize,
+) -> io::Result<()>
     requires count { count < 2 ^ 32 - 1 }
     requires cuts { cuts < 2 ^ 32 }
 {
-    winners(rt, shape, count, winners_asked)?;
+    winners(rt, shape, count, questions)?;
     insertions(rt, shape, count, Way::Front, 10_000)?;
     insertions(rt, shape, count, Way::End, 10_000)?;
-    insertions(rt, shape, count, Way::Wandering, cuts)?;
+    insertions(rt, shape, count, Way::Middle, cuts)?;
     deletions(rt, shape, count)
 }
 
@@ -356,7 +382,7 @@ if command -v emacs > /dev/null; then
                 (goto-char (pcase way
                              ('front (point-min))
                              ('end (point-max))
-                             (_ (+ middle (% (* 7 i) 41) -20))))
+                             (_ (if (eq shape 'apart) (+ middle (% (* 7 i) 41) -20) middle))))
                 (insert "x")))))
     (made shape count)
     (let ((from (- (in-the-middle shape count) 32)))
@@ -364,7 +390,7 @@ if command -v emacs > /dev/null; then
             (dotimes (_ 64)
               (delete-region from (+ from 64)))))))
 
-(byte-compile 'measured)
+(mapc #'byte-compile '(places in-the-middle made measured))
 (dolist (count '(8192 16384))
   (measured 'apart count 2000 1000 1000)
   (measured 'nested count 64 1000 64)
