@@ -13,15 +13,15 @@ use std::alloc::Global;
 
 /// The functions that hear of the changes of one buffer, by name, the one that was added last first.
 #[derive(Drop)]
-pub struct BufferHooks {
-    pub buffer: u32,
+pub(crate) struct BufferHooks {
+    pub(crate) buffer: u32,
     before: SymList,
     after: SymList,
 }
 
 impl BufferHooks {
     /// A buffer whose changes no function hears of. It takes no memory.
-    pub fn new(alloc: Global, buffer: u32) -> BufferHooks
+    pub(crate) fn new(alloc: Global, buffer: u32) -> BufferHooks
         ensures { entry_of result ≡ (buffer, no_hooks) }
     {
         BufferHooks {
@@ -32,14 +32,14 @@ impl BufferHooks {
     }
 
     /// The functions that are called before a change, or those that are called after it.
-    pub fn list(&self, before: bool) -> &SymList
+    pub(crate) fn list(&self, before: bool) -> &SymList
         ensures { map number_of (items_of result.now) ≡ hook_list (hook before) (lists_of self.now) }
     {
         if before { &self.before } else { &self.after }
     }
 
     /// Puts a list in the place of one of the two.
-    pub fn set(&mut self, before: bool, names: SymList)
+    pub(crate) fn set(&mut self, before: bool, names: SymList)
         ensures { entry_of self.new ≡ (
           self.old.buffer,
           with_hook_list (hook before) (map number_of (items_of names)) (lists_of self.old),
@@ -53,7 +53,7 @@ impl BufferHooks {
     }
 
     /// Takes a name out of one of the two lists. It takes no memory.
-    pub fn remove(&mut self, before: bool, name: Sym)
+    pub(crate) fn remove(&mut self, before: bool, name: Sym)
         ensures { entry_of self.new ≡ (
           self.old.buffer,
           with_hook_list (hook before) (filter (λ n. not (n == name.0))
@@ -77,21 +77,21 @@ fn remove_from(names: &mut SymList, name: Sym)
 }
 
 /// Whether a name stands among others.
-pub fn holds(names: &[Sym], name: Sym) -> bool
+pub(crate) fn holds(names: &[Sym], name: Sym) -> bool
     ensures { result ≡ list_any (λ n. n.0 == name.0) names.now }
 {
     names.iter().any(|n| n.0 == name.0)
 }
 
 /// The first place of a buffer's lists.
-pub fn place_of(buffers: &[BufferHooks], buffer: u32) -> Option<usize>
+pub(crate) fn place_of(buffers: &[BufferHooks], buffer: u32) -> Option<usize>
     ensures { result ≡ position (λ h. h.buffer == buffer) buffers.now }
 {
     buffers.iter().position(|h| h.buffer == buffer)
 }
 
 /// A list with a name in front of the others.
-pub fn with_first(name: Sym, names: &SymList) -> Mem<SymList>
+pub(crate) fn with_first(name: Sym, names: &SymList) -> Mem<SymList>
     ensures { IfOk result (λ longer. map number_of (items_of longer) ≡ name.0 ∷
         map number_of (items_of names.now)) }
 {

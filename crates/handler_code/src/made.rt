@@ -78,7 +78,7 @@ impl Made {
 
 /// Whether all symbols and objects that a value is or contains were made.
 #[cycle(made)]
-pub fn is_made(value: &Value, made: &Made) -> bool
+pub(crate) fn is_made(value: &Value, made: &Made) -> bool
     ensures { result ≡ was_made (program_with made.now) (state_with made.now) (view value.now) }
 {
     match value {
@@ -101,7 +101,7 @@ pub fn is_made(value: &Value, made: &Made) -> bool
 
 /// Whether all symbols and objects in some values were made.
 #[cycle(made)]
-pub fn are_made(values: &Values, made: &Made) -> bool
+pub(crate) fn are_made(values: &Values, made: &Made) -> bool
     ensures { result ≡ list_all (was_made (program_with made.now) (state_with made.now))
         (map view (items_of values.now)) }
 {

@@ -30,7 +30,7 @@ fn normal_value(value: &Value) -> Mem<Value>
 
 /// A copy of values in each of which each empty list is nil.
 #[cycle(normal)]
-pub fn normal_values(values: &Values) -> Mem<Values>
+pub(crate) fn normal_values(values: &Values) -> Mem<Values>
     ensures { IfOk result (λ vs. map view (items_of vs) ≡ map normal (map view (items_of values.now))) }
 {
     let mut copies = ListOf::new(values.allocator());

@@ -11,4 +11,4 @@ mod told;
 pub use answers::{ended, enter};
 pub use asking::{Heard, hear, kill};
 pub use entry::Entry;
-pub use slot::{MOST_READ, Slot, ready};
+pub use slot::{Slot, ready};

@@ -9,7 +9,7 @@ use std::alloc::Global;
 use std::marker::Model;
 
 /// The most bytes that one read gives.
-pub const MOST_READ: usize = 4096;
+pub(crate) const MOST_READ: usize = 4096;
 
 /// The most bytes that a decoder holds.
 const MOST_HELD: usize = 3;

@@ -10,7 +10,7 @@ use std::alloc::Global;
 use std::marker::Model;
 
 #[derive(Drop)]
-pub struct Log {
+pub(crate) struct Log {
     alloc: Global,
     list: Exchanges,
     due: usize,
@@ -34,7 +34,7 @@ impl Model for Log {
 }
 
 impl Log {
-    pub fn new(alloc: Global) -> Log
+    pub(crate) fn new(alloc: Global) -> Log
         ensures told { result.told ≡ [] }
         ensures due { result.due ≡ 0 }
     {
@@ -45,19 +45,19 @@ impl Log {
         }
     }
 
-    pub fn allocator(&self) -> Global {
+    pub(crate) fn allocator(&self) -> Global {
         self.alloc
     }
 
     /// The exchanges so far.
-    pub fn list(&self) -> &Exchanges
+    pub(crate) fn list(&self) -> &Exchanges
         ensures { exchanges_of result.now ≡ self.now.told }
     {
         &self.list
     }
 
     /// Makes places for `n` exchanges beside the kills.
-    pub fn reserve(&mut self, n: usize) -> Mem<()>
+    pub(crate) fn reserve(&mut self, n: usize) -> Mem<()>
         ensures told { self.new.told ≡ self.old.told }
         ensures due { self.new.due ≡ self.old.due }
         ensures room { OnOk result (n ≤ self.new.places) }
@@ -67,7 +67,7 @@ impl Log {
     }
 
     /// Notes an exchange at its place.
-    pub fn put(&mut self, ask: Ask, answer: Answer)
+    pub(crate) fn put(&mut self, ask: Ask, answer: Answer)
         requires { 0 < self.old.places }
         ensures told { self.new.told ≡ self.old.told ++ record {
           ask = ask_of ask;
@@ -80,7 +80,7 @@ impl Log {
     }
 
     /// Notes a spawn, and keeps a place for the kill of the child that it started.
-    pub fn put_spawn(&mut self, ask: Ask, answer: Answer, spawned: Spawned)
+    pub(crate) fn put_spawn(&mut self, ask: Ask, answer: Answer, spawned: Spawned)
         requires { 2 ≤ self.old.places }
         ensures told { self.new.told ≡ self.old.told ++ record {
           ask = ask_of ask;
@@ -96,7 +96,7 @@ impl Log {
     }
 
     /// Notes a kill at the place that was kept for it.
-    pub fn put_kill(&mut self, ask: Ask, answer: Answer)
+    pub(crate) fn put_kill(&mut self, ask: Ask, answer: Answer)
         requires { 0 < self.old.due }
         ensures told { self.new.told ≡ self.old.told ++ record {
           ask = ask_of ask;
