@@ -1,6 +1,6 @@
 //! Buffers that are made, named and found.
 ghost use Rattle.std.specs.Prelude.{◌≡◌, ℕ, ◌+◌, ◌<◌, true, length, None, IfOk, OnOk, OnErr};
-ghost use Rattle.std.specs.Prelude.{option_map, map, slice_set};
+ghost use Rattle.std.specs.Prelude.{option_map, slice_set};
 ghost use Rattle.editor_model.specs.Editor.{scratch, live, is_live, find, find_from, with_buffer};
 ghost use Rattle.editor_model.specs.Editor.{renamed};
 ghost use Rattle.buffer_table.specs.Kept.{editor_of, has_name, named_at};
@@ -8,7 +8,7 @@ ghost use Rattle.buffer_table.specs.Kept.{editor_of, has_name, named_at};
 use crate::editor::{Editor, Live};
 use crate::room::{BufferRoom, move_to};
 use buffer_core::{Buffer, same_text};
-use ek_types::{Ch, Chars, Mem};
+use ek_types::{Chars, Mem};
 use std::alloc::Global;
 
 /// The name of the first buffer.
@@ -19,9 +19,7 @@ pub(crate) fn scratch(alloc: Global) -> Mem<Chars>
     ensures { IfOk result (λ name. name.items ≡ scratch) }
 {
     let mut name = Chars::new(alloc);
-    for byte in SCRATCH {
-        name.push(Ch::Scalar(char::from(byte)))?;
-    }
+    name.extend_bytes(SCRATCH.as_slice())?;
     Ok(name)
 }
 

@@ -1,13 +1,12 @@
 //! Names for buffers that no other buffer has.
-ghost use Rattle.std.specs.Prelude.{◌≡◌, ◌++◌, map, IfOk, OnOk, is_some, unwrap_or, slice_get};
+ghost use Rattle.std.specs.Prelude.{◌≡◌, IfOk, is_some, unwrap_or, slice_get};
 ghost use Rattle.std.specs.Prelude.{None, length};
-ghost use Rattle.text_model.specs.Characters.{Scalar};
 ghost use Rattle.editor_model.specs.Editor.{find_from, free_name, first_numbered, numbered_name};
 ghost use Rattle.buffer_table.specs.Kept.{editor_of};
 ghost use Rattle.editor_prims.specs.Names.{is_named, rivals};
 
 use buffer_table::Editor;
-use ek_types::{Ch, Chars, Mem, NoMemory};
+use ek_types::{Chars, Mem, NoMemory};
 use itoa::Buffer;
 
 /// Whether a buffer lives and has a name; the current one may be left out.
@@ -38,25 +37,15 @@ fn is_taken(editor: &Editor, but_current: bool, name: &Chars) -> bool
     false
 }
 
-/// Puts characters of one byte each behind the others. A refusal leaves a part of them there.
-fn push_ascii(chars: &mut Chars, text: &[u8]) -> Mem<()>
-    ensures { OnOk result (chars.new.items ≡ chars.old.items ++ map Scalar text.now) }
-{
-    for byte in text {
-        chars.push(Ch::Scalar(char::from(*byte)))?;
-    }
-    Ok(())
-}
-
 /// The name with a number in angle brackets behind it.
 fn numbered(name: &Chars, n: u64) -> Mem<Chars>
     ensures { IfOk result (λ c. c.items ≡ numbered_name name.now.items n) }
 {
     let mut digits = Buffer::new();
     let mut longer = name.copy()?;
-    push_ascii(&mut longer, b"<")?;
-    push_ascii(&mut longer, digits.format(n).as_bytes())?;
-    push_ascii(&mut longer, b">")?;
+    longer.extend_bytes(b"<")?;
+    longer.extend_bytes(digits.format(n).as_bytes())?;
+    longer.extend_bytes(b">")?;
     Ok(longer)
 }
 

@@ -1,5 +1,5 @@
 //! The sentinel that notes ends in a buffer.
-ghost use Rattle.std.specs.Prelude.{◌≡◌, true, map, codes, IfOk, OnOk, [], ◌++◌};
+ghost use Rattle.std.specs.Prelude.{◌≡◌, true, map, codes, IfOk, []};
 ghost use Rattle.text_model.specs.Characters.{Scalar};
 ghost use Rattle.editor_model.specs.Values.{Str};
 ghost use Rattle.plain_machine.specs.Shipped.{note_sentinel};
@@ -12,7 +12,7 @@ use crate::asking::{ask, ask_with, copied};
 use crate::handler::Handler;
 use crate::replies::{Wanted, answer, are_as_wanted};
 use ek_call::{Primitive, Replies, Value, Values, argument};
-use ek_types::{Ch, Chars, Mem, Piece};
+use ek_types::{Chars, Mem, Piece};
 use handler_code::Next;
 use std::alloc::Global;
 
@@ -78,16 +78,6 @@ fn events(alloc: Global) -> Mem<Value>
     ensures { IfOk result (λ v. view v ≡ Str (map (λ c. (Scalar c, [])) (codes "*events*"))) }
 {
     let mut name = Chars::new(alloc);
-    push_ascii(&mut name, b"*events*")?;
+    name.extend_bytes(b"*events*")?;
     Ok(Value::Str(Piece::plain(alloc, name)))
-}
-
-/// Puts characters of one byte each behind the others. A refusal leaves a part of them there.
-fn push_ascii(chars: &mut Chars, text: &[u8]) -> Mem<()>
-    ensures { OnOk result (chars.new.items ≡ chars.old.items ++ map Scalar text.now) }
-{
-    for byte in text {
-        chars.push(Ch::Scalar(char::from(*byte)))?;
-    }
-    Ok(())
 }

@@ -5,7 +5,7 @@ ghost use Rattle.text_model.specs.Characters.{Scalar};
 ghost use Rattle.plain_machine.specs.Waits.{exit_text};
 ghost use Rattle.handler_run.specs.Answers.{told_of};
 
-use ek_types::{Ch, Chars};
+use ek_types::Chars;
 use host_link::Ended;
 use itoa::Buffer;
 
@@ -18,9 +18,7 @@ fn put_ascii(text: &mut Chars, words: &str)
     ensures items { text.new.items ≡ text.old.items ++ map Scalar words.now }
     ensures spare { text.new.spare + length words.now ≡ text.old.spare }
 {
-    for byte in words.as_bytes() {
-        text.push_spare(Ch::Scalar(char::from(*byte)));
-    }
+    text.extend_bytes_spare(words.as_bytes());
 }
 
 /// Puts a number in decimal behind other characters, with no memory taken.

@@ -1,6 +1,5 @@
 //! Handlers: what entering and leaving them does, and what the default ones put in.
 ghost use Rattle.std.specs.Prelude.{◌≡◌, [], ◌++◌, ◌+◌, map, IfOk, OnOk, OnErr, option_map};
-ghost use Rattle.text_model.specs.Characters.{Scalar};
 ghost use Rattle.plain_machine.specs.State.{change_process};
 ghost use Rattle.plain_machine.specs.Lines.{OfFilter};
 ghost use Rattle.plain_machine.specs.Forms.{if_live};
@@ -23,7 +22,7 @@ use crate::blocks::make_current;
 use crate::kernel::Kernel;
 use editor_prims::{Prepared, prepare_output};
 use ek_call::{Value, Values, argument};
-use ek_types::{Ch, Chars, ListOf, Mem, NoMemory, Piece, Sym, SymList};
+use ek_types::{Chars, ListOf, Mem, NoMemory, Piece, Sym, SymList};
 use handler_code::{Made, NativeCall, allowed};
 use kernel_steps::{Kind, Program};
 use std::alloc::Global;
@@ -138,33 +137,13 @@ fn live_buffer(kernel: &Kernel, p: u32) -> Option<u32>
     }
 }
 
-/// Puts characters behind others. A refusal leaves a part of them there.
-fn append(text: &mut Chars, more: &Chars) -> Mem<()>
-    ensures { OnOk result (text.new.items ≡ text.old.items ++ more.now.items) }
-{
-    for i in 0..more.len() {
-        text.push(more.at(i))?;
-    }
-    Ok(())
-}
-
-/// Puts characters of one byte each behind others. A refusal leaves a part of them there.
-fn append_ascii(text: &mut Chars, words: &[u8]) -> Mem<()>
-    ensures { OnOk result (text.new.items ≡ text.old.items ++ map Scalar words.now) }
-{
-    for byte in words {
-        text.push(Ch::Scalar(char::from(*byte)))?;
-    }
-    Ok(())
-}
-
 /// Puts what a handler was told behind other characters: the second of its arguments.
 fn append_told(text: &mut Chars, args: &Values) -> Mem<()>
     ensures { OnOk result (text.new.items ≡
         text.old.items ++ map (λ c. c.0) (second (map view (items_of args.now)))) }
 {
     match argument(args, 1) {
-        Some(Value::Str(told)) => append(text, told.text()),
+        Some(Value::Str(told)) => text.extend(told.text()),
         _ => Ok(()),
     }
 }
@@ -183,7 +162,7 @@ fn append_name(text: &mut Chars, kernel: &Kernel, p: u32) -> Mem<()>
     ensures { OnOk result (text.new.items ≡ text.old.items ++ name_at (state_of kernel.now) p) }
 {
     if p < kernel.processes.count() {
-        append(text, kernel.processes.get(p).name())
+        text.extend(kernel.processes.get(p).name())
     } else {
         Ok(())
     }
@@ -195,9 +174,9 @@ fn sentinel_text(kernel: &Kernel, p: u32, args: &Values) -> Mem<Piece>
         (plain_text (second (map view (items_of args.now))))) }
 {
     let mut text = Chars::new(kernel.alloc);
-    append_ascii(&mut text, b"\nProcess ")?;
+    text.extend_bytes(b"\nProcess ")?;
     append_name(&mut text, kernel, p)?;
-    append_ascii(&mut text, b" ")?;
+    text.extend_bytes(b" ")?;
     append_told(&mut text, args)?;
     Ok(Piece::plain(kernel.alloc, text))
 }

@@ -11,7 +11,7 @@ ghost use Rattle.ek_call.specs.Meaning.{arg_of, call_of, joined, handler_of, scr
 ghost use Rattle.kernel_top.specs.DrillForms.{word_of, forms_of, wait_form};
 
 use ek_call::{Arg, Call, Form, Forms, HandlerDef, HandlerDefs, Primitive, Script, Value};
-use ek_types::{Ch, Chars, ListOf, Mem, Piece, Sym, SymList, Symbols};
+use ek_types::{Chars, ListOf, Mem, Piece, Sym, SymList, Symbols};
 use std::alloc::Global;
 
 // Its names, numbered behind those that every script has.
@@ -157,9 +157,7 @@ fn string(alloc: Global, bytes: &[u8]) -> Mem<Arg>
     ensures { IfOk result (λ arg. arg_of arg ≡ drill.string bytes.now) }
 {
     let mut text = Chars::new(alloc);
-    for byte in bytes {
-        text.push(Ch::Scalar(char::from(*byte)))?;
-    }
+    text.extend_bytes(bytes)?;
     Ok(Arg::Const(Value::Str(Piece::plain(alloc, text))))
 }
 

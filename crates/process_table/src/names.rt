@@ -1,6 +1,6 @@
 //! Names of processes: when two are the same, and how one is numbered.
-ghost use Rattle.std.specs.Prelude.{◌≡◌, ◌<◌, ◌++◌, length, map, slice_get, Some, OnOk, IfOk, List};
-ghost use Rattle.text_model.specs.Characters.{Ch as Character, Scalar};
+ghost use Rattle.std.specs.Prelude.{◌≡◌, ◌<◌, length, map, slice_get, Some, IfOk, List};
+ghost use Rattle.text_model.specs.Characters.{Ch as Character};
 ghost use Rattle.text_model.specs.Properties.{same_ch};
 ghost use Rattle.editor_model.specs.Editor.{same_name, numbered_name};
 ghost use Rattle.ek_types.specs.Seen.{ch_of};
@@ -66,24 +66,14 @@ pub(crate) fn are_same<N: Letters>(name: &Chars, other: &N) -> bool
     true
 }
 
-/// Puts characters of one byte each behind the others. A refusal leaves a part of them there.
-fn push_ascii(chars: &mut Chars, text: &[u8]) -> Mem<()>
-    ensures { OnOk result (chars.new.items ≡ chars.old.items ++ map Scalar text.now) }
-{
-    for byte in text {
-        chars.push(Ch::Scalar(char::from(*byte)))?;
-    }
-    Ok(())
-}
-
 /// The name with a number in angle brackets behind it.
 pub(crate) fn numbered(name: &Chars, n: u32) -> Mem<Chars>
     ensures { IfOk result (λ c. c.items ≡ numbered_name name.now.items n) }
 {
     let mut digits = Buffer::new();
     let mut longer = name.copy()?;
-    push_ascii(&mut longer, b"<")?;
-    push_ascii(&mut longer, digits.format(n).as_bytes())?;
-    push_ascii(&mut longer, b">")?;
+    longer.extend_bytes(b"<")?;
+    longer.extend_bytes(digits.format(n).as_bytes())?;
+    longer.extend_bytes(b">")?;
     Ok(longer)
 }

@@ -7,7 +7,7 @@ use Rattle.kernel_run.proofs.handlers.append_name.Goals as goal
 pub returns-then-p-count : goal.returns-then-p-count
 returns-then-p-count c =
     let s = state_of c.args.kernel.now in
-    on_ok_weaker c.append.result (λ e. e ∙ ap (λ l. c.args.text.now.items ++ l) (c.name.ensures ∙ name_here s c.args.p c.get.result.now c.get.ensures)) c.append.ensures
+    on_ok_weaker c.extend.result (λ e. e ∙ ap (λ l. c.args.text.now.items ++ l) (c.name.ensures ∙ name_here s c.args.p c.get.result.now c.get.ensures)) c.extend.ensures.ok
 
 pub returns-else-p-count : goal.returns-else-p-count
 returns-else-p-count c = name_nowhere (state_of c.args.kernel.now) c.args.p c.args.text.now.items (omega arith)
