@@ -4,7 +4,8 @@
 # The markers of one buffer stand at places that rise, that fall, in no order, or all at one place. Among them, 10,000
 # times each: one character put in before all of them, behind all, and at places in turn; a question for the markers
 # between two places that lie 64 apart; a deletion of 64 characters, which takes the markers there to one place; and a
-# marker set to another place. Then 10,000 insertions into another buffer, which has 64 markers.
+# marker set to another place. Then 10,000 insertions into another buffer, which has 64 markers; and 64 times the whole text
+# deleted in 16 stretches, each of which cuts many parts of markers.
 #
 # `emacs -Q --batch` does the insertions in front beside it where it is installed.
 #
@@ -28,6 +29,10 @@ use std::{env, io};
 const TIMES: usize = 10_000;
 
 const FEW: usize = 64;
+
+const COPIES: usize = 64;
+
+const STRETCHES: usize = 16;
 
 /// How markers stand.
 #[derive(Clone, Copy)]
@@ -180,6 +185,28 @@ fn deletions(rt: &HostRuntime, shape: Shape, count: usize) -> io::Result<()> {
     say(rt, shape, count, "deletions", used(rt)?.saturating_sub(start) / 1000)
 }
 
+/// All of the text deleted in stretches that cut many parts, the last first, and this over and over with a copy of the
+/// same markers.
+fn wide_deletions(rt: &HostRuntime, shape: Shape, count: usize) -> io::Result<()> {
+    let Ok(markers) = markers_of(rt, shape, count) else {
+        return println!(rt; "no memory");
+    };
+    let mut micros = 0u64;
+    for _i in 0..COPIES {
+        if let Ok(mut copy) = markers.copy() {
+            let start = used(rt)?;
+            for k in 0..STRETCHES {
+                let width = count / STRETCHES;
+                let to = count.saturating_sub(width.saturating_mul(k));
+                copy.note_delete(0, to.saturating_sub(width), to);
+            }
+            micros = micros.saturating_add(used(rt)?.saturating_sub(start) / 1000);
+        }
+    }
+    let name = shape.name();
+    println!(rt; "marker_set {name} {count}: {COPIES} times all deleted in {STRETCHES} stretches {micros} us")
+}
+
 fn settings(rt: &HostRuntime, shape: Shape, count: usize) -> io::Result<()> {
     let Ok(mut markers) = markers_of(rt, shape, count) else {
         return println!(rt; "no memory");
@@ -210,6 +237,7 @@ fn measured(rt: &HostRuntime, shape: Shape, count: usize) -> io::Result<()>
     insertions(rt, shape, count, Way::Elsewhere)?;
     questions(rt, shape, count)?;
     deletions(rt, shape, count)?;
+    wide_deletions(rt, shape, count)?;
     settings(rt, shape, count)
 }
 

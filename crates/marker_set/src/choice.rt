@@ -30,15 +30,37 @@ pub(crate) fn spare(parts: &[Part]) -> Option<usize> {
     None
 }
 
-/// How many parts have no markers.
-pub(crate) fn spares(parts: &[Part]) -> usize {
-    let mut count = 0usize;
-    for part in parts.iter() {
+/// Whether two parts have no markers. The last are looked at first, since they are taken last.
+pub(crate) fn has_two_spares(parts: &[Part]) -> bool {
+    let mut has_one = false;
+    for part in parts.iter().rev() {
         if part.taken() == 0 {
-            count = count.saturating_add(1);
+            if has_one {
+                return true;
+            }
+            has_one = true;
         }
     }
-    count
+    false
+}
+
+/// Whether a marker of a part stays in it as it goes to a place: one that lies among the part's markers, or that no other
+/// part is nearer to.
+pub(crate) fn stays_in(parts: &[Part], part: usize, advances: bool, spot: (u32, usize)) -> bool {
+    let Some(own) = parts.get(part) else {
+        return false;
+    };
+    own.distance(advances, spot) == Some(0) || nearest(parts, advances, spot) == Some(part)
+}
+
+/// The part nearest to a spot, where it has room.
+pub(crate) fn roomy_nearest(parts: &[Part], advances: bool, spot: (u32, usize)) -> Option<usize> {
+    let part = nearest(parts, advances, spot)?;
+    if parts.get(part)?.taken() < CELLS {
+        Some(part)
+    } else {
+        None
+    }
 }
 
 /// A part for such markers that has room.

@@ -10,7 +10,7 @@ ghost use Rattle.marker_set.specs.Blocks.{IsFree, moved_block, CanMoveBlock};
 ghost use Rattle.marker_set.specs.Homes.{moved_slot, CanMoveSlot};
 
 use crate::change::Change;
-use crate::choice::{chosen, crowded, partner, spares};
+use crate::choice::{chosen, crowded, has_two_spares, partner, roomy_nearest, stays_in};
 use crate::part::{CELLS, Part};
 use crate::room::{Room, move_to};
 use crate::search::{found_alone, found_parts};
@@ -138,7 +138,7 @@ impl Markers {
     /// be told whether it advances. Whatever this says, markers point where they should.
     fn lacks_part(&self) -> bool {
         let few = self.parts.len() < FEWEST_PARTS + self.slots.len() / (CELLS / 8);
-        few && spares(self.parts.as_slice()) < 2
+        few && !has_two_spares(self.parts.as_slice())
     }
 
     /// Takes memory for one more part where it is wanted.
@@ -181,11 +181,43 @@ impl Markers {
             (record (marker_at self.old k) { spot = spot_of to }) }
     {
         let home = self.slots[k as usize].home;
+        let stays = self.part_kept(k as usize, to);
         self.leave(k as usize);
-        self.join_small(home);
-        if let Some(spot) = to {
-            self.join(k as usize, spot);
+        match to {
+            Some(spot) => self.put(k as usize, home, stays, spot),
+            None => self.join_small(home),
         }
+    }
+
+    /// The part that marker `k` stays in as it is pointed to a place, if it does.
+    fn part_kept(&self, k: usize, to: Option<(u32, usize)>) -> Option<usize>
+        requires { k < length self.now }
+    {
+        let slot = self.slots[k];
+        let Home::Packed { part, .. } = slot.home else {
+            return None;
+        };
+        let spot = to?;
+        if stays_in(self.parts.as_slice(), part, slot.advances, spot) {
+            Some(part)
+        } else {
+            None
+        }
+    }
+
+    /// Points marker `k`, which points nowhere since it left its home, to a place in a buffer: in the part that it stays
+    /// in, or else in another or alone.
+    fn put(&mut self, k: usize, left: Home, stays: Option<usize>, spot: (u32, usize))
+        requires made { k < length self.old }
+        requires free { (marker_at self.old k).spot ≡ None }
+        ensures { self.new ≡ slice_set self.old k
+            (record (marker_at self.old k) { spot = spot_of (Some spot) }) }
+    {
+        if self.enter(k, stays, spot) {
+            return;
+        }
+        self.join_small(left);
+        self.join(k, spot);
     }
 
     /// Points marker `k` nowhere, out of its part.
@@ -209,8 +241,7 @@ impl Markers {
             (record (marker_at self.old k) { spot = spot_of (Some spot) }) }
     {
         let advances = self.slots[k].advances;
-        self.make_room(advances, spot);
-        let part = chosen(self.parts.as_slice(), advances, spot);
+        let part = self.part_for(advances, spot);
         if !self.enter(k, part, spot) {
             self.stand_alone(k, spot);
         }
@@ -251,6 +282,18 @@ impl Markers {
             buffer: spot.0,
             place: spot.1,
         };
+    }
+
+    /// The part that a marker is put into. The nearest is split before, where it is full and another is empty.
+    fn part_for(&mut self, advances: bool, spot: (u32, usize)) -> Option<usize>
+        ensures { self.new ≡ self.old }
+    {
+        let near = roomy_nearest(self.parts.as_slice(), advances, spot);
+        if near.is_some() {
+            return near;
+        }
+        self.make_room(advances, spot);
+        chosen(self.parts.as_slice(), advances, spot)
     }
 
     /// Splits the part that is nearest to a spot, where it is full and another is empty.

@@ -17,7 +17,7 @@ use std::alloc::Global;
 use std::marker::Model;
 
 /// How many markers a part has room for.
-pub(crate) const CELLS: usize = 256;
+pub(crate) const CELLS: usize = 128;
 
 /// Markers of one buffer that are alike in whether they advance. Their places are counted from an offset, so that all
 /// move at once where that moves. No marker lies before `least` or behind `most`.
@@ -25,7 +25,11 @@ pub(crate) const CELLS: usize = 256;
 pub(crate) struct Part {
     buffer: u32,
     advances: bool,
+    /// Whether a marker left since the bounds were found, so that there may be closer ones.
+    loose: bool,
     taken: usize,
+    /// A cell that may be free.
+    vacant: usize,
     offset: usize,
     least: usize,
     most: usize,
@@ -57,7 +61,9 @@ impl Part {
         Ok(Part {
             buffer: 0,
             advances: false,
+            loose: false,
             taken: 0,
+            vacant: 0,
             offset: 0,
             least: 0,
             most: 0,
@@ -139,6 +145,8 @@ impl Part {
         ensures { self.new ≡ record self.old { cells = slice_set self.old.cells cell None } }
     {
         self.taken = self.taken.saturating_sub(1);
+        self.vacant = cell;
+        self.loose = true;
         self.cells[cell] = None;
     }
 
@@ -165,7 +173,7 @@ impl Part {
         ensures { IfSome result (λ cell. (cell < length self.now.cells) ×
             (cell_at self.now cell ≡ None)) }
     {
-        free_in(self.cells.as_slice())
+        free_in(self.cells.as_slice(), self.vacant)
     }
 
     /// Whether there is no marker.
@@ -190,7 +198,9 @@ impl Part {
     {
         self.buffer = spot.0;
         self.advances = advances;
+        self.loose = false;
         self.taken = 1;
+        self.vacant = cell.saturating_add(1);
         self.offset = spot.1;
         self.least = spot.1;
         self.most = spot.1;
@@ -215,6 +225,7 @@ impl Part {
         self.least = self.least.min(place);
         self.most = self.most.max(place);
         self.taken = self.taken.saturating_add(1);
+        self.vacant = cell.saturating_add(1);
     }
 
     /// A buffer's text was changed: its markers move.
@@ -232,7 +243,10 @@ impl Part {
             return;
         }
         self.walk(change);
-        self.narrow();
+        // The bounds go with the markers, so that they are as close as they were.
+        if self.loose {
+            self.narrow();
+        }
     }
 
     /// Moves all markers at once, where the change moves them alike, and says whether it did.
@@ -280,6 +294,7 @@ impl Part {
         let bounds = bounds(self.cells.as_slice());
         self.least = self.offset.saturating_add(bounds.least);
         self.most = self.offset.saturating_add(bounds.most);
+        self.loose = false;
     }
 
     /// Adds the numbers of its markers that stand between two places of a buffer or at one of them.
@@ -325,7 +340,9 @@ impl Part {
         Ok(Part {
             buffer: self.buffer,
             advances: self.advances,
+            loose: self.loose,
             taken: self.taken,
+            vacant: self.vacant,
             offset: self.offset,
             least: self.least,
             most: self.most,
@@ -345,11 +362,14 @@ fn free_cells(alloc: Global) -> Mem<Vec<Option<Cell>>>
     Ok(cells)
 }
 
-/// A cell with no marker.
-fn free_in(cells: &[Option<Cell>]) -> Option<usize>
+/// A cell with no marker: that at `first`, where it has none.
+fn free_in(cells: &[Option<Cell>], first: usize) -> Option<usize>
     ensures { IfSome result (λ cell. (cell < length cells.now) ×
         (slice_index_or cells.now cell None ≡ None)) }
 {
+    if first < cells.len() && cells[first].is_none() {
+        return Some(first);
+    }
     for (i, cell) in cells.iter().enumerate() {
         if cell.is_none() {
             return Some(i);

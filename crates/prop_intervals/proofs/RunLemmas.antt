@@ -4,7 +4,7 @@ use Rattle.std.specs.Prelude.{nat_lt, ◌==◌, if◌then◌else◌, MatchBool}
 use Rattle.std.proofs.lemmas.Bool.{ne_eqb, lt-ltb, le-ltb, ltb-true, ltb-false}
 use Rattle.text_model.specs.Properties.{PropSet, same_set}
 use Rattle.text_model.proofs.Cases.{by_test, if_true, if_false}
-use Rattle.prop_intervals.specs.Runs.{Run, size, grown, before, behind, in_front, glued, IsRunAt, SetAt}
+use Rattle.prop_intervals.specs.Runs.{Run, size, grown, shrunk, before, behind, in_front, glued, IsPartOfRun, IsRunAt, SetAt}
 
 pub size-append : (xs ys : List Run) → size (xs ++ ys) ≡ size xs + size ys
 size-append [] ys = omega arith
@@ -133,6 +133,62 @@ pub set_at-next : (at : ℕ) (x : Run) (ys : List Run) (s : PropSet) → x.1 ≤
 set_at-next at x ys s h k = second_by (nat_lt at x.1) (x.0 ≡ s) (SetAt ys (at - x.1) s) (le-ltb at x.1 h) k
 
 pub ruleset cut_steps = (before-between, set_at-front, set_at-behind, set_at-here, set_at-next, size-append, before-front, before-behind, before-here, before-start, before-next, behind-front, behind-behind, behind-here, behind-start, behind-next, size-before, size-behind)
+
+-- A SHORTER RUN
+pub shrunk-front : (at n : ℕ) (xs ys : List Run) → at < size xs → shrunk at n (xs ++ ys) ≡ shrunk at n xs ++ ys
+shrunk-front at n [] ys h = absurd (omega arith)
+shrunk-front at n (x ∷ xs) ys h = by_test (λ g. g ≡ shrunk at n (x ∷ xs) ++ ys) (nat_lt at x.1) ((x.0, x.1 - n) ∷ (xs ++ ys)) (x ∷ shrunk (at - x.1) n (xs ++ ys))
+    (λ k. rw k refl)
+    (λ k. let behind : x.1 ≤ at = ltb-false at x.1 k in rw k (ap (λ r. x ∷ r) (shrunk-front (at - x.1) n xs ys (omega arith))))
+
+pub shrunk-behind : (at n : ℕ) (xs ys : List Run) → size xs ≤ at → shrunk at n (xs ++ ys) ≡ xs ++ shrunk (at - size xs) n ys
+shrunk-behind at n [] ys h = let e : at - 0 ≡ at = omega arith in rw e refl
+shrunk-behind at n (x ∷ xs) ys h =
+    let e : at - (x.1 + size xs) ≡ at - x.1 - size xs = omega arith in
+    if_false _ (le-ltb at x.1 (omega arith)) ∙ ap (λ r. x ∷ r) (shrunk-behind (at - x.1) n xs ys (omega arith) ∙ ap (λ i. xs ++ shrunk i n ys) (sym e))
+
+pub shrunk-here : (at n : ℕ) (x : Run) (ys : List Run) → at < x.1 → shrunk at n (x ∷ ys) ≡ (x.0, x.1 - n) ∷ ys
+shrunk-here at n x ys h = if_true _ (lt-ltb at x.1 h)
+
+pub shrunk-next : (at n : ℕ) (x : Run) (ys : List Run) → x.1 ≤ at → shrunk at n (x ∷ ys) ≡ x ∷ shrunk (at - x.1) n ys
+shrunk-next at n x ys h = if_false _ (le-ltb at x.1 h)
+
+pub part-front : (at n : ℕ) (xs ys : List Run) → at < size xs → IsPartOfRun at n (xs ++ ys) → IsPartOfRun at n xs
+part-front at n [] ys h k = absurd (omega arith)
+part-front at n (x ∷ xs) ys h k =
+    kept_by (nat_lt at x.1) ((at + n ≤ x.1) × (n < x.1)) (IsPartOfRun (at - x.1) n (xs ++ ys)) (IsPartOfRun (at - x.1) n xs)
+    (λ e. let past : x.1 ≤ at = ltb-false at x.1 e in part-front (at - x.1) n xs ys (omega arith)) k
+
+pub part-behind : (at n : ℕ) (xs ys : List Run) → size xs ≤ at → IsPartOfRun at n (xs ++ ys) → IsPartOfRun (at - size xs) n ys
+part-behind at n [] ys h k = let e : at - 0 ≡ at = omega arith in rw e k
+part-behind at n (x ∷ xs) ys h k =
+    let e : at - (x.1 + size xs) ≡ at - x.1 - size xs = omega arith in
+    rw e (part-behind (at - x.1) n xs ys (omega arith) (second_by (nat_lt at x.1) ((at + n ≤ x.1) × (n < x.1)) (IsPartOfRun (at - x.1) n (xs ++ ys)) (le-ltb at x.1 (omega arith)) k))
+
+pub part-here : (at n : ℕ) (x : Run) (ys : List Run) → at < x.1 → IsPartOfRun at n (x ∷ ys) → n < x.1
+part-here at n x ys h k = (first_by (nat_lt at x.1) ((at + n ≤ x.1) × (n < x.1)) (IsPartOfRun (at - x.1) n ys) (lt-ltb at x.1 h) k).1
+
+pub part-next : (at n : ℕ) (x : Run) (ys : List Run) → x.1 ≤ at → IsPartOfRun at n (x ∷ ys) → IsPartOfRun (at - x.1) n ys
+part-next at n x ys h k = second_by (nat_lt at x.1) ((at + n ≤ x.1) × (n < x.1)) (IsPartOfRun (at - x.1) n ys) (le-ltb at x.1 h) k
+
+pub part-size : (at n : ℕ) (xs : List Run) → IsPartOfRun at n xs → at + n ≤ size xs
+part-size at n [] k = absurd k
+part-size at n (x ∷ xs) k = go (part-size (at - x.1) n xs) (nat_lt at x.1) refl k
+  where
+    go : (IsPartOfRun (at - x.1) n xs → at - x.1 + n ≤ size xs) → (b : Bool) → nat_lt at x.1 ≡ b → MatchBool b ((at + n ≤ x.1) × (n < x.1)) (IsPartOfRun (at - x.1) n xs) → at + n ≤ x.1 + size xs
+    go ih true t e = let own = e.0 in omega arith
+    go ih false t e = let past : x.1 ≤ at = ltb-false at x.1 t in let rest = ih e in omega arith
+
+pub size-shrunk : (at n : ℕ) (xs : List Run) → IsPartOfRun at n xs → size (shrunk at n xs) + n ≡ size xs
+size-shrunk at n [] k = absurd k
+size-shrunk at n (x ∷ xs) k = go (size-shrunk (at - x.1) n xs) (nat_lt at x.1) k
+  where
+    go : (IsPartOfRun (at - x.1) n xs → size (shrunk (at - x.1) n xs) + n ≡ size xs) → (b : Bool) → MatchBool b ((at + n ≤ x.1) × (n < x.1)) (IsPartOfRun (at - x.1) n xs) →
+        size (if b then (x.0, x.1 - n) ∷ xs else x ∷ shrunk (at - x.1) n xs) + n ≡ x.1 + size xs
+    go ih true e = let own = e.1 in omega arith
+    go ih false e = let rest = ih e in omega arith
+
+pub ruleset shrink_steps = (size-append, shrunk-front, shrunk-behind, shrunk-here, shrunk-next, size-shrunk, part-front, part-behind, part-here, part-next, part-size)
 
 -- GLUED
 pub glued-push : (xs : List Run) (x : Run) (ys : List Run) → glued (xs ++ x ∷ []) ys ≡ xs ++ in_front x ys

@@ -5,7 +5,7 @@ use Rattle.std.proofs.lemmas.Bool.{eqb-true, lt-ltb, le-ltb, ltb-true, ltb-false
 use Rattle.std.proofs.lemmas.List.{length-replicate, take-take, drop-drop, replicate_more, drop-append-le, take-append-le, take-replicate, drop-replicate, replicate-append-replicate}
 use Rattle.std.proofs.Math.Seq.{take-append-add, drop-append-add}
 use Rattle.text_model.specs.Properties.{PropSet, same_set}
-use Rattle.prop_intervals.specs.Runs.{Run, size, sets_of, grown, before, behind, in_front, glued, IsRunAt, SetAt, AreApart, BeginsOther}
+use Rattle.prop_intervals.specs.Runs.{Run, size, sets_of, grown, shrunk, before, behind, in_front, glued, IsPartOfRun, IsRunAt, SetAt, AreApart, BeginsOther}
 use Rattle.text_model.specs.PropertyQuestions.{first_where}
 use Rattle.text_model.proofs.Lists.{drop_at, take_one_more}
 use Rattle.text_model.proofs.Sameness.{same_set-sound, same_set-same}
@@ -315,3 +315,45 @@ grown_behind (s ∷ sets) zero n set h =
 grown_behind (s ∷ sets) (suc place) n set h =
     let e : suc place + 1 ≡ suc (place + 1) = omega arith in
     rw e (ap (λ r. s ∷ r) (grown_behind sets place n set h))
+
+-- A SHORTER RUN
+begins-shrunk : (set : PropSet) (at n : ℕ) (runs : List Run) → BeginsOther set runs → BeginsOther set (shrunk at n runs)
+begins-shrunk set at n [] h = tt
+begins-shrunk set at n (r ∷ runs) h = by_test (λ g. BeginsOther set g) (nat_lt at r.1) ((r.0, r.1 - n) ∷ runs) (r ∷ shrunk (at - r.1) n runs) (λ k. h) (λ k. h)
+
+pub apart-shrunk : (at n : ℕ) (runs : List Run) → IsPartOfRun at n runs → AreApart runs → AreApart (shrunk at n runs)
+apart-shrunk at n [] k h = tt
+apart-shrunk at n (r ∷ runs) k h = go (λ e. apart-shrunk (at - r.1) n runs e h.2) (nat_lt at r.1) k
+  where
+    go : (IsPartOfRun (at - r.1) n runs → AreApart (shrunk (at - r.1) n runs)) → (b : Bool) → MatchBool b ((at + n ≤ r.1) × (n < r.1)) (IsPartOfRun (at - r.1) n runs) →
+        AreApart (if b then (r.0, r.1 - n) ∷ runs else r ∷ shrunk (at - r.1) n runs)
+    go ih true e = let own = e.1 in (omega arith, h.1, h.2)
+    go ih false e = (h.0, begins-shrunk r.0 (at - r.1) n runs h.1, ih e)
+
+pub sets_of-shrunk : (at n : ℕ) (runs : List Run) → IsPartOfRun at n runs → sets_of (shrunk at n runs) ≡ take at (sets_of runs) ++ drop (at + n) (sets_of runs)
+sets_of-shrunk at n [] k = absurd k
+sets_of-shrunk at n (r ∷ runs) k = go (sets_of-shrunk (at - r.1) n runs) (nat_lt at r.1) refl k
+  where
+    go : (IsPartOfRun (at - r.1) n runs → sets_of (shrunk (at - r.1) n runs) ≡ take (at - r.1) (sets_of runs) ++ drop (at - r.1 + n) (sets_of runs)) → (b : Bool) → nat_lt at r.1 ≡ b →
+        MatchBool b ((at + n ≤ r.1) × (n < r.1)) (IsPartOfRun (at - r.1) n runs) →
+        sets_of (if b then (r.0, r.1 - n) ∷ runs else r ∷ shrunk (at - r.1) n runs) ≡ take at (replicate r.1 r.0 ++ sets_of runs) ++ drop (at + n) (replicate r.1 r.0 ++ sets_of runs)
+    go ih true t e =
+        let own = e.0 in
+        let w : r.1 - n ≡ at + (r.1 - (at + n)) = omega arith in
+        rw (take_within at r.1 r.0 (sets_of runs) (omega arith), drop_within (at + n) r.1 r.0 (sets_of runs) e.0, w, ← replicate-append-replicate at (r.1 - (at + n)) r.0)
+        (append_assoc (replicate at r.0) (replicate (r.1 - (at + n)) r.0) (sets_of runs))
+    go ih false t e =
+        let past : r.1 ≤ at = ltb-false at r.1 t in
+        let far : at + n - r.1 ≡ at - r.1 + n = omega arith in
+        rw (take_past at r.1 r.0 (sets_of runs) past, drop_past (at + n) r.1 r.0 (sets_of runs) (omega arith), far)
+        (ap (λ x. replicate r.1 r.0 ++ x) (ih e) ∙ sym (append_assoc (replicate r.1 r.0) (take (at - r.1) (sets_of runs)) (drop (at - r.1 + n) (sets_of runs))))
+
+part-run : (front : List Run) (set : PropSet) (m : ℕ) (back : List Run) (place n : ℕ) → size front ≤ place → place < size front + m → place + n ≤ size front + m → n < m → IsPartOfRun place n (front ++ (set, m) ∷ back)
+part-run [] set m back place n h i j k = let t : nat_lt place m ≡ true = lt-ltb place m (omega arith) in rw t (omega arith, k)
+part-run (x ∷ front) set m back place n h i j k = let t : nat_lt place x.1 ≡ false = le-ltb place x.1 (omega arith) in rw t (part-run front set m back (place - x.1) n (omega arith) (omega arith) (omega arith) k)
+
+-- a part of the run found at a place
+pub part_found : (runs : List Run) (place n : ℕ) (set : PropSet) (start end : ℕ) → IsRunAt runs place set start end → place + n ≤ end → n < end - start → IsPartOfRun place n runs
+part_found runs place n set start end h i j =
+    let a = h.start_is in let s = h.starts in let t = h.ends in
+    rw h.runs_are (part-run h.front set (end - start) h.back place n (omega arith) (omega arith) (omega arith) j)

@@ -20,6 +20,16 @@ abbrev pub grown : (at n : ℕ) → List Run → List Run
 grown at n [] = []
 grown at n (r ∷ runs) = if nat_lt at r.1 then (r.0, r.1 + n) ∷ runs else r ∷ grown (at - r.1) n runs
 
+-- the next n characters at a place lie in one run, which has more
+abbrev pub IsPartOfRun : (at n : ℕ) → List Run → Type 0
+IsPartOfRun at n [] = ⊥
+IsPartOfRun at n (r ∷ runs) = MatchBool (nat_lt at r.1) ((at + n ≤ r.1) × (n < r.1)) (IsPartOfRun (at - r.1) n runs)
+
+-- the run at a place made shorter
+abbrev pub shrunk : (at n : ℕ) → List Run → List Run
+shrunk at n [] = []
+shrunk at n (r ∷ runs) = if nat_lt at r.1 then (r.0, r.1 - n) ∷ runs else r ∷ shrunk (at - r.1) n runs
+
 -- the runs in front of a place, and those from it on; a run through the place is cut
 abbrev pub before : (at : ℕ) → List Run → List Run
 before at [] = []

@@ -100,6 +100,9 @@ impl Props {
         if from == to && self.grow(from, with) {
             return Ok(());
         }
+        if with.is_empty() && self.shrink(from, to) {
+            return Ok(());
+        }
         self.put(from, to, with)
     }
 
@@ -174,5 +177,23 @@ impl Props {
             return true;
         }
         false
+    }
+
+    /// Takes a part out by making a run shorter, if it lies in one that has more.
+    fn shrink(&mut self, from: usize, to: usize) -> bool
+        requires order { from ≤ to }
+        requires within { to ≤ length self.old }
+        ensures { MatchBool result (self.new ≡ take from self.old ++ drop to self.old)
+            (self.new ≡ self.old) }
+    {
+        if from >= self.tree.len() {
+            return false;
+        }
+        let run = self.tree.find(from);
+        if run.end < to || run.end - run.start <= to - from {
+            return false;
+        }
+        self.tree.shrink(from, to - from);
+        true
     }
 }

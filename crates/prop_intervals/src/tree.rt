@@ -1,6 +1,6 @@
 //! A tree of runs.
 ghost use Rattle.std.specs.Prelude.{◌≡◌, ◌+◌, ◌<◌, ◌^◌, [], ◌∷◌, ◌++◌, ◌≤◌, IfOk};
-ghost use Rattle.prop_intervals.specs.Runs.{size, grown, IsRunAt};
+ghost use Rattle.prop_intervals.specs.Runs.{size, grown, shrunk, IsPartOfRun, IsRunAt};
 ghost use Rattle.prop_intervals.specs.Tree.{runs_of, run_of};
 
 use ek_types::{Mem, PropSet};
@@ -171,6 +171,31 @@ impl Tree {
                     return;
                 }
                 node.right.grow(at - front - own, n);
+            }
+        }
+    }
+
+    /// Makes the run at a place shorter. It is longer than that.
+    #[tactic(auto, using(crate::proofs::RunLemmas::shrink_steps))]
+    pub(crate) fn shrink(&mut self, at: usize, n: usize)
+        requires { IsPartOfRun at n self.old }
+        ensures { self.new ≡ shrunk at n self.old }
+    {
+        match &mut self.root {
+            Link::Empty => {}
+            Link::Full(node) => {
+                let node: &mut Node = node;
+                let front = node.left.len();
+                let own = node.len;
+                node.total -= n;
+                if at < front {
+                    return node.left.shrink(at, n);
+                }
+                if at - front < own {
+                    node.len = own - n;
+                    return;
+                }
+                node.right.shrink(at - front - own, n);
             }
         }
     }

@@ -219,6 +219,7 @@ impl Records {
         ensures { IfOk result (λ copy. copy.entries ≡ self.now.entries) }
     {
         let mut entries = VecDeque::new(*self.entries.allocator());
+        entries.reserve(self.entries.len())?;
         for i in 0..self.entries.len() {
             let entry = &self.entries[i];
             entries.push_back(Entry {

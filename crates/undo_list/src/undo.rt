@@ -68,6 +68,13 @@ impl Undo {
         }
     }
 
+    /// Whether recording is on.
+    pub fn is_on(&self) -> bool
+        ensures { result ≡ self.now.state.on }
+    {
+        self.on
+    }
+
     /// How many records there are.
     pub fn len(&self) -> usize
         ensures exact { result ≡ length self.now.state.entries }
