@@ -37,21 +37,61 @@ fn paint(alloc: Global, piece: &mut Piece, from: usize, to: usize, face: i64) ->
     Ok(piece.put(from, to, &set)?)
 }
 
+/// A part that is given a face, and the faces of all characters behind that.
+struct Part {
+    from: usize,
+    to: usize,
+    face: i64,
+    faces: [i64; 8],
+}
+
+const PARTS: [Part; 5] = [
+    Part {
+        from: 1,
+        to: 6,
+        face: 1,
+        faces: [0, 1, 1, 1, 1, 1, 0, 0],
+    },
+    Part {
+        from: 3,
+        to: 4,
+        face: 2,
+        faces: [0, 1, 1, 2, 1, 1, 0, 0],
+    },
+    Part {
+        from: 5,
+        to: 8,
+        face: 2,
+        faces: [0, 1, 1, 2, 1, 2, 2, 2],
+    },
+    Part {
+        from: 0,
+        to: 4,
+        face: 0,
+        faces: [0, 0, 0, 0, 1, 2, 2, 2],
+    },
+    Part {
+        from: 4,
+        to: 4,
+        face: 1,
+        faces: [0, 0, 0, 0, 1, 2, 2, 2],
+    },
+];
+
+/// Whether the characters of a piece and of its copy have these faces.
+fn has_faces(alloc: Global, piece: &Piece, wanted: &[i64]) -> Mem<bool> {
+    let own = faces(alloc, piece)?;
+    let copied = faces(alloc, &piece.copy()?)?;
+    Ok(own.as_slice() == wanted && copied.as_slice() == wanted)
+}
+
 #[test]
 fn properties_of_the_parts_of_a_piece(rt: HostRuntime) -> Result<(), Fail> {
     let alloc = rt.alloc();
     let mut piece = bare_text(alloc, 8)?;
-    let parts = [
-        (1, 6, 1, [0i64, 1, 1, 1, 1, 1, 0, 0]),
-        (3, 4, 2, [0, 1, 1, 2, 1, 1, 0, 0]),
-        (5, 8, 2, [0, 1, 1, 2, 1, 2, 2, 2]),
-        (0, 4, 0, [0, 0, 0, 0, 1, 2, 2, 2]),
-        (4, 4, 1, [0, 0, 0, 0, 1, 2, 2, 2]),
-    ];
-    for (from, to, face, want) in parts {
-        paint(alloc, &mut piece, from, to, face)?;
-        assert_eq!(rt; faces(alloc, &piece)?.as_slice(), want.as_slice());
-        assert_eq!(rt; faces(alloc, &piece.copy()?)?.as_slice(), want.as_slice());
+    for part in PARTS.iter() {
+        paint(alloc, &mut piece, part.from, part.to, part.face)?;
+        assert!(rt; has_faces(alloc, &piece, part.faces.as_slice())?);
     }
     Ok(())
 }
