@@ -1,10 +1,28 @@
 //! Pieces of a text.
-ghost use Rattle.std.specs.Prelude.{◌≡◌, ◌+◌, ◌≤◌, length, take, drop, IfOk};
+ghost use Rattle.std.specs.Prelude.{◌≡◌, ◌+◌, ◌-◌, ◌≤◌, [], true, length, take, drop};
+ghost use Rattle.std.specs.Prelude.{replicate, IfOk};
 ghost use Rattle.std.specs.List.{zip};
 
 use ek_types::{Chars, Mem, Piece};
 use prop_intervals::Props;
 use std::alloc::Global;
+
+/// Whether the characters from one place to another stand in one run with no properties.
+fn is_plain(props: &Props, from: usize, to: usize) -> bool
+    requires order { from ≤ to }
+    requires range { to ≤ length props.now }
+    ensures { result ≡ true → drop from (take to props.now) ≡ replicate (to - from) [] }
+{
+    if from >= to {
+        return false;
+    }
+    let end = props.run_end(from);
+    let set = props.at(from);
+    if end < to {
+        return false;
+    }
+    set.len() == 0
+}
 
 /// Characters with the property sets from one place to another.
 pub fn piece_of(alloc: Global, text: Chars, props: &Props, from: usize, to: usize) -> Mem<Piece>
@@ -12,6 +30,9 @@ pub fn piece_of(alloc: Global, text: Chars, props: &Props, from: usize, to: usiz
     requires range { to ≤ length props.now }
     ensures { IfOk result (λ piece. piece ≡ zip text.items (drop from (take to props.now))) }
 {
+    if is_plain(props, from, to) {
+        return Ok(Piece::plain(alloc, text));
+    }
     let mut piece = Piece::plain(alloc, text);
     let mut place = from;
     while place < to {

@@ -1,18 +1,22 @@
 //! Changes of a buffer's text.
-ghost use Rattle.std.specs.Prelude.{◌≡◌, ◌⊎◌, ◌+◌, ◌<◌, ◌≤◌, true, false, [], length, OnOk, OnErr};
+ghost use Rattle.std.specs.Prelude.{◌≡◌, ◌⊎◌, ◌+◌, ◌<◌, ◌≤◌, true, false, [], length, map, All};
+ghost use Rattle.std.specs.Prelude.{IfOk, OnOk, OnErr};
 ghost use Rattle.text_model.specs.Places.{after_insert};
-ghost use Rattle.text_model.specs.Commit.{inserted, deleted, replaced};
+ghost use Rattle.text_model.specs.Undo.{Undo, pushed_all};
+ghost use Rattle.text_model.specs.Commit.{inserted, deleted, replaced, deletion_records};
 ghost use Rattle.gap_text.specs.Text.{LiesIn};
 ghost use Rattle.buffer_core.specs.Blocks.{ChangesBlocks};
 ghost use Rattle.text_model.specs.Ordered.{AreOrdered};
 ghost use Rattle.machine_laws.specs.Boundaries.{KeepsBoundaries};
 ghost use Rattle.machine_laws.specs.Good.{Good};
-ghost use Rattle.buffer_core.specs.Meaning.{buffer_of, site_of};
+ghost use Rattle.undo_list.specs.Records.{rec_of};
+ghost use Rattle.buffer_core.specs.Meaning.{buffer_of, site_of, CanBeUndone};
+ghost use Rattle.buffer_core.specs.Recording.{with_text};
 ghost use Rattle.buffer_core.specs.Standing.{AreWithin};
 
 use crate::buffer::Buffer;
 use crate::marks::Marks;
-use crate::recording::{deletion_records, push_all, push_first, push_reserved};
+use crate::recording::{Deletion, push_deletion, push_first, push_reserved, records_before};
 use ek_types::{Chars, Mem, Piece, place_after_insert};
 use machine_laws::replacing_keeps_boundaries;
 use narrow_region::Bounds;
@@ -73,6 +77,39 @@ impl Buffer {
         Ok(())
     }
 
+    /// What taking the part from `from` to before `to` out records.
+    fn deletion(&self, id: u32, from: usize, to: usize, marks: &Marks, pool: &Pool) -> Mem<Deletion>
+        requires lies { LiesIn pool.now self.now.text }
+        requires order { from ≤ to }
+        requires range { to ≤ length self.now.sets }
+        ensures records { IfOk result (λ d. (u : Undo) → u.on ≡ self.now.undo.state.on →
+            pushed_all (with_text (map rec_of d.before.items) d.text from) u ≡
+            pushed_all (deletion_records id from to (site_of pool.now self.now marks.now)) u) }
+        ensures undoable { IfOk result (λ d.
+            All CanBeUndone (with_text (map rec_of d.before.items) d.text from)) }
+    {
+        if !self.undo.is_on() {
+            return Ok(Deletion {
+                before: Vec::new(self.alloc),
+                text: None,
+            });
+        }
+        let piece = self.substring(from, to, pool)?;
+        let before = records_before(
+            self.alloc,
+            &self.undo,
+            self.bounds.point,
+            &marks.markers,
+            id,
+            from,
+            to,
+        )?;
+        Ok(Deletion {
+            before,
+            text: Some(piece),
+        })
+    }
+
     /// Takes the part from `from` to before `to` out. A refusal leaves all as it was, but for spare room.
     pub(crate) fn delete(
         &mut self,
@@ -94,24 +131,14 @@ impl Buffer {
         ensures marks { AreWithin id (length self.new.sets) marks.new }
         ensures blocks { ChangesBlocks self.old.text.blocks self.new.text.blocks pool.old pool.new }
     {
-        let piece = self.substring(from, to, pool)?;
-        let records = deletion_records(
-            self.alloc,
-            &self.undo,
-            self.bounds.point,
-            &marks.markers,
-            id,
-            from,
-            to,
-            piece,
-        )?;
+        let deletion = self.deletion(id, from, to, marks, pool)?;
         let nothing = Piece::plain(self.alloc, Chars::new(self.alloc));
-        self.undo.reserve(records.len() + 1)?;
+        self.undo.reserve(deletion.before.len() + 2)?;
         self.props.splice(from, to, &nothing)?;
         self.text.delete(pool, from, to);
         self.bounds.note_delete(from, to);
         push_first(&mut self.undo, self.modified);
-        push_all(&mut self.undo, records);
+        push_deletion(&mut self.undo, deletion, from);
         self.modified = true;
         marks.note_delete(id, from, to);
         Ok(())
