@@ -5,6 +5,7 @@
 mod character;
 mod chars;
 mod io;
+pub mod limits;
 mod list;
 mod memory;
 mod memory_io;
