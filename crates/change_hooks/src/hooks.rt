@@ -13,15 +13,13 @@ ghost use Rattle.change_hooks.specs.Hooked.{hook, hooks_in, state_with, with_lis
 ghost use Rattle.change_hooks.specs.Lists.{is_of};
 
 use crate::lists::{BufferHooks, holds, place_of, with_first};
+use ek_types::limits::MOST_BUFFERS;
 use ek_types::{Copied, ListOf, Mem, Sym, SymList};
 use std::alloc::Global;
 use std::marker::Model;
 
 /// How many functions a list has at most.
 pub const MOST_HOOKS: usize = 8;
-
-/// How many buffers a run makes at most.
-const MOST_BUFFERS: usize = 256;
 
 /// Which functions hear of the changes of each buffer (GNU Emacs Lisp Reference Manual, Change Hooks), and whether they
 /// are inhibited. It is seen as what the machine's state has of these. A buffer is given by its number, which is below 256.
@@ -56,7 +54,7 @@ impl Hooks {
         ensures { IfOk result (λ hooks. hooks ≡ hooks_in new_state) }
     {
         Ok(Hooks {
-            buffers: Vec::with_capacity(alloc, MOST_BUFFERS)?,
+            buffers: Vec::with_capacity(alloc, MOST_BUFFERS as usize)?,
             nothing: ListOf::new(alloc),
             inhibited: false,
         })

@@ -11,13 +11,14 @@ ghost use Rattle.editor_prims.specs.Meaning.{Answers, Applies};
 
 use crate::failure::Failure;
 use crate::kinds::{flag, must_be_buffer, must_be_buffer_or_nil, name as string_of_name};
-use crate::limits::{MOST_BUFFERS, must_be_fewer, must_be_short};
+use crate::limits::{must_be_fewer, must_be_short};
 use crate::names::free_name;
 use crate::objects;
 use crate::values::{buffer, list, plain, truth};
 use buffer_table::Editor;
 use ek_call::{Fault, Value, Values};
 use ek_types::Mem;
+use ek_types::limits::MOST_BUFFERS;
 
 pub(crate) fn current_buffer(editor: &Editor) -> Result<Value, Failure>
     ensures { Answers result (Answered (TheBuffer (editor_of editor.now).current)) }

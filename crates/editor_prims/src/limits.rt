@@ -10,15 +10,6 @@ use crate::kinds::must;
 use buffer_table::Editor;
 use ek_call::{Fault, Value};
 
-/// The most buffers that are ever made.
-pub const MOST_BUFFERS: u32 = 256;
-
-/// The most markers that are ever made.
-pub const MOST_MARKERS: u32 = 65536;
-
-/// The most overlays that are ever made.
-pub const MOST_OVERLAYS: u32 = 65536;
-
 /// The most characters of one text.
 const LONGEST_TEXT: u128 = 4_194_304;
 

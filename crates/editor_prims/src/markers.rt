@@ -12,13 +12,14 @@ ghost use Rattle.editor_prims.specs.Meaning.{Answers, Applies};
 
 use crate::failure::Failure;
 use crate::kinds::{flag, marker, must_be_buffer_or_nil, must_be_position_or_nil};
-use crate::limits::{MOST_MARKERS, must_be_fewer};
+use crate::limits::must_be_fewer;
 use crate::objects;
 use crate::places::{advances, clipped, number, place, spot};
 use crate::values::{at_place, truth};
 use buffer_table::Editor;
 use ek_call::{Fault, Value};
 use ek_types::Mem;
+use ek_types::limits::MOST_MARKERS;
 
 pub(crate) fn marker_position(editor: &Editor, m: &Value) -> Result<Value, Failure>
     ensures { Answers result (calls.marker_position (editor_of editor.now) (view m.now)) }

@@ -16,13 +16,14 @@ ghost use Rattle.editor_prims.specs.Overlays.{vanishes};
 
 use crate::failure::Failure;
 use crate::kinds::{flag, must_be_buffer_or_nil, must_be_position, overlay, symbol};
-use crate::limits::{MOST_OVERLAYS, must_be_fewer};
+use crate::limits::must_be_fewer;
 use crate::objects;
 use crate::places::{clipped, from_of, must_point_somewhere, to_of};
 use crate::property_values::{must_be_property_value, property_value};
 use crate::values::{at_place, of_prop, of_set};
 use buffer_table::Editor;
 use ek_call::Value;
+use ek_types::limits::MOST_OVERLAYS;
 use ek_types::{Copied, Mem, PropSet, PropVal, Sym};
 
 /// The symbol `evaporate`.

@@ -6,6 +6,7 @@ mod character;
 mod chars;
 mod content;
 mod io;
+pub mod limits;
 mod list;
 mod memory;
 mod memory_io;

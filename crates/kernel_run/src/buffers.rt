@@ -12,9 +12,10 @@ ghost use Rattle.kernel_run.specs.Meaning.{state_of};
 
 use crate::kernel::Kernel;
 use buffer_table::Editor;
-use editor_prims::limits::{MOST_BUFFERS, must_be_fewer};
+use editor_prims::limits::must_be_fewer;
 use ek_call::{Fault, Reply, Value};
 use ek_types::Mem;
+use ek_types::limits::MOST_BUFFERS;
 use process_table::{Process, Status};
 
 /// Whether a buffer is the only one that lives.

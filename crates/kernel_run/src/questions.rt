@@ -17,14 +17,9 @@ use editor_prims::kinds::flag;
 use editor_prims::objects::find;
 use editor_prims::{arg, nil};
 use ek_call::{Value, Values};
+use ek_types::limits::{MOST_PROCESSES, MOST_ROUNDS};
 use ek_types::{Mem, NoMemory};
 use wait_loop::Wait;
-
-/// For how many processes a wait has places: all that are ever made.
-const MOST_PROCESSES: u32 = 256;
-
-/// The most rounds of a wait, and how many it has where none are given.
-const MOST_ROUNDS: u32 = 1000;
 
 /// The process that a value gives: itself, or the listed one of a name. Where there is none it is the first.
 pub(crate) fn process(kernel: &Kernel, v: &Value) -> u32

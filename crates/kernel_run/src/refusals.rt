@@ -39,11 +39,12 @@ use crate::words::{encoded_length, is_word};
 use buffer_table::Editor;
 use change_hooks::MOST_HOOKS;
 use editor_prims::kinds::{must, must_be_buffer_or_nil, name, string, symbol};
-use editor_prims::limits::{MOST_BUFFERS, MOST_MARKERS, must_be_fewer, must_be_short};
+use editor_prims::limits::{must_be_fewer, must_be_short};
 use editor_prims::objects::{self, find};
 use editor_prims::{arg, nil};
 use ek_call::{Fault, Primitive, Value, Values};
 use ek_types::Piece;
+use ek_types::limits::{MOST_BUFFERS, MOST_MARKERS, MOST_PROCESSES, MOST_ROUNDS};
 use kernel_steps::Program;
 
 /// The most exchanges of a run but for kills.
@@ -51,12 +52,6 @@ const MOST_EXCHANGES: u32 = 65_536;
 
 /// The most bytes that are sent in a run.
 const MOST_SENT: u128 = 16_777_216;
-
-/// The most processes that are ever made.
-const MOST_PROCESSES: u32 = 256;
-
-/// The most rounds of a wait.
-const MOST_ROUNDS: i64 = 1000;
 
 /// How deep handlers may be nested in which waits and deletions are.
 const NESTING_BOUND: u32 = 16;
@@ -194,7 +189,7 @@ fn must_be_in_range(v: &Value) -> Result<(), Fault>
 {
     let fits = match v {
         Value::Nil => true,
-        Value::Int(n) => 1 <= *n && *n <= MOST_ROUNDS,
+        Value::Int(n) => 1 <= *n && *n <= i64::from(MOST_ROUNDS),
         _ => false,
     };
     must(fits, Fault::ArgsOutOfRange)
