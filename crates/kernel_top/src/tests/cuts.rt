@@ -100,21 +100,22 @@ fn lines(alloc: Global, heard: &[&str]) -> Result<String, Fail> {
     Ok(lines)
 }
 
-/// The exchanges that give these bytes.
-fn push_reads(exchanges: &mut Vec<u8>, reads: &[&[u8]]) -> Result<(), Fail> {
+/// The exchanges that give these bytes. Those that aren't UTF-8 are shown by their numbers.
+fn push_reads(exchanges: &mut String, reads: &[&[u8]]) -> Result<(), Fail> {
     for read in reads {
-        exchanges.extend_from_slice(b"read 0: bytes ")?;
-        exchanges.extend_from_slice(read)?;
-        exchanges.extend_from_slice(b"\n")?;
+        match str::from_utf8(read) {
+            Ok(text) => writeln!(exchanges, "read 0: bytes {text}")?,
+            Err(_) => writeln!(exchanges, "read 0: bytes {}", read.escape_ascii())?,
+        }
     }
     Ok(())
 }
 
 /// The exchanges of a child that gives these bytes and ends.
-fn exchanges(alloc: Global, reads: &[&[u8]]) -> Result<Vec<u8>, Fail> {
-    let mut exchanges = b"spawn cat: started 0\n".to_vec(alloc)?;
+fn exchanges(alloc: Global, reads: &[&[u8]]) -> Result<String, Fail> {
+    let mut exchanges = String::from_str(alloc, "spawn cat: started 0\n")?;
     push_reads(&mut exchanges, reads)?;
-    exchanges.extend_from_slice(b"read 0: end\nend 0: code 0\n")?;
+    exchanges.push_str("read 0: end\nend 0: code 0\n")?;
     Ok(exchanges)
 }
 
@@ -134,7 +135,7 @@ fn two_pieces(rt: HostRuntime) -> Result<(), Fail> {
             script.as_str(),
             plays,
             want.as_str(),
-            exchanges.as_slice(),
+            exchanges.as_bytes(),
         )?;
     }
     Ok(())
@@ -158,7 +159,7 @@ fn single_bytes(rt: HostRuntime) -> Result<(), Fail> {
         script.as_str(),
         plays,
         want.as_str(),
-        exchanges.as_slice(),
+        exchanges.as_bytes(),
     )
 }
 
@@ -191,7 +192,7 @@ process 0 #<process c> exit 0
         script.as_str(),
         plays,
         want.as_str(),
-        exchanges.as_slice(),
+        exchanges.as_bytes(),
     )
 }
 
@@ -266,9 +267,9 @@ fn the_output_of_a_sort_in_each_cutting(rt: HostRuntime) -> Result<(), Fail> {
         let mut lines = String::from_str(rt.alloc(), "= #<process sorted>\n= s\n")?;
         push_heard(&mut lines, "sorted", texts)?;
         lines.push_str(SORTED)?;
-        let mut exchanges = b"spawn sort: started 0\n".to_vec(rt.alloc())?;
+        let mut exchanges = String::from_str(rt.alloc(), "spawn sort: started 0\n")?;
         push_reads(&mut exchanges, reads)?;
-        exchanges.extend_from_slice(b"read 0: end\nend 0: code 3\n")?;
+        exchanges.push_str("read 0: end\nend 0: code 3\n")?;
         let mut plays = Vec::new(rt.alloc());
         plays.push(play(rt.alloc(), reads, &[Ended::Code(3)])?)?;
         check_run(
@@ -278,7 +279,7 @@ fn the_output_of_a_sort_in_each_cutting(rt: HostRuntime) -> Result<(), Fail> {
             script.as_str(),
             plays,
             lines.as_str(),
-            exchanges.as_slice(),
+            exchanges.as_bytes(),
         )?;
     }
     Ok(())

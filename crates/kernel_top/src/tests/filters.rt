@@ -30,9 +30,9 @@ marker 0 #<marker in no buffer>
 process 0 #<process c> run 0
 "#,
         exchanges: b"spawn cat: started 0
-read 0: bytes \xE2
-read 0: bytes \x82
-read 0: bytes \xAC
+read 0: bytes \\xe2
+read 0: bytes \\x82
+read 0: bytes \\xac
 kill 0: killed
 ",
     },
@@ -60,7 +60,7 @@ marker 0 #<marker in no buffer>
 process 0 #<process c> exit 0
 "#,
         exchanges: b"spawn cat: started 0
-read 0: bytes \xE2\x82
+read 0: bytes \\xe2\\x82
 read 0: end
 end 0: code 0
 ",

@@ -46,7 +46,7 @@ fn ran(alloc: Global, run: &Run, setting: Setting) -> Result<Ran, Fail> {
 
 /// Whether two exchanges are the same.
 fn is_same(alloc: Global, one: &Exchange, other: &Exchange) -> Result<bool, Fail> {
-    Ok(shown_one(alloc, one)?.as_slice() == shown_one(alloc, other)?.as_slice())
+    Ok(shown_one(alloc, one)?.as_str() == shown_one(alloc, other)?.as_str())
 }
 
 /// How many exchanges at the front are the same.
@@ -355,7 +355,7 @@ marker 0 #<marker in no buffer>
 process 0 #<process c> exit 0
 "#,
             exchanges: b"spawn cat: started 0
-read 0: bytes \xE2\x82
+read 0: bytes \\xe2\\x82
 read 0: failed
 end 0: code 0
 ",
@@ -477,7 +477,7 @@ marker 0 #<marker in no buffer>
 process 0 #<process c> failed nil
 "#,
             exchanges: b"spawn cat: started 0
-read 0: bytes \xE2
+read 0: bytes \\xe2
 read 0: failed
 end 0: failed
 ",

@@ -33,8 +33,8 @@ marker 0 #<marker in no buffer>
 process 0 #<process c> run 0
 "#,
         exchanges: b"spawn cat: started 0
-read 0: bytes a\xE2
-read 0: bytes \x82\xACb
+read 0: bytes a\\xe2
+read 0: bytes \\x82\\xacb
 read 0: bytes c
 kill 0: killed
 ",
@@ -186,7 +186,7 @@ marker 0 #<marker in no buffer>
 process 0 #<process c> signal nil
 "#,
         exchanges: b"spawn cat: started 0
-read 0: bytes a\xE2
+read 0: bytes a\\xe2
 kill 0: killed
 ",
     },
