@@ -6,12 +6,13 @@ use crate::{
 };
 use editor_prims::{Change, Committed, Prepared, arg, nil};
 use ek_call::{Fault, Primitive, Reply, Value, Values};
-use ek_types::{Mem, Sink, SinkFault, Sym, SymList, Symbols};
+use ek_types::{ListOf, Mem, Sink, SinkFault, Sym, SymList, Symbols};
 use handler_code::NativeCall;
 use host_link::Host;
 use kernel_steps::{Block, Command, Entry, Heard, Kept, Kind, Manner, Program, Stop};
 use process_table::Processes;
 use std::alloc::Global;
+use std::mem;
 use wait_loop::Wait;
 
 impl kernel_steps::Kernel for Kernel {
