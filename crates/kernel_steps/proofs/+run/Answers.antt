@@ -8,7 +8,7 @@ use Rattle.kernel_steps.specs.Blocks.{block_of}
 use Rattle.kernel_steps.specs.Sizes.{form_size, forms_size}
 use Rattle.kernel_steps.specs.HostCalls.{CallsSince}
 use Rattle.kernel_steps.specs.Work.{working, at_item, onwards, outwards}
-use Rattle.kernel_steps.specs.Worlds.{World, world, IsReady}
+use Rattle.kernel_steps.specs.Worlds.{Hosted, World, world, IsReady}
 use Rattle.plain_machine.specs.State.{State}
 use Rattle.kernel_steps.specs.declared.stop.Halt.TheVariants as halt
 use Rattle.kernel_steps.specs.declared.stop.Stop.TheVariants as stop
@@ -252,7 +252,7 @@ calls::call-returns-in-SetsState g t c = λ start target.
 
 pub forms::run_call-returns-in_err-values : goal.forms::run_call-returns-in_err-values
 forms::run_call-returns-in_err-values g t c = λ start name.
-    rw (stopped_by c.from_residual.result (halt.Stop stop.NoMemory) c.from_residual.ensures)
+    rw (stopped_by c.from_residual.result (halt.Stop stop.NoMemory) c.from_residual.ensures, c.in_err-values.ensures.state)
     (item_wants (g.P.Program.meant c.args.program.now) (at g start c.args.kernel.now c.args.host.now c.args.sink.now) (DoForm (call_form name (call_of c.args.form.now))) _ c.requires.hosted (form_middle name (call_of c.args.form.now)))
 
 pub forms::run_call-returns-in-None : goal.forms::run_call-returns-in-None
@@ -260,18 +260,21 @@ forms::run_call-returns-in-None g t c = λ start name.
     let program = g.P.Program.meant c.args.program.now in
     let before = at g start c.args.kernel.now c.args.host.now c.args.sink.now in
     let kills = (g.H.Host.state c.args.host.now).kills in
-    work_behind program (Err c.refuse.result) before before _ _ _ _ outwards
-    (form_void program before name (call_of c.args.form.now) (sym (rw c.in-None.is at c.in_ok-values.ensures))) (keeps_self before c.requires.hosted)
+    let hosted : Hosted (g.M.Kernel.state c.values.new.kernel).processes kills = rw c.in_ok-values.ensures.state c.requires.hosted in
+    rw c.in_ok-values.ensures.state
+    (work_behind program (Err c.refuse.result) before before _ _ _ _ outwards
+    (form_void program before name (call_of c.args.form.now) (sym (rw c.in-None.is at c.in_ok-values.ensures.values))) (keeps_self before c.requires.hosted)
     (work_left program c.refuse.result _ _ _ onwards _ outwards
-    (work_unasked program (g.K.Sink.state c.args.sink.now) (g.K.Sink.state c.refuse.new.sink) (CallsSince g.H.Host.state g.H.Host.made start c.args.host.now) (g.M.Kernel.state c.args.kernel.now) (g.M.Kernel.state c.args.kernel.now) kills (Err c.refuse.result) _ onwards outwards (c.refuse.ensures kills c.requires.hosted)))
+    (work_unasked program (g.K.Sink.state c.args.sink.now) (g.K.Sink.state c.refuse.new.sink) (CallsSince g.H.Host.state g.H.Host.made start c.args.host.now) (g.M.Kernel.state c.args.kernel.now) (g.M.Kernel.state c.args.kernel.now) kills (Err c.refuse.result) _ onwards outwards (rw c.in_ok-values.ensures.state at (c.refuse.ensures kills hosted)))))
 
 pub forms::run_call-returns-in-Some : goal.forms::run_call-returns-in-Some
 forms::run_call-returns-in-Some g t c = λ start name.
     let program = g.P.Program.meant c.args.program.now in
     let before = at g start c.args.kernel.now c.args.host.now c.args.sink.now in
-    work_behind program c.call.result before before _ _ _ _ outwards
-    (form_went program before name (call_of c.args.form.now) (map view (items_of c.in-Some.args)) (sym (rw c.in-Some.is at c.in_ok-values.ensures))) (keeps_self before c.requires.hosted)
-    (c.call.ensures start (target_of name))
+    rw c.give_room.ensures
+    (work_behind program c.call-answer.result before before _ _ _ _ outwards
+    (form_went program before name (call_of c.args.form.now) (map view (items_of c.in-Some.args)) (sym (rw c.in-Some.is at c.in_ok-values.ensures.values))) (keeps_self before c.requires.hosted)
+    (rw c.in_ok-values.ensures.state at (c.call-answer.ensures start (target_of name))))
 
 -- CHANGES
 pub changes::change_text-returns-in_err-change : goal.changes::change_text-returns-in_err-change
