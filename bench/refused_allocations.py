@@ -38,7 +38,7 @@ REFUSED = [600, 5000]
 TEXT_ALLOCATIONS = 110
 
 # The tests' tables of runs.
-TABLES = ["edits", "undos", "hooks", "waits", "filters", "reentry", "nesting"]
+TABLES = ["edits", "undos", "hooks", "waits", "filters", "reentry"]
 
 # More runs: the name, the script, and what the child gives at each read.
 MORE = [
@@ -55,6 +55,11 @@ MORE = [
      """(get-buffer-create "w")(set-buffer "w")(insert #("abcd" 1 3 (face bold)))(setq o (make-overlay 2 4))
 (overlay-put o 'face 'inner)(add-text-properties 1 3 '(x (a b)))(save-excursion (erase-buffer))(undo-start)(undo-more 1)
 (buffer-undo-list)(get-char-property 2 'face)(kill-buffer)""", []),
+    ("filters inside one another, a deleted process and a killed buffer",
+     """(defhandler f (p s) (setq d (start-process "d" nil "d"))(set-process-sentinel d 's)(delete-process d))
+(defhandler s (p m) (setq k (start-process "k" "b" "k"))(kill-buffer "b"))
+(setq c (start-process "c" nil "c"))(set-process-filter c 'f)(accept-process-output c)""", [b"a"]),
+    ("the drill of ten lines", "drill", [b"\xC3", b"\xA9 0\n\xC3\xA9 ", b"1\n\xC3\xA9 2\n\xC3\xA9 3\n", b"\xC3\xA9 4\n"]),
 ]
 
 ROW_PROGRAM = r"""//! A run where one allocation is refused: standard input has the number of the run, how many allocations come before it, and
@@ -167,7 +172,12 @@ fn run_row(rt: &HostRuntime, row: &Row, whole: bool) -> Result<(), Fail> {
         plays.push(play(alloc, child)?)?;
     }
     let mut words = Vec::new(alloc);
-    words.push(String::from_str(alloc, "run")?)?;
+    if row.script == "drill" {
+        words.push(String::from_str(alloc, "drill")?)?;
+        words.push(String::from_str(alloc, "10")?)?;
+    } else {
+        words.push(String::from_str(alloc, "run")?)?;
+    }
     let mut source = MemorySource::new(row.script.as_bytes().to_vec(alloc)?, 1000, Vec::new(alloc));
     let mut sink = MemorySink::new(alloc, 100_000, 1000, Vec::new(alloc))?;
     let mut host = MemoryHost::new(plays, Vec::new(alloc));
@@ -249,6 +259,11 @@ pub struct Child {
     pub reads: &'static [&'static [u8]],
     pub ends: &'static [Ended],
 }
+
+pub const UNREAD: Child = Child {
+    reads: &[],
+    ends: &[],
+};
 
 pub struct Row {
     pub shows: &'static str,
@@ -453,7 +468,7 @@ def test_table(name):
     code = open(f"{TESTS}/{name}.rt").read()
     code = code[:code.index("\n#[test]")]
     head, body = code.split("\n\n", 2)[0], code[re.search(r"^(///|const|pub const)", code, re.M).start():]
-    uses = [word for word in ("Child", "Row") if re.search(rf"\b{word}\b", body)]
+    uses = [word for word in ("Child", "Row", "UNREAD") if re.search(rf"\b{word}\b", body)]
     imports = f"use super::playing::{{{', '.join(uses)}}};\n" + ("use host_link::Ended;\n" if "Ended" in body else "")
     return f"{head}\n{imports}\n{body}\n"
 
