@@ -109,3 +109,12 @@ hex_found bytes r h =
       some = rw (← value) (some_bytes (take k bytes) (leb-true 2 (length (take k bytes)) both.1));
       all = rw (← value) (unhex_bytes (take k bytes) passes);
     }
+
+-- an even number of digits
+even_more : (n : ℕ) → suc (suc n) % 2 ≡ n % 2
+even_more n = omega arith
+
+pub pairs_even : (digits : List ℕ) → (length digits % 2 == 0) ≡ are_pairs digits
+pairs_even [] = refl
+pairs_even (c ∷ []) = refl
+pairs_even (c ∷ d ∷ digits) = ap (λ m. m == 0) (even_more (length digits)) ∙ pairs_even digits

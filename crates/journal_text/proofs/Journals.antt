@@ -177,3 +177,6 @@ fault_line bytes list next rest h unended unread = record {
   unended = λ script e. none_is_some (behind last_line rest) script unended (ap (behind last_line) e);
   number = omega arith;
 }
+
+pub script_few : (bytes : List ℕ) (list : List Exchange) (next : ℕ) (rest script : List ℕ) → SoFar bytes list next rest → behind last_line rest ≡ Some script → length script ≤ length bytes
+script_few bytes list next rest script h e = omega (arith, h.few, ap length (behind_is last_line rest script e), length-append last_line script)

@@ -2,6 +2,7 @@ pub mod Answers
 pub mod Arguments
 pub mod Asks
 pub mod Codes
+pub mod Digits
 pub mod Finding
 pub mod Gathering
 pub mod Hexes

@@ -2,11 +2,16 @@
 #![tactic(auto)]
 
 mod asking;
+mod exchange;
+mod hex;
+mod journal;
 mod line;
+mod pieces;
 mod printer;
 mod replay;
 mod reply;
 mod told;
 
+pub use journal::{JournalFault, LONGEST_SESSION, read_journal};
 pub use line::write_journal;
 pub use replay::Replay;
