@@ -1,6 +1,6 @@
 -- Codes.
-use Rattle.std.proofs.Common.{◌≡◌, ℕ, zero, suc, ◌+◌, ◌<◌, ◌≤◌, ◌^◌, ◌==◌, ◌&&◌, Bool, true, false, ℤ, pos, negsuc, neg_ℤ, List, [], ◌∷◌, ◌++◌, length, Some, None, refl, ap, sym, subst, ◌∙◌, arith, codes, decimal}
-use Rattle.std.specs.Prelude.{Option, if◌then◌else◌, nat_lt, nat_le}
+use Rattle.std.proofs.Common.{◌≡◌, ℕ, zero, suc, ◌+◌, ◌<◌, ◌≤◌, ◌^◌, ◌==◌, ◌&&◌, true, false, ℤ, pos, negsuc, neg_ℤ, List, [], ◌∷◌, ◌++◌, length, Some, None, refl, ap, sym, subst, ◌∙◌, arith, codes, decimal}
+use Rattle.std.specs.Prelude.{if◌then◌else◌, nat_lt, nat_le}
 use Rattle.std.specs.List.{list_all}
 use Rattle.std.proofs.lemmas.Bool.{and_parts, and_from, ltb-true, leb-true, le-leb, lt-ltb}
 use Rattle.std.proofs.lemmas.Bool.Decides.{nat_tests}
@@ -8,8 +8,8 @@ use Rattle.std.proofs.lemmas.Fmt.{digits_decimal, decimal_nonempty}
 use Rattle.plain_machine.specs.Lines.{shown_int}
 use Rattle.plain_machine.specs.Words.{is_digit}
 use Rattle.journal_text.specs.Allowed.{IsCode}
-use Rattle.journal_text.specs.Reading.{◌>>=◌, Found, behind, choose, number_at, from_zero, below_zero, code_at}
-use Rattle.journal_text.proofs.Finding.{behind_is, bound, chosen, Chosen, here, there, tested}
+use Rattle.journal_text.specs.Reading.{◌>>=◌, behind, choose, number_at, from_zero, below_zero, code_at}
+use Rattle.journal_text.proofs.Finding.{behind_is, bound, chosen, here, there, tested}
 use Rattle.journal_text.proofs.Numbers.{own, number_there, number_found}
 
 no_dash : (digits rest : List ℕ) → list_all is_digit digits ≡ true → 0 < length digits → behind (codes "-") (digits ++ rest) ≡ None

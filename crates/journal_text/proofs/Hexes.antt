@@ -1,13 +1,13 @@
 -- Bytes in hexadecimal digits.
-use Rattle.std.proofs.Common.{◌≡◌, ◌≢◌, ℕ, zero, suc, ◌+◌, ◌*◌, ◌-◌, ◌/◌, ◌%◌, ◌^◌, ◌<◌, ◌≤◌, ◌==◌, Bool, true, false, not, ◌&&◌, ◌||◌, List, [], ◌∷◌, ◌++◌, length, take, drop, get_or, Some, None, refl, ap, sym, ◌∙◌, arith, take-append-drop}
-use Rattle.std.specs.Prelude.{nat_lt, nat_le, if◌then◌else◌, Option, flat_map}
+use Rattle.std.proofs.Common.{◌≡◌, ℕ, suc, ◌+◌, ◌*◌, ◌/◌, ◌%◌, ◌<◌, ◌≤◌, ◌==◌, true, false, ◌&&◌, List, [], ◌∷◌, ◌++◌, length, take, drop, Some, None, refl, ap, sym, ◌∙◌, arith, take-append-drop}
+use Rattle.std.specs.Prelude.{nat_le, if◌then◌else◌}
 use Rattle.std.specs.List.{list_all, prefix_len}
 use Rattle.std.proofs.lemmas.Bool.{and_parts, and_from, leb-true, le-leb}
 use Rattle.std.proofs.lemmas.Bool.Decides.{nat_tests}
 use Rattle.std.proofs.lemmas.List.{take_at, drop_at}
-use Rattle.journal_text.specs.Lines.{hex_digit, hex_byte, hex}
+use Rattle.journal_text.specs.Lines.{hex_digit, hex}
 use Rattle.journal_text.specs.Allowed.{AreBytes}
-use Rattle.journal_text.specs.Reading.{◌>>=◌, is_hex, hex_value, are_pairs, unhex, hex_by, hex_at}
+use Rattle.journal_text.specs.Reading.{is_hex, hex_value, are_pairs, unhex, hex_by, hex_at}
 use Rattle.journal_text.proofs.Prefixes.{prefix_of, prefix_passes}
 use Rattle.journal_text.proofs.Finding.{tested}
 

@@ -11,7 +11,7 @@ use Rattle.host_link.specs.Hosts.{spawned_answer, is_fault, IsNumbered, Exchange
 use Rattle.host_link.specs.Played.{kills_after}
 use Rattle.host_link.specs.Logged.{due_by}
 use Rattle.journal_text.specs.Allowed.{IsAnswerTo, IsSpawned, AreAnswered, next_after}
-use Rattle.journal_text.specs.Replayed.{ReplayState, Agrees, HasRoom, IsReply, Replied, Replays, started_in, stray_answer, after_exchange, host_state}
+use Rattle.journal_text.specs.Replayed.{ReplayState, HasRoom, IsReply, Replied, Replays, started_in, stray_answer, after_exchange, host_state}
 
 started_more : (x : Exchange) (list : List Exchange) → length (children_started (x ∷ list)) ≡ length (started_by x.answer) + length (children_started list)
 started_more x list = length-append (started_by x.answer) (children_started list)

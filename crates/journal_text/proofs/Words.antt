@@ -1,7 +1,7 @@
 -- Texts, and the arguments of a program.
-use Rattle.std.proofs.Common.{◌≡◌, ℕ, zero, suc, ◌+◌, ◌<◌, ◌≤◌, ◌/◌, ◌%◌, ◌==◌, Bool, true, false, ◌&&◌, List, [], ◌∷◌, ◌++◌, length, Some, None, refl, ap, sym, ◌∙◌, arith, append_assoc, append-nil, codes, subst}
-use Rattle.std.specs.Prelude.{Option, if◌then◌else◌, flat_map, IsUtf8, IsTrue}
-use Rattle.std.specs.List.{list_all, AllByRecursion}
+use Rattle.std.proofs.Common.{◌≡◌, ℕ, zero, suc, ◌<◌, ◌≤◌, ◌/◌, ◌%◌, ◌==◌, true, false, List, [], ◌∷◌, ◌++◌, length, Some, None, refl, ap, sym, ◌∙◌, arith, append_assoc, codes, subst}
+use Rattle.std.specs.Prelude.{if◌then◌else◌}
+use Rattle.std.specs.List.{AllByRecursion}
 use Rattle.std.specs.Str.{is_utf8}
 use Rattle.std.proofs.lemmas.Bool.{and_parts, and_from}
 use Rattle.std.proofs.lemmas.Bool.Decides.{nat_tests}
@@ -9,7 +9,7 @@ use Rattle.std.proofs.lemmas.Str.{IsUtf8-from_is_utf8, is_utf8-from_IsUtf8, IsUt
 use Rattle.std.proofs.lemmas.List.{length-append}
 use Rattle.journal_text.specs.Lines.{hex_digit, hex, word, led_word, led_words}
 use Rattle.journal_text.specs.Allowed.{AreBytes, IsText, has_no_zero}
-use Rattle.journal_text.specs.Reading.{◌>>=◌, Found, behind, choose, arrow, hex_at, is_text, as_text, text_at, word_at, led_word_at, with_word, words_within, words_at}
+use Rattle.journal_text.specs.Reading.{◌>>=◌, behind, choose, arrow, hex_at, is_text, as_text, text_at, word_at, led_word_at, with_word, words_within, words_at}
 use Rattle.journal_text.proofs.Finding.{behind_is, bound, chosen, Chosen, here, there, tested, same_some}
 use Rattle.journal_text.proofs.Hexes.{hex_there, hex_found}
 

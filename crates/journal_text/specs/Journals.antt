@@ -1,5 +1,5 @@
 -- What reading a journal comes to.
-use Rattle.std.specs.Prelude.{◌≡◌, ℕ, ◌+◌, List, ◌++◌, length, drop, codes, Result, MatchResult}
+use Rattle.std.specs.Prelude.{◌≡◌, ℕ, ◌+◌, List, ◌++◌, length, drop, codes}
 use Rattle.plain_machine.specs.Exchanges.{Exchange, children_started}
 use Rattle.journal_text.specs.Lines.{line, journal, session}
 use Rattle.journal_text.specs.Allowed.{IsLine, IsJournal}

@@ -1,6 +1,5 @@
-use Rattle.std.proofs.Common.{◌≡◌, ◌++◌, ◌∷◌, [], Bool, true, false, not, take, sym, ap, ◌∙◌, arith}
-use Rattle.std.specs.Prelude.{MatchBool, slice_get, List, Some, ℕ}
-use Rattle.std.proofs.lemmas.Bool.{not-true, not-false}
+use Rattle.std.proofs.Common.{◌≡◌, ◌++◌, ◌∷◌, [], true, false, take, sym, ap, ◌∙◌, arith}
+use Rattle.std.specs.Prelude.{slice_get, List, ℕ}
 use Rattle.std.proofs.lemmas.Bool.Decides.{when_true, when_false}
 use Rattle.text_model.proofs.Lists.{mapped_at, take_one_more}
 use Rattle.ek_types.specs.Listing.{items_of}

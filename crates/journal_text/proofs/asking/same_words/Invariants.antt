@@ -1,4 +1,4 @@
-use Rattle.std.proofs.Common.{◌≡◌, take, map}
+use Rattle.std.proofs.Common.{◌≡◌, take}
 use Rattle.host_link.specs.Meaning.{words_of}
 use Rattle.journal_text.proofs.asking.same_words.Given as goal
 

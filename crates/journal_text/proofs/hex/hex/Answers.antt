@@ -1,4 +1,4 @@
-use Rattle.std.proofs.Common.{◌≡◌, ◌%◌, ◌==◌, ◌≤◌, true, length, ap, sym, ◌∙◌, take, arith}
+use Rattle.std.proofs.Common.{◌≡◌, ◌%◌, true, length, ap, sym, ◌∙◌, take, arith}
 use Rattle.std.specs.List.{list_all}
 use Rattle.std.proofs.lemmas.Bool.{eqb-true}
 use Rattle.journal_text.specs.Reading.{is_hex, are_pairs}

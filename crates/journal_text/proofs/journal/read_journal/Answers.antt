@@ -1,4 +1,4 @@
-use Rattle.std.proofs.Common.{◌≡◌, ◌≤◌, ◌<◌, ◌+◌, ◌-◌, ℕ, length, arith, refl, sym, subst, Result, Ok, Err}
+use Rattle.std.proofs.Common.{◌≡◌, ◌<◌, ◌+◌, ◌-◌, ℕ, length, arith, refl, sym, subst, Result, Err}
 use Rattle.std.proofs.lemmas.List.{map-append, length-map}
 use Rattle.ek_types.specs.Listing.{items_of}
 use Rattle.host_link.specs.Meaning.{exchanges_of, exchange_of}

@@ -1,6 +1,6 @@
 use Rattle.std.proofs.Common.{◌+◌, true, refl}
 use Rattle.plain_machine.specs.Exchanges.{Kill}
-use Rattle.host_link.specs.Meaning.{answer_of, exchange_of, exchanges_of}
+use Rattle.host_link.specs.Meaning.{exchange_of, exchanges_of}
 use Rattle.host_link.specs.Hosts.{kill_answer}
 use Rattle.journal_text.proofs.Replies.{replied}
 use Rattle.journal_text.proofs.reply.kill_reply.Goals as goal

@@ -1,4 +1,4 @@
-use Rattle.std.proofs.Common.{get_or, arith}
+use Rattle.std.proofs.Common.{get_or}
 use Rattle.std.proofs.lemmas.Option.{slice_get-get_or}
 use Rattle.journal_text.specs.Lines.{hex_byte}
 use Rattle.journal_text.proofs.Gathering.{one_on, all_of}

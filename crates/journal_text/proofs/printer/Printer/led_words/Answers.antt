@@ -1,9 +1,9 @@
-use Rattle.std.proofs.Common.{arith, ap, ◌∙◌, take}
+use Rattle.std.proofs.Common.{arith, ap}
 use Rattle.std.proofs.lemmas.List.{length-map}
 use Rattle.text_model.proofs.Lists.{mapped_at}
 use Rattle.ek_types.specs.Listing.{items_of}
 use Rattle.host_link.specs.Meaning.{words_of}
-use Rattle.journal_text.specs.Lines.{led_word, word}
+use Rattle.journal_text.specs.Lines.{led_word}
 use Rattle.journal_text.proofs.Gathering.{one_on, all_of}
 use Rattle.journal_text.proofs.Printing.{prints_then, prints_same, prints_nothing}
 use Rattle.journal_text.proofs.printer.Printer.led_words.Goals as goal

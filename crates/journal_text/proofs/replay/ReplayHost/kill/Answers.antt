@@ -1,4 +1,4 @@
-use Rattle.std.proofs.Common.{◌≡◌, length, arith, sym, ap, subst, false, true, Some, slice_get, slice_set, ◌∙◌, length-set}
+use Rattle.std.proofs.Common.{◌≡◌, arith, sym, subst, false, true, Some, slice_get, length-set}
 use Rattle.host_link.specs.Hosts.{kill_answer}
 use Rattle.host_link.proofs.Due.{due_after_kill}
 use Rattle.journal_text.specs.Allowed.{IsKilled}

@@ -1,6 +1,6 @@
 use Rattle.std.proofs.Common.{◌≡◌, ◌+◌, ◌<◌, ◌^◌, [], ◌∷◌, ◌++◌, length, map, arith, sym, ap, subst, ◌∙◌, refl}
 use Rattle.std.specs.String.{string_bytes}
-use Rattle.plain_machine.specs.Exchanges.{Ask, Answer, Exchange, Spawn}
+use Rattle.plain_machine.specs.Exchanges.{Exchange, Spawn}
 use Rattle.host_link.specs.Meaning.{ask_of, answer_of, exchanges_of}
 use Rattle.host_link.specs.Hosts.{spawned_answer, after_spawn}
 use Rattle.host_link.specs.Logged.{kills_due, due_by}
