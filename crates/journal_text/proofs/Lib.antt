@@ -1,0 +1,14 @@
+pub mod Answers
+pub mod Arguments
+pub mod Asks
+pub mod Codes
+pub mod Digits
+pub mod Finding
+pub mod Gathering
+pub mod Hexes
+pub mod Journals
+pub mod Numbers
+pub mod Prefixes
+pub mod Printing
+pub mod Replies
+pub mod Words

@@ -1,0 +1,17 @@
+//! Exchanges as text, a line for each, and a host that answers as a list of exchanges has it.
+#![tactic(auto)]
+
+mod asking;
+mod exchange;
+mod hex;
+mod journal;
+mod line;
+mod pieces;
+mod printer;
+mod replay;
+mod reply;
+mod told;
+
+pub use journal::{JournalFault, LONGEST_SESSION, read_journal};
+pub use line::write_journal;
+pub use replay::Replay;
