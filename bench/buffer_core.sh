@@ -10,14 +10,12 @@ set -eu
 . "$(dirname "$0")/common.sh"
 counts=${*:-50000 100000 200000}
 
-scratch_program bench_buffer ek_types ek_call buffer_table editor_prims <<'PROGRAM'
+scratch_program bench_buffer ek_types buffer_table <<'PROGRAM'
 //! Insertions and deletions in one buffer, and records undone.
 #![tactic(auto)]
 
 use bench_clock::used;
 use buffer_table::Editor;
-use editor_prims::{Committed, Prepared, apply, commit, prepare};
-use ek_call::{Prim, Value, Values};
 use ek_types::{Ch, Chars, Mem, Piece, PropSet, PropVal, Sym};
 use std::alloc::Global;
 use std::{env, io};
@@ -127,16 +125,17 @@ fn round(
 
 /// Undoes all that there is by one call.
 fn undone(editor: &mut Editor) -> Mem<bool> {
-    let mut args = Values::new(editor.allocator());
-    apply(editor, Prim::UndoStart, &args)?;
-    args.push(Value::Int(1))?;
-    match prepare(editor, Prim::UndoMore, &args)? {
-        Prepared::Change(change) => {
-            let committed = commit(editor, &change)?;
-            Ok(matches!(committed, Committed::Done { .. }))
-        }
-        _ => Ok(false),
+    if !editor.is_live(0) || editor.undo_start(0).is_err() {
+        return Ok(false);
     }
+    let Ok(plan) = editor.undo_plan(0, 1)? else {
+        return Ok(false);
+    };
+    if !editor.is_live(0) {
+        return Ok(false);
+    }
+    editor.apply_plan(0, &plan)?;
+    Ok(true)
 }
 
 /// The time that one call takes to undo the records of `count` insertions in front of one another, in microseconds.
