@@ -9,7 +9,7 @@ ghost use Rattle.editor_model.specs.Values.{ProcessSendString, ProcessSendEof, D
 ghost use Rattle.editor_model.specs.Values.{AcceptProcessOutput};
 ghost use Rattle.editor_model.specs.Answers.{first_fault, refuse};
 ghost use Rattle.editor_model.specs.Limits.{most_buffers, most_markers};
-ghost use Rattle.editor_model.specs.Arguments.{buffer_there, must_be_fewer, must_be_name};
+ghost use Rattle.editor_model.specs.Arguments.{arg, buffer_there, must_be_fewer, must_be_name};
 ghost use Rattle.editor_model.specs.Arguments.{must_be_short};
 ghost use Rattle.plain_machine.specs.Refusals.{is_rounds, may_ask, most_processes, most_rounds};
 ghost use Rattle.plain_machine.specs.Refusals.{most_sent, must_ask, must_be_handler};
@@ -463,19 +463,20 @@ fn test_wait(kernel: &Kernel, p: &Value, rounds: &Value) -> Result<(), Fault>
     must_nest(kernel)
 }
 
-/// The tests of a call on hooks or processes, up to the first that refuses it.
-fn test<P: Program>(
+/// The tests of a call on hooks or processes, up to the first that refuses it, where its first two arguments are these.
+fn test_with<P: Program>(
     kernel: &Kernel,
     program: &P,
     prim: Primitive,
     args: &Values,
+    a: &Value,
+    b: &Value,
 ) -> Result<(), Fault>
+    requires first { view a.now ≡ arg (map view (items_of args.now)) 0 }
+    requires second { view b.now ≡ arg (map view (items_of args.now)) 1 }
     ensures { fault_in result ≡ refusal_of (P.meant program.now) (state_of kernel.now) (prim_of prim)
         (map view (items_of args.now)) }
 {
-    let nil = nil();
-    let a = arg(args, 0, &nil);
-    let b = arg(args, 1, &nil);
     match prim {
         Primitive::AddHook => test_add_hook(kernel, program, a, b),
         Primitive::RemoveHook => test_remove_hook(program, a, b),
@@ -492,6 +493,22 @@ fn test<P: Program>(
         Primitive::AcceptProcessOutput => test_wait(kernel, a, b),
         _ => test_one(kernel, a),
     }
+}
+
+/// The tests of a call on hooks or processes, up to the first that refuses it.
+fn test<P: Program>(
+    kernel: &Kernel,
+    program: &P,
+    prim: Primitive,
+    args: &Values,
+) -> Result<(), Fault>
+    ensures { fault_in result ≡ refusal_of (P.meant program.now) (state_of kernel.now) (prim_of prim)
+        (map view (items_of args.now)) }
+{
+    let nil = nil();
+    let a = arg(args, 0, &nil);
+    let b = arg(args, 1, &nil);
+    test_with(kernel, program, prim, args, a, b)
 }
 
 /// Why a call on hooks or processes is refused.

@@ -39,7 +39,9 @@ impl kernel_steps::Kernel for Kernel {
     }
 
     fn take_room(&mut self) -> Values {
-        mem::replace(&mut self.room, ListOf::new(self.alloc))
+        let mut room = mem::replace(&mut self.room, ListOf::new(self.alloc));
+        room.clear();
+        room
     }
 
     fn give_room(&mut self, args: Values) {

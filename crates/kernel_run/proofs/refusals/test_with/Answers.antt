@@ -8,7 +8,7 @@ use Rattle.ek_call.specs.Primitives.{prim_of}
 use Rattle.ek_call.specs.declared.primitive.Primitive.{Primitive}
 use Rattle.kernel_steps.specs.Waits.{refusal_of}
 use Rattle.kernel_run.specs.Meaning.{state_of}
-use Rattle.kernel_run.proofs.refusals.test.Goals as goal
+use Rattle.kernel_run.proofs.refusals.test_with.Goals as goal
 
 pub returns-in-RemoveHook : goal.returns-in-RemoveHook
 returns-in-RemoveHook g c =
@@ -16,8 +16,8 @@ returns-in-RemoveHook g c =
     let s = state_of c.args.kernel.now in
     let xs = map view (items_of c.args.args.now) in
     c.test_remove_hook.ensures s
-    ∙ ap (λ (a : Value). refusal_of program s RemoveHook (a ∷ view c.arg-b.result.now ∷ [])) c.arg-a.ensures
-    ∙ ap (λ (b : Value). refusal_of program s RemoveHook (arg xs 0 ∷ b ∷ [])) c.arg-b.ensures
+    ∙ ap (λ (a : Value). refusal_of program s RemoveHook (a ∷ view c.args.b.now ∷ [])) c.requires.first
+    ∙ ap (λ (b : Value). refusal_of program s RemoveHook (arg xs 0 ∷ b ∷ [])) c.requires.second
     ∙ ap (λ (p : Primitive). refusal_of program s (prim_of p) xs) (sym c.in-RemoveHook.is)
 
 pub returns-in-KillBuffer : goal.returns-in-KillBuffer
@@ -26,7 +26,7 @@ returns-in-KillBuffer g c =
     let s = state_of c.args.kernel.now in
     let xs = map view (items_of c.args.args.now) in
     c.test_kill_buffer.ensures program
-    ∙ ap (λ (a : Value). refusal_of program s KillBuffer (a ∷ [])) c.arg-a.ensures
+    ∙ ap (λ (a : Value). refusal_of program s KillBuffer (a ∷ [])) c.requires.first
     ∙ ap (λ (p : Primitive). refusal_of program s (prim_of p) xs) (sym c.in-KillBuffer.is)
 
 pub returns-in-StartProcess : goal.returns-in-StartProcess
@@ -43,8 +43,8 @@ returns-in-SetProcessBuffer g c =
     let s = state_of c.args.kernel.now in
     let xs = map view (items_of c.args.args.now) in
     c.test_set_buffer.ensures program
-    ∙ ap (λ (a : Value). refusal_of program s SetProcessBuffer (a ∷ view c.arg-b.result.now ∷ [])) c.arg-a.ensures
-    ∙ ap (λ (b : Value). refusal_of program s SetProcessBuffer (arg xs 0 ∷ b ∷ [])) c.arg-b.ensures
+    ∙ ap (λ (a : Value). refusal_of program s SetProcessBuffer (a ∷ view c.args.b.now ∷ [])) c.requires.first
+    ∙ ap (λ (b : Value). refusal_of program s SetProcessBuffer (arg xs 0 ∷ b ∷ [])) c.requires.second
     ∙ ap (λ (p : Primitive). refusal_of program s (prim_of p) xs) (sym c.in-SetProcessBuffer.is)
 
 pub returns-in-ProcessSendString : goal.returns-in-ProcessSendString
@@ -53,8 +53,8 @@ returns-in-ProcessSendString g c =
     let s = state_of c.args.kernel.now in
     let xs = map view (items_of c.args.args.now) in
     c.test_send.ensures program
-    ∙ ap (λ (a : Value). refusal_of program s ProcessSendString (a ∷ view c.arg-b.result.now ∷ [])) c.arg-a.ensures
-    ∙ ap (λ (b : Value). refusal_of program s ProcessSendString (arg xs 0 ∷ b ∷ [])) c.arg-b.ensures
+    ∙ ap (λ (a : Value). refusal_of program s ProcessSendString (a ∷ view c.args.b.now ∷ [])) c.requires.first
+    ∙ ap (λ (b : Value). refusal_of program s ProcessSendString (arg xs 0 ∷ b ∷ [])) c.requires.second
     ∙ ap (λ (p : Primitive). refusal_of program s (prim_of p) xs) (sym c.in-ProcessSendString.is)
 
 pub returns-in-ProcessSendEof : goal.returns-in-ProcessSendEof
@@ -63,7 +63,7 @@ returns-in-ProcessSendEof g c =
     let s = state_of c.args.kernel.now in
     let xs = map view (items_of c.args.args.now) in
     c.test_send_eof.ensures program
-    ∙ ap (λ (a : Value). refusal_of program s ProcessSendEof (a ∷ [])) c.arg-a.ensures
+    ∙ ap (λ (a : Value). refusal_of program s ProcessSendEof (a ∷ [])) c.requires.first
     ∙ ap (λ (p : Primitive). refusal_of program s (prim_of p) xs) (sym c.in-ProcessSendEof.is)
 
 pub returns-in-DeleteProcess : goal.returns-in-DeleteProcess
@@ -72,7 +72,7 @@ returns-in-DeleteProcess g c =
     let s = state_of c.args.kernel.now in
     let xs = map view (items_of c.args.args.now) in
     c.test_delete.ensures program
-    ∙ ap (λ (a : Value). refusal_of program s DeleteProcess (a ∷ [])) c.arg-a.ensures
+    ∙ ap (λ (a : Value). refusal_of program s DeleteProcess (a ∷ [])) c.requires.first
     ∙ ap (λ (p : Primitive). refusal_of program s (prim_of p) xs) (sym c.in-DeleteProcess.is)
 
 pub returns-in-AcceptProcessOutput : goal.returns-in-AcceptProcessOutput
@@ -81,6 +81,6 @@ returns-in-AcceptProcessOutput g c =
     let s = state_of c.args.kernel.now in
     let xs = map view (items_of c.args.args.now) in
     c.test_wait.ensures program
-    ∙ ap (λ (a : Value). refusal_of program s AcceptProcessOutput (a ∷ view c.arg-b.result.now ∷ [])) c.arg-a.ensures
-    ∙ ap (λ (b : Value). refusal_of program s AcceptProcessOutput (arg xs 0 ∷ b ∷ [])) c.arg-b.ensures
+    ∙ ap (λ (a : Value). refusal_of program s AcceptProcessOutput (a ∷ view c.args.b.now ∷ [])) c.requires.first
+    ∙ ap (λ (b : Value). refusal_of program s AcceptProcessOutput (arg xs 0 ∷ b ∷ [])) c.requires.second
     ∙ ap (λ (p : Primitive). refusal_of program s (prim_of p) xs) (sym c.in-AcceptProcessOutput.is)
