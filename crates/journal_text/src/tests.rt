@@ -1,5 +1,7 @@
 //! What runs: a line of each kind read and written back, each refusal with its line, and replays.
-ghost use Rattle.std.specs.Prelude.{◌≡◌, []};
+ghost use Rattle.std.specs.Prelude.{◌≡◌, [], IfOk};
+ghost use Rattle.host_link.specs.Meaning.{exchanges_of};
+ghost use Rattle.journal_text.specs.Allowed.{AreAnswered};
 
 mod replaying;
 
@@ -32,7 +34,10 @@ kill 0 -> killed
 kill 1 -> failed
 ";
 
-fn read(rt: &impl Abort, alloc: Global, bytes: &[u8]) -> Result<(Exchanges, usize), JournalFault> {
+/// The list of a journal, and where the script begins.
+fn read(rt: &impl Abort, alloc: Global, bytes: &[u8]) -> Result<(Exchanges, usize), JournalFault>
+    ensures { IfOk result (λ r. AreAnswered 0 (exchanges_of r.0)) }
+{
     assert!(rt; bytes.len() <= LONGEST_SESSION);
     read_journal(alloc, bytes)
 }
