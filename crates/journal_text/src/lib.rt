@@ -10,6 +10,8 @@ mod pieces;
 mod printer;
 mod replay;
 mod reply;
+#[cfg(test)]
+mod tests;
 mod told;
 
 pub use journal::{JournalFault, LONGEST_SESSION, read_journal};

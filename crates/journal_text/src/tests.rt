@@ -1,0 +1,212 @@
+//! What runs: a line of each kind read and written back, each refusal with its line, and replays.
+ghost use Rattle.std.specs.Prelude.{◌≡◌, [], IfOk};
+ghost use Rattle.host_link.specs.Meaning.{exchanges_of};
+ghost use Rattle.journal_text.specs.Allowed.{AreAnswered};
+
+mod replaying;
+
+use crate::{JournalFault, LONGEST_SESSION, read_journal, write_journal};
+use ek_types::MemorySink;
+use host_link::Exchanges;
+use std::alloc::{AllocError, Global};
+use std::process::Abort;
+
+/// A line of each kind.
+const ALL: &str = "spawn 636174 2d75 - c3a9 -> started 0
+spawn 01 -> refused
+spawn 7f -> started 1
+read 0 -> bytes 00ff0a80
+read 0 -> nothing
+read 4294967295 -> end
+read 10 -> failed
+end 0 -> code 0
+end 0 -> code 7
+end 0 -> code -1
+end 0 -> code 2147483647
+end 0 -> code -2147483648
+end 1 -> signal
+end 1 -> running
+end 1 -> failed
+send 0 00ff -> sent
+send 0 0a -> broken
+close 0 -> closed
+kill 0 -> killed
+kill 1 -> failed
+";
+
+/// The list of a journal, and where the script begins.
+fn read(rt: &impl Abort, alloc: Global, bytes: &[u8]) -> Result<(Exchanges, usize), JournalFault>
+    ensures { IfOk result (λ r. AreAnswered 0 (exchanges_of r.0)) }
+{
+    assert!(rt; bytes.len() <= LONGEST_SESSION);
+    read_journal(alloc, bytes)
+}
+
+/// What is written of a list.
+fn written(rt: &impl Abort, alloc: Global, list: &Exchanges) -> MemorySink {
+    let sink = MemorySink::new(alloc, 65536, 65536, Vec::new(alloc));
+    let mut sink = sink.expect(rt, "a sink");
+    assert!(rt; write_journal(list, &mut sink).is_ok());
+    sink
+}
+
+/// A text and the last line with a script behind it.
+fn session(alloc: Global, journal: &str, script: &str) -> Result<String, AllocError> {
+    let mut text = String::from_str(alloc, journal)?;
+    text.push_str("script\n")?;
+    text.push_str(script)?;
+    Ok(text)
+}
+
+/// A journal is read, and written back as it was.
+fn assert_kept(rt: &impl Abort, alloc: Global, journal: &str) {
+    let text = session(alloc, journal, "(point)").expect(rt, "a text");
+    let (list, at) = read(rt, alloc, text.as_bytes()).expect(rt, "a journal");
+    assert_eq!(rt; at, journal.len() + 7);
+    assert_eq!(rt; written(rt, alloc, &list).bytes(), journal.as_bytes());
+}
+
+#[test]
+fn a_line_of_each_kind(rt: HostRuntime) {
+    assert_kept(&rt, rt.alloc(), ALL);
+}
+
+#[test]
+fn a_script_without_exchanges(rt: HostRuntime) {
+    assert_kept(&rt, rt.alloc(), "");
+}
+
+/// Two hexadecimal digits for each of these numbers.
+fn push_hex(text: &mut String, from: u32, to: u32) -> Result<(), AllocError> {
+    for n in from..to {
+        write!(text, "{n:02x}")?;
+    }
+    Ok(())
+}
+
+/// A program whose name has each byte of ASCII but 0, and a child that is sent all bytes.
+fn all_bytes(alloc: Global) -> Result<String, AllocError> {
+    let mut text = String::from_str(alloc, "spawn ")?;
+    push_hex(&mut text, 1, 128)?;
+    text.push_str(" e282ac f09f9880 -> started 0\nsend 0 ")?;
+    push_hex(&mut text, 0, 256)?;
+    text.push_str(" -> sent\n")?;
+    Ok(text)
+}
+
+#[test]
+fn every_byte(rt: HostRuntime) {
+    let text = all_bytes(rt.alloc()).expect(&rt, "a text");
+    assert_kept(&rt, rt.alloc(), text.as_str());
+}
+
+/// A read that gave so many bytes.
+fn long_read(alloc: Global, bytes: u32) -> Result<String, AllocError> {
+    let mut text = String::from_str(alloc, "read 0 -> bytes ")?;
+    for _ in 0..bytes {
+        text.push_str("61")?;
+    }
+    text.push_str("\n")?;
+    Ok(text)
+}
+
+#[test]
+fn a_read_of_4096_bytes(rt: HostRuntime) {
+    let text = long_read(rt.alloc(), 4096).expect(&rt, "a text");
+    assert_kept(&rt, rt.alloc(), text.as_str());
+}
+
+/// The bytes are refused with a line.
+fn assert_refused(rt: &impl Abort, alloc: Global, text: &str, line: u32) {
+    match read(rt, alloc, text.as_bytes()) {
+        Err(fault) => assert_eq!(rt; fault, JournalFault::Line(line)),
+        Ok(_) => panic!(rt; "it was read"),
+    }
+}
+
+#[test]
+fn a_read_of_more_bytes_is_refused(rt: HostRuntime) {
+    let text = long_read(rt.alloc(), 4097).expect(&rt, "a text");
+    assert_refused(&rt, rt.alloc(), text.as_str(), 1);
+}
+
+#[test]
+fn no_script_is_refused(rt: HostRuntime) {
+    assert_refused(&rt, rt.alloc(), "", 1);
+    assert_refused(&rt, rt.alloc(), "script", 1);
+    assert_refused(&rt, rt.alloc(), "close 0 -> closed\nclose 1 -> closed\n", 3);
+}
+
+#[test]
+fn numbers_are_refused(rt: HostRuntime) {
+    for text in [
+        "close 00 -> closed\nscript\n",
+        "close 01 -> closed\nscript\n",
+        "close +1 -> closed\nscript\n",
+        "close  -> closed\nscript\n",
+        "close 4294967296 -> closed\nscript\n",
+        "close 12345678901234567890 -> closed\nscript\n",
+    ] {
+        assert_refused(&rt, rt.alloc(), text, 1);
+    }
+}
+
+#[test]
+fn codes_are_refused(rt: HostRuntime) {
+    for text in [
+        "close 0 -> closed\nend 0 -> code -0\nscript\n",
+        "close 0 -> closed\nend 0 -> code 2147483648\nscript\n",
+        "close 0 -> closed\nend 0 -> code -2147483649\nscript\n",
+        "close 0 -> closed\nend 0 -> code \nscript\n",
+    ] {
+        assert_refused(&rt, rt.alloc(), text, 2);
+    }
+}
+
+#[test]
+fn bytes_are_refused(rt: HostRuntime) {
+    for text in [
+        "spawn 636174 -> started 0\nread 0 -> bytes 616\nscript\n",
+        "spawn 636174 -> started 0\nread 0 -> bytes \nscript\n",
+        "spawn 636174 -> started 0\nread 0 -> bytes 4A\nscript\n",
+        "spawn 636174 -> started 0\nsend 0  -> sent\nscript\n",
+        "spawn 636174 -> started 0\nsend 0 - -> sent\nscript\n",
+    ] {
+        assert_refused(&rt, rt.alloc(), text, 2);
+    }
+}
+
+#[test]
+fn words_are_refused(rt: HostRuntime) {
+    for text in [
+        "spawn - -> started 0\nscript\n",
+        "spawn 00 -> started 0\nscript\n",
+        "spawn 61 0061 -> started 0\nscript\n",
+        "spawn 61 ff -> started 0\nscript\n",
+        "spawn 61  61 -> started 0\nscript\n",
+        "spawn 61 -> started 1\nscript\n",
+        "spawn 61 -> killed\nscript\n",
+    ] {
+        assert_refused(&rt, rt.alloc(), text, 1);
+    }
+}
+
+#[test]
+fn children_are_numbered_in_order(rt: HostRuntime) {
+    let twice = "spawn 61 -> started 0\nspawn 61 -> started 0\nscript\n";
+    assert_refused(&rt, rt.alloc(), twice, 2);
+}
+
+#[test]
+fn other_lines_are_refused(rt: HostRuntime) {
+    for text in [
+        "close 0 -> closed \nscript\n",
+        "close 0 -> closed\r\nscript\n",
+        " close 0 -> closed\nscript\n",
+        "Close 0 -> closed\nscript\n",
+        "close 0->closed\nscript\n",
+        "\nscript\n",
+    ] {
+        assert_refused(&rt, rt.alloc(), text, 1);
+    }
+}

@@ -1,0 +1,162 @@
+//! Replays that follow their list, and that stray from it.
+ghost use Rattle.std.specs.Prelude.{◌≡◌, []};
+
+use super::{read, written};
+use crate::Replay;
+use ek_types::Mem;
+use host_link::{Host, Spawned};
+use std::alloc::Global;
+use std::process::Abort;
+
+const RUN: &str = "spawn 636174 -> started 0
+read 0 -> bytes 6162
+read 0 -> end
+end 0 -> code 0
+";
+
+/// A replay of a journal.
+fn replay(rt: &impl Abort, alloc: Global, session: &str) -> Replay
+    ensures { result.kills ≡ [] }
+{
+    match read(rt, alloc, session.as_bytes()) {
+        Ok((list, _)) => Replay::new(list),
+        Err(_) => panic!(rt; "no journal"),
+    }
+}
+
+/// A child is started, read twice and asked how it ended.
+fn run<H: Host>(alloc: Global, host: &mut H, program: &str, room: &mut [u8]) -> Mem<()>
+    requires { (H.state host.old).kills ≡ [] }
+{
+    let args = Vec::new(alloc);
+    if let Spawned::Started(child) = host.spawn(program, args.as_slice())? {
+        if room.len() > 0 {
+            let _ = host.read(child, room)?;
+            let _ = host.read(child, room)?;
+        }
+        let _ = host.end(child)?;
+    }
+    Ok(())
+}
+
+/// How far a replay came, whether it strayed, and what it tells.
+fn assert_told(
+    rt: &impl Abort,
+    alloc: Global,
+    replay: &Replay,
+    matched: usize,
+    strayed: bool,
+    told: &str,
+) {
+    assert_eq!(rt; replay.matched(), matched);
+    assert_eq!(rt; replay.strayed(), strayed);
+    match replay.told() {
+        Some(list) => assert_eq!(rt; written(rt, alloc, list).bytes(), told.as_bytes()),
+        None => panic!(rt; "it tells nothing"),
+    }
+}
+
+#[test]
+fn a_run_is_followed(rt: HostRuntime) {
+    let session = "spawn 636174 -> started 0
+read 0 -> bytes 6162
+read 0 -> end
+end 0 -> code 0
+script
+";
+    let mut host = replay(&rt, rt.alloc(), session);
+    let mut room = [0u8; 4];
+    assert!(rt; run(rt.alloc(), &mut host, "cat", &mut room).is_ok());
+    assert_eq!(rt; room.as_slice(), b"ab\x00\x00".as_slice());
+    assert_told(&rt, rt.alloc(), &host, 4, false, RUN);
+}
+
+#[test]
+fn a_list_that_is_used_up(rt: HostRuntime) {
+    let session = "spawn 636174 -> started 0
+read 0 -> bytes 6162
+read 0 -> end
+script
+";
+    let told = "spawn 636174 -> started 0
+read 0 -> bytes 6162
+read 0 -> end
+end 0 -> failed
+";
+    let mut host = replay(&rt, rt.alloc(), session);
+    let mut room = [0u8; 4];
+    assert!(rt; run(rt.alloc(), &mut host, "cat", &mut room).is_ok());
+    assert_told(&rt, rt.alloc(), &host, 3, true, told);
+}
+
+#[test]
+fn a_read_with_too_little_room(rt: HostRuntime) {
+    let session = "spawn 636174 -> started 0
+read 0 -> bytes 6162
+read 0 -> end
+end 0 -> code 0
+script
+";
+    let told = "spawn 636174 -> started 0
+read 0 -> failed
+read 0 -> failed
+end 0 -> failed
+";
+    let mut host = replay(&rt, rt.alloc(), session);
+    let mut room = [0u8; 1];
+    assert!(rt; run(rt.alloc(), &mut host, "cat", &mut room).is_ok());
+    assert_told(&rt, rt.alloc(), &host, 1, true, told);
+}
+
+#[test]
+fn another_program(rt: HostRuntime) {
+    let session = "spawn 636174 -> started 0\nscript\n";
+    let mut host = replay(&rt, rt.alloc(), session);
+    let mut room = [0u8; 1];
+    assert!(rt; run(rt.alloc(), &mut host, "bat", &mut room).is_ok());
+    assert_told(&rt, rt.alloc(), &host, 0, true, "spawn 626174 -> refused\n");
+}
+
+/// A child is started, and its input used and closed.
+fn feed<H: Host>(alloc: Global, host: &mut H) -> Mem<()>
+    requires { (H.state host.old).kills ≡ [] }
+{
+    let args = Vec::new(alloc);
+    if let Spawned::Started(child) = host.spawn("cat", args.as_slice())? {
+        host.close(child)?;
+        let _ = host.send(child, b"x")?;
+        let _ = host.kill(child);
+    }
+    Ok(())
+}
+
+#[test]
+fn a_close_that_strays(rt: HostRuntime) {
+    let session = "spawn 636174 -> started 0\nkill 0 -> killed\nscript\n";
+    let told = "spawn 636174 -> started 0
+close 0 -> closed
+send 0 78 -> broken
+kill 0 -> failed
+";
+    let mut host = replay(&rt, rt.alloc(), session);
+    assert!(rt; feed(rt.alloc(), &mut host).is_ok());
+    assert_told(&rt, rt.alloc(), &host, 1, true, told);
+}
+
+#[test]
+fn inputs_are_followed(rt: HostRuntime) {
+    let session = "spawn 636174 -> started 0
+close 0 -> closed
+send 0 78 -> sent
+kill 0 -> killed
+script
+";
+    let told = "spawn 636174 -> started 0
+close 0 -> closed
+send 0 78 -> sent
+kill 0 -> killed
+";
+    let mut host = replay(&rt, rt.alloc(), session);
+    assert!(rt; feed(rt.alloc(), &mut host).is_ok());
+    assert_told(&rt, rt.alloc(), &host, 4, false, told);
+}
