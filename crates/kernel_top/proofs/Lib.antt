@@ -5,4 +5,6 @@ pub mod HandedOn
 pub mod SummedUp
 pub mod MadeForms
 pub mod DrillOutput
+pub mod Sessions
 pub mod Outcomes
+pub mod Recorded

@@ -1,6 +1,6 @@
 -- What follows from how a script ended, and from the outcome of a call.
 use Rattle.std.proofs.Common.{◌≡◌, ℕ, ◌<◌, Bool, true, false, List, [], ◌∷◌, length, Some, None, Result, Ok, Err, inl, inr, refl, sym, ◌∙◌, subst, arith}
-use Rattle.std.specs.Prelude.{◌⊎◌, nat_lt}
+use Rattle.std.specs.Prelude.{◌⊎◌, nat_lt, codes}
 use Rattle.std.proofs.lemmas.Bool.{ltb-true, ltb-false}
 use Rattle.std.specs.declared.option.Option.{Option}
 use Rattle.std.specs.Io.KnownBytes.{Consumes, IsAtEnd, Appends}
@@ -17,12 +17,14 @@ use Rattle.editor_model.specs.Editor.{Editor}
 use Rattle.kernel_steps.specs.Outcomes.{EndsAs}
 use Rattle.kernel_steps.specs.declared.stop.Stop.{Stop}
 use Rattle.kernel_steps.specs.declared.stop.Stop.TheVariants as stop
-use Rattle.kernel_top.specs.Words.{IsRun, IsDrill, IsKnown}
+use Rattle.text_model.specs.Names.{same_word}
+use Rattle.ek_types.proofs.Naming.{same_word-true}
+use Rattle.kernel_top.specs.Words.{is_word, IsRun, IsRecord, IsDrill, IsKnown}
 use Rattle.kernel_top.specs.Reading.{HasEnded, IsAll, IsGivenUp}
 use Rattle.kernel_top.specs.declared.reading.Refused.{Refused}
 use Rattle.kernel_top.specs.declared.reading.Refused.TheVariants as refused
 use Rattle.kernel_top.specs.Drills.{SumsUp}
-use Rattle.kernel_top.specs.Outcomes.{status_of, written_status, Seen, seen, IsQuiet, IsNoScript, OnRun, OnDrill, OnOthers, Outcome, of_run, of_drill, of_others, Came, CameSo, OfBytes, Completes, CompletesRun, CompletesDrill}
+use Rattle.kernel_top.specs.Outcomes.{status_of, written_status, Seen, seen, IsQuiet, IsNoScript, OnRun, OnRecord, OnDrill, OnOthers, Outcome, of_run, of_record, of_drill, of_others, Came, CameSo, OfBytes, Completes, CompletesRun, CompletesRecord, CompletesDrill}
 use Rattle.kernel_top.specs.declared.status.Status.{Status}
 use Rattle.kernel_top.specs.declared.status.Status.TheVariants as status
 use Rattle.kernel_steps.proofs.HostCalls.{calls_told}
@@ -74,8 +76,10 @@ summed program count (Err e) line exchanges sink sink' sums w =
 
 module _ {H : Type 0} (hosted : H → HostState) (made : H → H → Ask → ℕ → Answer → Type 0) (program : Script → Program) (words : List (List ℕ)) (answer : Status) (start now : H) (source source' : SourceState) (sink sink' : SinkState) where
   -- so it is of the bytes of a source, and the host has told its calls
-  pub came_from : (bytes : List ℕ) → IsRun words → IsAll bytes source source' → CameSo hosted made start now sink sink' (OfBytes program bytes answer) → Came hosted made program words answer start now source source' sink sink'
-  came_from bytes run all of = record {
+  pub came_from : (On : Status → (read written : List ℕ) → List Exchange → (before now : Seen) → Type 0) (bytes : List ℕ) →
+      ((written : List ℕ) (exchanges : List Exchange) (before now : Seen) → On answer bytes written exchanges before now → Outcome program answer words bytes written exchanges before now) →
+      IsAll bytes source source' → CameSo hosted made start now sink sink' (OfBytes On bytes answer) → Came hosted made program words answer start now source source' sink sink'
+  came_from On bytes row all of = record {
     read = bytes;
     written = of.written;
     exchanges = of.exchanges;
@@ -84,7 +88,7 @@ module _ {H : Type 0} (hosted : H → HostState) (made : H → H → Ask → ℕ
     put = of.put;
     calls = of.calls;
     told = calls_told hosted made start now of.exchanges of.calls;
-    outcome = of_run run (of.so source source' all.ended);
+    outcome = row of.written of.exchanges _ _ (of.so source source' all.ended);
   }
 
   -- so it is of a drill, whose source is as it was
@@ -102,8 +106,8 @@ module _ {H : Type 0} (hosted : H → HostState) (made : H → H → Ask → ℕ
   }
 
   -- so it is where reading was given up, and nothing else was done
-  pub came_given_up : (why : Refused) → IsRun words → IsGivenUp why source source' → ((bytes : List ℕ) → (why ≡ refused.TooLong → longest_script < length bytes) → OnRun program answer bytes [] [] (seen source sink (hosted start)) (seen source' sink (hosted start))) → Came hosted made program words answer start start source source' sink sink
-  came_given_up why run given_up row = record {
+  pub came_given_up : (why : Refused) → IsGivenUp why source source' → ((bytes : List ℕ) → (why ≡ refused.TooLong → longest_script < length bytes) → Outcome program answer words bytes [] [] (seen source sink (hosted start)) (seen source' sink (hosted start))) → Came hosted made program words answer start start source source' sink sink
+  came_given_up why given_up row = record {
     read = given_up.bytes;
     written = [];
     exchanges = [];
@@ -112,7 +116,7 @@ module _ {H : Type 0} (hosted : H → HostState) (made : H → H → Ask → ℕ
     put = Appends-nil sink.held;
     calls = refl;
     told = calls_told hosted made start start [] refl;
-    outcome = of_run run (row given_up.bytes given_up.long);
+    outcome = row given_up.bytes given_up.long;
   }
 
   -- so it is of words that the program doesn't know
@@ -140,14 +144,27 @@ pub too_long : (bytes : List ℕ) → longest_script < length bytes → IsNoScri
 too_long bytes long = record { none = λ script is. omega (arith, is.short, long); at = inl (long, refl) }
 
 -- WORDS
+run_no_record : (words : List (List ℕ)) → IsRun words → IsRecord words → ⊥
+run_no_record [] run recording = let no : false ≡ true = run in cc
+run_no_record (w ∷ []) run recording =
+    let is : w ≡ codes "run" = same_word-true w (codes "run") run in
+    let no : false ≡ true = subst (λ l. same_word l (codes "record") ≡ true) is recording in cc
+run_no_record (w ∷ x ∷ words) run recording = let no : false ≡ true = run in cc
+
+record_no_drill : (words : List (List ℕ)) (count : ℕ) → IsRecord words → IsDrill words count → ⊥
+record_no_drill [] count recording drill = let no : false ≡ true = recording in cc
+record_no_drill (w ∷ []) count recording drill = let no : None ≡ Some count = drill in cc
+record_no_drill (w ∷ x ∷ words) count recording drill = let no : false ≡ true = recording in cc
+
 pub not_both : (words : List (List ℕ)) (count : ℕ) → IsRun words → IsDrill words count → ⊥
 not_both [] count run drill = let no : false ≡ true = run in cc
 not_both (w ∷ []) count run drill = let no : None ≡ Some count = drill in cc
 not_both (w ∷ x ∷ words) count run drill = let no : false ≡ true = run in cc
 
-pub unknown : (words : List (List ℕ)) → is_run words ≡ false → None ≡ drill_of words → IsKnown words → ⊥
-unknown words no_run no_drill (inl run) = let no : false ≡ true = sym no_run ∙ run in cc
-unknown words no_run no_drill (inr (count, drill)) = let no : None ≡ Some count = no_drill ∙ drill in cc
+pub unknown : (words : List (List ℕ)) → is_run words ≡ false → is_word (codes "record") words ≡ false → None ≡ drill_of words → IsKnown words → ⊥
+unknown words no_run no_record no_drill (inl run) = let no : false ≡ true = sym no_run ∙ run in cc
+unknown words no_run no_record no_drill (inr (inl recording)) = let no : false ≡ true = sym no_record ∙ recording in cc
+unknown words no_run no_record no_drill (inr (inr (count, drill))) = let no : None ≡ Some count = no_drill ∙ drill in cc
 
 -- COMPLETENESS
 -- a script is not refused
@@ -179,6 +196,17 @@ module _ (program : Script → Program) (words : List (List ℕ)) (read written 
   run_row (status.Script line) (ended, refused, kept) r w = λ bytes script run told is unread unwritten. absurd (no_script_read bytes read script line source.left source'.left told taken ended is refused)
   run_row status.ReadFault o r w = λ bytes script run told is unread unwritten. absurd (unread (r refl))
   run_row status.WriteFault o r w = λ bytes script run told is unread unwritten. absurd (unwritten (w refl))
+  run_row status.JournalFull o r w = λ bytes script run told is unread unwritten. absurd o
+
+  record_row : (result : Status) → OnRecord program result read written exchanges before now → (result ≡ status.ReadFault → Rose source.faults source'.faults) → (result ≡ status.WriteFault → Rose sink.faults sink'.faults) →
+      CompletesRecord result words source source' sink sink'
+  record_row status.Done o r w = λ bytes script run told is unread unwritten. inl refl
+  record_row status.NoMemory o r w = λ bytes script run told is unread unwritten. inr (inl refl)
+  record_row status.JournalFull o r w = λ bytes script run told is unread unwritten. inr (inr refl)
+  record_row status.Usage o r w = λ bytes script run told is unread unwritten. absurd o.so.session
+  record_row (status.Script line) (ended, refused, kept) r w = λ bytes script run told is unread unwritten. absurd (no_script_read bytes read script line source.left source'.left told taken ended is refused)
+  record_row status.ReadFault o r w = λ bytes script run told is unread unwritten. absurd (unread (r refl))
+  record_row status.WriteFault o r w = λ bytes script run told is unread unwritten. absurd (unwritten (w refl))
 
   drill_row : (n : ℕ) (result : Status) → OnDrill program n result written exchanges before now → (result ≡ status.WriteFault → Rose sink.faults sink'.faults) → CompletesDrill result words sink sink'
   drill_row n status.Done o w = λ count is unwritten. inl refl
@@ -187,10 +215,28 @@ module _ (program : Script → Program) (words : List (List ℕ)) (read written 
   drill_row n (status.Script line) o w = λ count is unwritten. absurd o
   drill_row n status.ReadFault o w = λ count is unwritten. absurd o
   drill_row n status.WriteFault o w = λ count is unwritten. absurd (unwritten (w refl))
+  drill_row n status.JournalFull o w = λ count is unwritten. absurd o
 
   -- where neither source nor sink failed, a script or a drill is run to its end, or memory was wanting
   pub completes : (result : Status) → Outcome program result words read written exchanges before now → (result ≡ status.ReadFault → Rose source.faults source'.faults) → (result ≡ status.WriteFault → Rose sink.faults sink'.faults) →
       Completes result words source source' sink sink'
-  completes result (of_run run row) r w = record { run = run_row result row r w; drill = λ count is unwritten. absurd (not_both words count run is) }
-  completes result (of_drill n drill unread row) r w = record { run = λ bytes script run told is unread unwritten. absurd (not_both words n run drill); drill = drill_row n result row w }
-  completes result (of_others never unread row) r w = record { run = λ bytes script run told is unread unwritten. absurd (never (inl run)); drill = λ count is unwritten. absurd (never (inr (count, is))) }
+  completes result (of_run run row) r w = record {
+    run = run_row result row r w;
+    recording = λ bytes script is. absurd (run_no_record words run is);
+    drill = λ count is unwritten. absurd (not_both words count run is);
+  }
+  completes result (of_record recording row) r w = record {
+    run = λ bytes script run. absurd (run_no_record words run recording);
+    recording = record_row result row r w;
+    drill = λ count is unwritten. absurd (record_no_drill words count recording is);
+  }
+  completes result (of_drill n drill unread row) r w = record {
+    run = λ bytes script run. absurd (not_both words n run drill);
+    recording = λ bytes script is. absurd (record_no_drill words n is drill);
+    drill = drill_row n result row w;
+  }
+  completes result (of_others never unread row) r w = record {
+    run = λ bytes script run. absurd (never (inl run));
+    recording = λ bytes script is. absurd (never (inr (inl is)));
+    drill = λ count is unwritten. absurd (never (inr (inr (count, is))));
+  }

@@ -12,9 +12,10 @@ use Rattle.kernel_steps.specs.HostCalls.{CallsSince, Tells}
 use Rattle.kernel_steps.specs.Outcomes.{RanScript, StoppedScript}
 use Rattle.kernel_steps.specs.declared.stop.Stop.{Stop}
 use Rattle.kernel_steps.specs.declared.stop.Stop.TheVariants as stop
-use Rattle.kernel_top.specs.Words.{IsRun, IsDrill, IsKnown}
+use Rattle.kernel_top.specs.Words.{IsRun, IsRecord, IsDrill, IsKnown}
 use Rattle.kernel_top.specs.Reading.{HasEnded}
 use Rattle.kernel_top.specs.Drills.{SumsUp, BreaksOff}
+use Rattle.kernel_top.specs.Sessions.{Records, BreaksOffUnseen}
 use Rattle.kernel_top.specs.declared.status.Status.{Status}
 use Rattle.kernel_top.specs.declared.status.Status.TheVariants as status
 
@@ -57,19 +58,32 @@ pub record IsNoScript (read : List ℕ) (line : ℕ) : Type 0 where
   pub none : (script : Script) → IsScript read script → ⊥
   pub at : IsFaultLine read line
 
+-- these bytes are no script, though the source has ended or gave more than a script may have; nothing was written or asked
+abbrev pub RefusesScript : (line : ℕ) → (read written : List ℕ) → List Exchange → (before now : Seen) → Type 0
+RefusesScript line read written exchanges before now =
+    (HasEnded before.source.left now.source.left ⊎ (longest_script < length read)) × IsNoScript read line × IsQuiet written exchanges before now
+
 -- BY STATUS. `read` are the bytes taken from the source, and `written` those put in the sink. The program is that of a script.
 -- the word `run`
 abbrev pub OnRun : (Script → Program) → Status → (read written : List ℕ) → List Exchange → (before now : Seen) → Type 0
 OnRun program status.Done read written exchanges before now =
     OfScript read before now (λ script. RanScript (program script) script exchanges written before.sink now.sink)
-OnRun program status.Usage read written exchanges before now = ⊥
-OnRun program (status.Script line) read written exchanges before now =
-    (HasEnded before.source.left now.source.left ⊎ (longest_script < length read)) × IsNoScript read line × IsQuiet written exchanges before now
+OnRun program (status.Script line) read written exchanges before now = RefusesScript line read written exchanges before now
 OnRun program status.ReadFault read written exchanges before now = IsQuiet written exchanges before now
 OnRun program status.WriteFault read written exchanges before now =
     OfScript read before now (λ script. StoppedScript stop.WriteFault (program script) script exchanges written before.sink now.sink)
 OnRun program status.NoMemory read written exchanges before now =
     IsQuiet written exchanges before now ⊎ OfScript read before now (λ script. StoppedScript stop.NoMemory (program script) script exchanges written before.sink now.sink)
+OnRun program _ read written exchanges before now = ⊥
+
+-- the word `record`
+abbrev pub OnRecord : (Script → Program) → Status → (read written : List ℕ) → List Exchange → (before now : Seen) → Type 0
+OnRecord program (status.Script line) read written exchanges before now = RefusesScript line read written exchanges before now
+OnRecord program status.ReadFault read written exchanges before now = IsQuiet written exchanges before now
+OnRecord program status.NoMemory read written exchanges before now =
+    IsQuiet written exchanges before now ⊎ OfScript read before now (λ script. BreaksOffUnseen (program script) script written exchanges before.sink now.sink)
+OnRecord program answer read written exchanges before now =
+    OfScript read before now (λ script. Records answer (program script) script read written exchanges before.sink now.sink)
 
 -- the summary was written, and the sink hasn't failed where it had room for it
 abbrev pub WritesSummary : (program : Program) → (count : ℕ) → (written : List ℕ) → List Exchange → (before now : Seen) → Type 0
@@ -103,6 +117,7 @@ IsUnread read before now = (read ≡ []) × (now.source ≡ before.source)
 -- BY WORDS
 pub data Outcome (program : Script → Program) (answer : Status) (words : List (List ℕ)) (read written : List ℕ) (exchanges : List Exchange) (before now : Seen) : Type 0 where
   of_run : IsRun words → OnRun program answer read written exchanges before now → Outcome program answer words read written exchanges before now
+  of_record : IsRecord words → OnRecord program answer read written exchanges before now → Outcome program answer words read written exchanges before now
   of_drill : (count : ℕ) → IsDrill words count → IsUnread read before now → OnDrill program count answer written exchanges before now → Outcome program answer words read written exchanges before now
   of_others : (IsKnown words → ⊥) → IsUnread read before now → OnOthers answer written exchanges before now → Outcome program answer words read written exchanges before now
 
@@ -128,14 +143,20 @@ pub record CameSo {H : Type 0} (hosted : H → HostState) (made : H → H → As
   pub so : (source source' : SourceState) → So written exchanges (seen source sink (hosted start)) (seen source' sink' (hosted now))
 
 -- what became of bytes that were all that a source had
-abbrev pub OfBytes : (Script → Program) → (bytes : List ℕ) → Status → (written : List ℕ) → List Exchange → (before now : Seen) → Type 0
-OfBytes program bytes answer written exchanges before now = HasEnded before.source.left now.source.left → OnRun program answer bytes written exchanges before now
+abbrev pub OfBytes : (On : Status → (read written : List ℕ) → List Exchange → (before now : Seen) → Type 0) → (bytes : List ℕ) → Status → (written : List ℕ) → List Exchange → (before now : Seen) → Type 0
+OfBytes On bytes answer written exchanges before now = HasEnded before.source.left now.source.left → On answer bytes written exchanges before now
 
 -- Where neither source nor sink failed, a script is run to its end, or memory was wanting.
 abbrev pub CompletesRun : Status → (words : List (List ℕ)) → (source source' : SourceState) → (sink sink' : SinkState) → Type 0
 CompletesRun answer words source source' sink sink' =
     (bytes : List ℕ) (script : Script) → IsRun words → source.left ≡ Some bytes → IsScript bytes script →
     (Rose source.faults source'.faults → ⊥) → (Rose sink.faults sink'.faults → ⊥) → (answer ≡ status.Done) ⊎ (answer ≡ status.NoMemory)
+
+-- where neither failed, the session of a script is written or too long, or memory was wanting
+abbrev pub CompletesRecord : Status → (words : List (List ℕ)) → (source source' : SourceState) → (sink sink' : SinkState) → Type 0
+CompletesRecord answer words source source' sink sink' =
+    (bytes : List ℕ) (script : Script) → IsRecord words → source.left ≡ Some bytes → IsScript bytes script →
+    (Rose source.faults source'.faults → ⊥) → (Rose sink.faults sink'.faults → ⊥) → (answer ≡ status.Done) ⊎ ((answer ≡ status.NoMemory) ⊎ (answer ≡ status.JournalFull))
 
 -- where the sink didn't fail, a drill is run to its end, or memory was wanting
 abbrev pub CompletesDrill : Status → (words : List (List ℕ)) → (sink sink' : SinkState) → Type 0
@@ -144,4 +165,5 @@ CompletesDrill answer words sink sink' =
 
 pub record Completes (answer : Status) (words : List (List ℕ)) (source source' : SourceState) (sink sink' : SinkState) : Type 0 where
   pub run : CompletesRun answer words source source' sink sink'
+  pub recording : CompletesRecord answer words source source' sink sink'
   pub drill : CompletesDrill answer words sink sink'

@@ -15,6 +15,21 @@ returns-then-is_run-clause-complete g c =
     completes _ (map string_bytes c.args.words.now) so.read so.written so.exchanges (g.S.Source.state c.args.source.now) (g.S.Source.state c.run_source.new.source) (g.K.Sink.state c.args.sink.now) (g.K.Sink.state c.run_source.new.sink) _ _ so.taken c.run_source.result so.outcome
     c.run_source.ensures.read_fault.rose c.run_source.ensures.write_fault.rose
 
+pub record_source-requires-clause-told : goal.record_source-requires-clause-told
+record_source-requires-clause-told g c = c.requires.told (sym c.is_record.ensures ∙ c.if-is_record.true)
+
+pub returns-then-is_record-clause-outcome : goal.returns-then-is_record-clause-outcome
+returns-then-is_record-clause-outcome g c = c.record_source.ensures.outcome (map string_bytes c.args.words.now) (sym c.is_record.ensures ∙ c.if-is_record.true)
+
+pub returns-then-is_record-clause-untouched : goal.returns-then-is_record-clause-untouched
+returns-then-is_record-clause-untouched g c = λ e. absurd (c.record_source.ensures.known e)
+
+pub returns-then-is_record-clause-complete : goal.returns-then-is_record-clause-complete
+returns-then-is_record-clause-complete g c =
+    let so = returns-then-is_record-clause-outcome g c in
+    completes _ (map string_bytes c.args.words.now) so.read so.written so.exchanges (g.S.Source.state c.args.source.now) (g.S.Source.state c.record_source.new.source) (g.K.Sink.state c.args.sink.now) (g.K.Sink.state c.record_source.new.sink) _ _ so.taken c.record_source.result so.outcome
+    c.record_source.ensures.read_fault.rose c.record_source.ensures.write_fault.rose
+
 pub returns-in-Some-clause-outcome : goal.returns-in-Some-clause-outcome
 returns-in-Some-clause-outcome g c =
     came_drilled g.H.Host.state g.H.Host.made (λ script. program_with g.N.Natives.names g.N.Natives.does script c.args.natives.now) (map string_bytes c.args.words.now) c.run_drill.result c.args.host.now c.run_drill.new.host
@@ -37,7 +52,7 @@ pub returns-in-None-clause-outcome : goal.returns-in-None-clause-outcome
 returns-in-None-clause-outcome g c =
     came_unknown g.H.Host.state g.H.Host.made (λ script. program_with g.N.Natives.names g.N.Natives.does script c.args.natives.now) (map string_bytes c.args.words.now) _ c.args.host.now c.args.host.now
     (g.S.Source.state c.args.source.now) (g.S.Source.state c.args.source.now) (g.K.Sink.state c.args.sink.now) (g.K.Sink.state c.args.sink.now)
-    (unknown (map string_bytes c.args.words.now) (sym c.is_run.ensures ∙ c.if-is_run.false) c.in-None.ensures) (quiet _ _ _ _)
+    (unknown (map string_bytes c.args.words.now) (sym c.is_run.ensures ∙ c.if-is_run.false) (sym c.is_record.ensures ∙ c.if-is_record.false) c.in-None.ensures) (quiet _ _ _ _)
 
 pub returns-in-None-clause-complete : goal.returns-in-None-clause-complete
 returns-in-None-clause-complete g c =
