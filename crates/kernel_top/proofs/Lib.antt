@@ -8,3 +8,7 @@ pub mod DrillOutput
 pub mod Sessions
 pub mod Outcomes
 pub mod Recorded
+pub mod Paths
+pub mod Following
+pub mod Strayed
+pub mod Replays

@@ -8,4 +8,5 @@ pub mod Drills
 pub mod NullSinks
 pub mod Unseen
 pub mod Sessions
+pub mod Replaying
 pub mod Outcomes

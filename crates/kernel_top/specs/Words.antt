@@ -17,12 +17,16 @@ is_word known _ = false
 abbrev pub IsRecord : List (List ℕ) → Type 0
 IsRecord words = is_word (codes "record") words ≡ true
 
+-- the words are `replay` alone
+abbrev pub IsReplay : List (List ℕ) → Type 0
+IsReplay words = is_word (codes "replay") words ≡ true
+
 -- the words are `drill` and this number
 abbrev pub IsDrill : List (List ℕ) → (count : ℕ) → Type 0
 IsDrill words count = drill_of words ≡ Some count
 
 abbrev pub IsKnown : List (List ℕ) → Type 0
-IsKnown words = IsRun words ⊎ (IsRecord words ⊎ ((count : ℕ) × IsDrill words count))
+IsKnown words = IsRun words ⊎ (IsRecord words ⊎ (IsReplay words ⊎ ((count : ℕ) × IsDrill words count)))
 
 -- the number that one to four digits spell
 abbrev pub number_of : List ℕ → Option ℕ

@@ -9,6 +9,7 @@ mod drilling;
 mod null_sink;
 mod reading;
 mod recording;
+mod replaying;
 mod status;
 mod summing;
 mod top;

@@ -17,7 +17,7 @@ use ek_types::{Sink, SinkFault, Source, put};
 use handler_code::Natives;
 use host_link::{Exchanges, Host};
 use journal_text::{LONGEST_SESSION, write_journal};
-use script_read::{ScriptFault, read};
+use script_read::{LONGEST_SCRIPT, ScriptFault, read};
 use std::alloc::Global;
 
 /// Writes a journal, and behind it the line `script` and the script.
@@ -106,7 +106,7 @@ pub(crate) fn record_source<S: Source, K: Sink, H: Host, N: Natives>(
     ensures unfailing { IsTrue (S.state source.old).unfailing →
         (S.state source.new).faults ≡ (S.state source.old).faults }
 {
-    match read_all(alloc, source) {
+    match read_all(alloc, source, LONGEST_SCRIPT) {
         Ok(bytes) => record_bytes(alloc, bytes.as_slice(), sink, host, natives),
         Err(Refused::Failed) => Status::ReadFault,
         Err(Refused::TooLong) => Status::Script(0),

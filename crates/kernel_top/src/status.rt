@@ -10,7 +10,7 @@ use kernel_run::Stop;
 pub enum Status {
     /// The script ran to its end, and all lines and the dump are written; or its session, or the summary of a drill.
     Done,
-    /// The words are neither `run` or `record` alone nor `drill` and a number of one to four digits. Nothing was read or
+    /// The words are neither `run`, `record` or `replay` alone nor `drill` and a number of one to four digits. Nothing was read or
     /// written.
     Usage,
     /// The bytes of the source are no script. The line is that at which they go wrong, and 0 where they are more than a
@@ -22,8 +22,14 @@ pub enum Status {
     WriteFault,
     /// Memory was wanting. What is written is whole lines of the run, and nothing of a session or a drill.
     NoMemory,
+    /// The bytes of the source are no session. The line is that at which the journal goes wrong, and 0 where they are more
+    /// than 268,435,456. Nothing was written.
+    Journal(u32),
     /// The session of the run is longer than 268,435,456 bytes. Nothing was written.
     JournalFull,
+    /// The run of the session's script doesn't end with all exchanges of its journal used up. The number is the greatest of
+    /// first exchanges that it goes through. Nothing was written.
+    Strayed(u32),
 }
 
 /// The status of a script that was run, by how that ended.

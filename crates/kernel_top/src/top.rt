@@ -9,14 +9,15 @@ ghost use Rattle.kernel_top.specs.Outcomes.{Came, CameSo, OfBytes, OnRun, OnDril
 use crate::drilling::drill;
 use crate::reading::{Refused, read_all};
 use crate::recording::record_source;
+use crate::replaying::replay_source;
 use crate::status::{Status, status_of, written_status};
 use crate::summing::{count_run, write_summary};
-use crate::words::{drill_of, is_record, is_run};
+use crate::words::{drill_of, is_record, is_replay, is_run};
 use ek_types::{Sink, Source};
 use handler_code::Natives;
 use host_link::Host;
 use kernel_run::Kernel;
-use script_read::{ScriptFault, read};
+use script_read::{LONGEST_SCRIPT, ScriptFault, read};
 use std::alloc::Global;
 
 /// Reads the script that some bytes are, and runs it on a kernel of its own.
@@ -68,7 +69,7 @@ fn run_source<S: Source, K: Sink, H: Host, N: Natives>(
     ensures unfailing { IsTrue (S.state source.old).unfailing →
         (S.state source.new).faults ≡ (S.state source.old).faults }
 {
-    match read_all(alloc, source) {
+    match read_all(alloc, source, LONGEST_SCRIPT) {
         Ok(bytes) => run_bytes(alloc, bytes.as_slice(), sink, host, natives),
         Err(Refused::Failed) => Status::ReadFault,
         Err(Refused::TooLong) => Status::Script(0),
@@ -106,7 +107,8 @@ fn run_drill<K: Sink, H: Host, N: Natives>(
 
 /// The words are those behind the program's name. `run` reads the script that the source holds, runs it, and writes
 /// its lines and the dump to the sink. `record` does so with the lines thrown away, and writes the session of the run:
-/// a line for each exchange, the line `script`, and the script as it was read. `drill` and a number of one to four digits reads nothing: it runs the script
+/// a line for each exchange, the line `script`, and the script as it was read. `replay` reads such a session and writes the
+/// lines and the dump of that run. It asks the host nothing. `drill` and a number of one to four digits reads nothing: it runs the script
 /// of that drill on the host, and writes one line that tells how many lines, exchanges and characters this came to.
 ///
 /// The status says what was read and written, as `outcome` has it: for `Done` the lines are those of the plain
@@ -116,11 +118,13 @@ fn run_drill<K: Sink, H: Host, N: Natives>(
 /// bytes. A run whose write fails stops at that line; the children that live are asked to be killed then, each once.
 /// The line of a drill is the summary of the plain machine's whole run on the drill's script, over just the exchanges
 /// made. Of a session no more than 268,435,456 bytes are written, and none where it is longer. For `record` the host
-/// tells its exchanges, and has told none yet.
+/// tells its exchanges, and has told none yet. A session is replayed only where the run of its script ends with all
+/// exchanges of its journal used up; else `Strayed` tells how many of the first ones the machine goes through.
 ///
 /// The source doesn't fail where it is known not to (`unfailing`), nor the sink where it has room for what the run
-/// says. No more than one byte behind the longest script, of 1,048,576 bytes, is asked of the source. Bytes that are
-/// no script, and no others, are answered by `Script` with the line of the fault.
+/// says. No more than one byte behind the longest script, of 1,048,576 bytes, is asked of the source, or for `replay`
+/// one behind the longest session, of 268,435,456. Bytes that are no script, and no others, are answered by `Script` with
+/// the line of the fault; for `replay` bytes that are no session are answered by `Journal` first.
 pub fn run<S: Source, K: Sink, H: Host, N: Natives>(
     alloc: Global,
     words: &[String],
@@ -149,6 +153,9 @@ pub fn run<S: Source, K: Sink, H: Host, N: Natives>(
     }
     if is_record(words) {
         return record_source(alloc, source, sink, host, natives);
+    }
+    if is_replay(words) {
+        return replay_source(alloc, source, sink, natives);
     }
     match drill_of(words) {
         Some(count) => run_drill(alloc, count, sink, host, natives),

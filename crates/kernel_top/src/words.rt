@@ -25,6 +25,16 @@ pub(crate) fn is_record(words: &[String]) -> bool
     }
 }
 
+/// Whether the words behind the program's name are `replay` alone.
+pub(crate) fn is_replay(words: &[String]) -> bool
+    ensures { result ≡ is_word (codes "replay") (map string_bytes words.now) }
+{
+    match words {
+        [word] => word.as_str() == "replay",
+        _ => false,
+    }
+}
+
 /// The number of a drill, where the words behind the program's name are `drill` and a number of one to four digits.
 pub fn drill_of(words: &[String]) -> Option<u32>
     ensures { result ≡ drill_of (map string_bytes words.now) }

@@ -1,0 +1,31 @@
+use Rattle.std.proofs.Common.{[], refl, inl, ap, Err}
+use Rattle.std.proofs.KnownBytes.{Appends-nil}
+use Rattle.ek_call.specs.Meaning.{script_of}
+use Rattle.host_link.specs.Meaning.{exchanges_of}
+use Rattle.kernel_run.specs.Whole.{program_with}
+use Rattle.kernel_top.proofs.Replays.{replayed_bytes}
+use Rattle.kernel_top.proofs.replaying.replay_bytes.Goals as goal
+
+pub returns-in-Err-Line-clause-written : goal.returns-in-Err-Line-clause-written
+returns-in-Err-Line-clause-written g c =
+    let none = c.in-Err-Line.ensures.none c.in-Err-Line.line (ap Err c.in-Err-Line.field-0-is) in
+    let at = c.in-Err-Line.ensures.line c.in-Err-Line.line (ap Err c.in-Err-Line.field-0-is) in
+    ([], Appends-nil _, rw c.in-Err-Line.line-is ((refl, refl), record { none = none; at = at }))
+
+pub returns-in-Err-NoMemory-clause-written : goal.returns-in-Err-NoMemory-clause-written
+returns-in-Err-NoMemory-clause-written g c = ([], Appends-nil _, inl (refl, refl))
+
+pub returns-in-Err-Line-2-clause-written : goal.returns-in-Err-Line-2-clause-written
+returns-in-Err-Line-2-clause-written g c =
+    let to = c.in-Ok.ensures.read in
+    let none = c.in-Err-Line-2.ensures.none c.in-Err-Line-2.line (ap Err c.in-Err-Line-2.field-0-is) in
+    let at = c.in-Err-Line-2.ensures.line c.in-Err-Line-2.line (ap Err c.in-Err-Line-2.field-0-is) in
+    ([], Appends-nil _, rw c.in-Err-Line-2.line-is ((refl, refl), record { journal = exchanges_of c.in-Ok.journal; bytes = _; lines = to.lines; is = to.whole; so = record { none = none; at = at } }))
+
+pub returns-in-Err-NoMemory-2-clause-written : goal.returns-in-Err-NoMemory-2-clause-written
+returns-in-Err-NoMemory-2-clause-written g c = ([], Appends-nil _, inl (refl, refl))
+
+pub returns-clause-written : goal.returns-clause-written
+returns-clause-written g c =
+    let (written, put, so) = c.replay_script.ensures.written in
+    (written, put, replayed_bytes (λ script. program_with g.N.Natives.names g.N.Natives.does script c.args.natives.now) (script_of c.in-Ok-2.script) c.replay_script.result c.args.bytes.now (exchanges_of c.in-Ok.journal) c.in-Ok.at written (g.K.Sink.state c.args.sink.now) (g.K.Sink.state c.replay_script.new.sink) c.in-Ok.ensures.read c.in-Ok-2.ensures.script so)
