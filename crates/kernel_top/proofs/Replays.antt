@@ -1,5 +1,5 @@
 -- What the functions of a replay come to.
-use Rattle.std.proofs.Common.{◌≡◌, ℕ, ◌<◌, ◌≤◌, ◌+◌, List, [], length, drop, Result, Ok, Err, inl, inr, refl, sym, subst, arith}
+use Rattle.std.proofs.Common.{◌≡◌, ℕ, ◌<◌, ◌≤◌, ◌+◌, List, [], ◌∷◌, ◌++◌, length, drop, Result, Ok, Err, inl, inr, refl, sym, ap, subst, arith, length-append, codes}
 use Rattle.std.specs.Io.KnownBytes.{Appends}
 use Rattle.editor_model.specs.Values.{Script}
 use Rattle.editor_model.specs.Editor.{Editor}
@@ -7,6 +7,7 @@ use Rattle.plain_machine.specs.Exchanges.{Exchange}
 use Rattle.plain_machine.specs.State.{Program}
 use Rattle.plain_machine.specs.Grammar.{IsScript}
 use Rattle.ek_types.specs.Io.{SourceState, SinkState}
+use Rattle.journal_text.specs.Lines.{ask_words, answer_words, line, journal}
 use Rattle.journal_text.specs.Allowed.{AreAnswered}
 use Rattle.journal_text.specs.Journals.{IsReadTo}
 use Rattle.journal_text.specs.Replayed.{ReplayState, host_state, new_replay, Replays}
@@ -30,15 +31,15 @@ pub calls_of_new : (old now : ReplayState) (exchanges : List Exchange) → old �
 calls_of_new old now exchanges fresh calls = subst (λ h. CallsSince host_state Replays h now exchanges) fresh calls
 
 -- THE SECOND RUN
-module _ (program : Program) (script : Script) (journal : List Exchange) where
-  pub replayed_on : {T : Type 0} (r : Result T Stop) (now : ReplayState) (exchanges : List Exchange) (written : List ℕ) (before after : SinkState) (left : Editor) → AreAnswered 0 journal →
-      CallsSince host_state Replays (new_replay journal) now exchanges → IsWhole program script journal → EndsAs r program script exchanges written before after left → ReplayedOn program (status_of r) script journal written before after
-  replayed_on (Ok x) now exchanges written before after left answered calls whole (ran, last) = ran_journal program script journal now exchanges written before after answered calls whole ran
-  replayed_on (Err stop.WriteFault) now exchanges written before after left answered calls whole stopped = cuts_journal program script journal stop.WriteFault now exchanges written before after answered calls whole stopped
-  replayed_on (Err stop.NoMemory) now exchanges written before after left answered calls whole stopped = inr (cuts_journal program script journal stop.NoMemory now exchanges written before after answered calls whole stopped)
+module _ (program : Program) (script : Script) (list : List Exchange) where
+  pub replayed_on : {T : Type 0} (r : Result T Stop) (now : ReplayState) (exchanges : List Exchange) (written : List ℕ) (before after : SinkState) (left : Editor) → AreAnswered 0 list →
+      CallsSince host_state Replays (new_replay list) now exchanges → IsWhole program script list → EndsAs r program script exchanges written before after left → ReplayedOn program (status_of r) script list written before after
+  replayed_on (Ok x) now exchanges written before after left answered calls whole (ran, last) = ran_journal program script list now exchanges written before after answered calls whole ran
+  replayed_on (Err stop.WriteFault) now exchanges written before after left answered calls whole stopped = cuts_journal program script list stop.WriteFault now exchanges written before after answered calls whole stopped
+  replayed_on (Err stop.NoMemory) now exchanges written before after left answered calls whole stopped = inr (cuts_journal program script list stop.NoMemory now exchanges written before after answered calls whole stopped)
 
   -- the first run refused it
-  pub refused_on : (answer : Status) (sink : SinkState) → Followed (Err answer) program script journal → ReplayedOn program answer script journal [] sink sink
+  pub refused_on : (answer : Status) (sink : SinkState) → Followed (Err answer) program script list → ReplayedOn program answer script list [] sink sink
   refused_on status.NoMemory sink so = inl (refl, refl)
   refused_on (status.Strayed most) sink so = ((refl, refl), so)
   refused_on status.Done sink so = absurd so
@@ -50,6 +51,17 @@ module _ (program : Program) (script : Script) (journal : List Exchange) where
   refused_on status.JournalFull sink so = absurd so
 
 -- THE BYTES
+-- a journal has no more exchanges than bytes
+few_lines : (list : List Exchange) → length list ≤ length (journal list)
+few_lines [] = omega arith
+few_lines (x ∷ list) =
+    let ending : List ℕ = codes " -> " ++ (answer_words x.answer ++ 10 ∷ []) in
+    omega (arith, few_lines list, length-append (line x) (journal list), length-append (ask_words x.ask) ending, length-append (codes " -> ") (answer_words x.answer ++ 10 ∷ []), length-append (answer_words x.answer) (10 ∷ []))
+
+pub few_exchanges : (bytes : List ℕ) (list : List Exchange) (at : ℕ) → IsReadTo bytes list at → length bytes ≤ longest_session → length list ≤ longest_session
+few_exchanges bytes list at to short =
+    omega (arith, short, few_lines list, ap length to.whole, length-append (journal list) (codes "script\n" ++ drop at bytes))
+
 -- the script of a session was replayed
 pub replayed_bytes : (program : Script → Program) (script : Script) (answer : Status) (read : List ℕ) (journal : List Exchange) (at : ℕ) (written : List ℕ) (before now : SinkState) →
     IsReadTo read journal at → IsScript (drop at read) script → ReplayedOn (program script) answer script journal written before now → Replayed program answer read written before now

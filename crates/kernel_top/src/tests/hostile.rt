@@ -23,7 +23,7 @@ const ROWS: [&[Row]; 6] = [
 ];
 
 /// All runs.
-fn all(alloc: Global) -> Result<Vec<Run>, Fail> {
+pub fn all(alloc: Global) -> Result<Vec<Run>, Fail> {
     let mut runs = nesting::runs(alloc)?;
     for row in ROWS.into_iter().flatten() {
         runs.push(row.run(alloc)?)?;

@@ -168,7 +168,8 @@ pub fn run_over<N: Natives>(
     setting: Setting,
     natives: &N,
 ) -> Result<Ran, Fail>
-    requires { host.kills ≡ [] }
+    requires kills { host.kills ≡ [] }
+    requires told { host.told ≡ [] }
 {
     let Setting { from, to, room, .. } = setting;
     let words = given(alloc, words)?;

@@ -1,9 +1,9 @@
-use Rattle.std.proofs.Common.{[], refl, inl, ap, Err}
+use Rattle.std.proofs.Common.{[], refl, inl, ap, Err, arith}
 use Rattle.std.proofs.KnownBytes.{Appends-nil}
 use Rattle.ek_call.specs.Meaning.{script_of}
 use Rattle.host_link.specs.Meaning.{exchanges_of}
 use Rattle.kernel_run.specs.Whole.{program_with}
-use Rattle.kernel_top.proofs.Replays.{replayed_bytes}
+use Rattle.kernel_top.proofs.Replays.{few_exchanges, replayed_bytes}
 use Rattle.kernel_top.proofs.replaying.replay_bytes.Goals as goal
 
 pub returns-in-Err-Line-clause-written : goal.returns-in-Err-Line-clause-written
@@ -24,6 +24,11 @@ returns-in-Err-Line-2-clause-written g c =
 
 pub returns-in-Err-NoMemory-2-clause-written : goal.returns-in-Err-NoMemory-2-clause-written
 returns-in-Err-NoMemory-2-clause-written g c = ([], Appends-nil _, inl (refl, refl))
+
+pub replay_script-requires-clause-few : goal.replay_script-requires-clause-few
+replay_script-requires-clause-few g c =
+    let few = few_exchanges c.args.bytes.now (exchanges_of c.in-Ok.journal) c.in-Ok.at c.in-Ok.ensures.read c.requires in
+    omega (arith, few)
 
 pub returns-clause-written : goal.returns-clause-written
 returns-clause-written g c =
