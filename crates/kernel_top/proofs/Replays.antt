@@ -50,7 +50,13 @@ module _ (program : Program) (script : Script) (list : List Exchange) where
   refused_on (status.Journal line) sink so = absurd so
   refused_on status.JournalFull sink so = absurd so
 
+  pub no_write_fault : (answer : Status) → Followed (Err answer) program script list → answer ≡ status.WriteFault → ⊥
+  no_write_fault answer so e = subst (λ a. Followed (Err a) program script list) e so
+
 -- THE BYTES
+pub no_read_fault : (program : Script → Program) (answer : Status) (read written : List ℕ) (before now : SinkState) → Replayed program answer read written before now → answer ≡ status.ReadFault → ⊥
+no_read_fault program answer read written before now so e = subst (λ a. Replayed program a read written before now) e so
+
 -- a journal has no more exchanges than bytes
 few_lines : (list : List Exchange) → length list ≤ length (journal list)
 few_lines [] = omega arith

@@ -4,7 +4,7 @@ use Rattle.ek_call.specs.Meaning.{script_of}
 use Rattle.kernel_run.specs.Whole.{program_with}
 use Rattle.kernel_top.specs.Outcomes.{seen}
 use Rattle.kernel_top.proofs.Outcomes.{quiet}
-use Rattle.kernel_top.proofs.Recorded.{broke_off, recorded, told_all, tells_still}
+use Rattle.kernel_top.proofs.Recorded.{broke_off, recorded, told_all, tells_still, no_read_fault, no_usage}
 use Rattle.kernel_top.proofs.recording.record_bytes.Goals as goal
 
 pub returns-in-Err-Line-clause-outcome : goal.returns-in-Err-Line-clause-outcome
@@ -60,3 +60,13 @@ pub unreachable-requires : goal.unreachable-requires
 unreachable-requires g c =
     let (exchanges, calls, whole) = c.in-Ok-ran.ensures in
     tells_still g.H.Host.state g.H.Host.made c.args.host.now c.run_unseen-ran.new.host exchanges calls c.requires.told c.in-None.ensures
+
+pub returns-in-Some-clause-no_read : goal.returns-in-Some-clause-no_read
+returns-in-Some-clause-no_read g c =
+    let (written, put, row) = c.write_session.ensures.written in
+    λ e. no_read_fault c.write_session.result _ written (g.K.Sink.state c.args.sink.now) (g.K.Sink.state c.write_session.new.sink) row e
+
+pub returns-in-Some-clause-known : goal.returns-in-Some-clause-known
+returns-in-Some-clause-known g c =
+    let (written, put, row) = c.write_session.ensures.written in
+    λ e. no_usage c.write_session.result _ written (g.K.Sink.state c.args.sink.now) (g.K.Sink.state c.write_session.new.sink) row e

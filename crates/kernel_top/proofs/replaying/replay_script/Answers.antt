@@ -1,4 +1,4 @@
-use Rattle.std.proofs.Common.{◌≡◌, [], refl, sym, ap, ◌∙◌, subst, length}
+use Rattle.std.proofs.Common.{◌≡◌, [], refl, sym, ap, ◌∙◌, subst, length, arith}
 use Rattle.std.proofs.KnownBytes.{Appends-nil}
 use Rattle.std.proofs.lemmas.List.{length-map}
 use Rattle.ek_call.specs.Meaning.{script_of}
@@ -6,7 +6,7 @@ use Rattle.ek_types.specs.Listing.{items_of}
 use Rattle.host_link.specs.Meaning.{exchange_of, exchanges_of}
 use Rattle.kernel_run.specs.Whole.{program_with}
 use Rattle.kernel_top.specs.Unseen.{IsWhole}
-use Rattle.kernel_top.proofs.Replays.{refused_on}
+use Rattle.kernel_top.proofs.Replays.{refused_on, no_write_fault}
 use Rattle.kernel_top.proofs.replaying.replay_script.Goals as goal
 
 pub follow-requires-clause-fresh : goal.follow-requires-clause-fresh
@@ -36,3 +36,9 @@ returns-in-Err-clause-written g c = (
   Appends-nil _,
   refused_on (program_with g.N.Natives.names g.N.Natives.does (script_of c.args.script.now) c.args.natives.now) (script_of c.args.script.now) (exchanges_of c.args.journal) c.in-Err.status (g.K.Sink.state c.args.sink.now) (rw c.new-host.ensures at c.in-Err.ensures.followed),
 )
+
+pub returns-in-Err-clause-write_fault : goal.returns-in-Err-clause-write_fault
+returns-in-Err-clause-write_fault g c = record {
+  later = omega arith;
+  rose = λ e. absurd (no_write_fault (program_with g.N.Natives.names g.N.Natives.does (script_of c.args.script.now) c.args.natives.now) (script_of c.args.script.now) _ c.in-Err.status c.in-Err.ensures.followed e);
+}
