@@ -265,7 +265,11 @@ fn a_recorded_child_is_replayed(rt: HostRuntime) -> Result<(), Fail> {
     let mut none = MemoryHost::new(Vec::new(rt.alloc()), Vec::new(rt.alloc()));
     let (status, lines) = written_by(rt.alloc(), "replay", session.as_slice(), &mut none)?;
     assert_eq!(rt; status, Status::Done);
-    assert!(rt; lines.starts_with(b"= #<process c>\n= insert-filter\n> filter insert-filter #<process c> \"hi\"\n"));
+    assert!(rt;
+        lines.starts_with(
+            b"= #<process c>\n= insert-filter\n> filter insert-filter #<process c> \"hi\"\n"
+        )
+    );
     assert!(rt; lines.ends_with(b"process 0 #<process c> exit 0\n"));
     Ok(())
 }

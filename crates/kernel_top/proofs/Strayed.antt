@@ -49,11 +49,11 @@ module _ (program : Program) (script : Script) (journal : List Exchange) where
 
   strays_by : (front rest : List Exchange) → journal ≡ front ++ rest → Goes front → Stuck front rest → (rest ≡ [] → IsWhole program script journal → ⊥) → Strays program script journal (length front)
   strays_by front rest is goes stuck over = record {
-      unended = unended rest is stuck over;
-      within = omega (arith, ap length is, length-append front rest);
-      goes = subst Goes (sym (ap (take (length front)) is ∙ take_at front rest (length front) refl)) goes;
-      no_more = λ k few through. by k rest is stuck few through (nat_le k (length front)) refl;
-    }
+    unended = unended rest is stuck over;
+    within = omega (arith, ap length is, length-append front rest);
+    goes = subst Goes (sym (ap (take (length front)) is ∙ take_at front rest (length front) refl)) goes;
+    no_more = λ k few through. by k rest is stuck few through (nat_le k (length front)) refl;
+  }
     where
       unended : (rest : List Exchange) → journal ≡ front ++ rest → Stuck front rest → (rest ≡ [] → IsWhole program script journal → ⊥) → IsWhole program script journal → ⊥
       unended [] is stuck over whole = over refl whole

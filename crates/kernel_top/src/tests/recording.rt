@@ -56,7 +56,13 @@ script
 
 #[test]
 fn bytes_that_are_no_script_are_not_recorded(rt: HostRuntime) -> Result<(), Fail> {
-    let ran = run_words(rt.alloc(), &["record"], "(point)\n(goto-char)\n", Vec::new(rt.alloc()), PLAIN)?;
+    let ran = run_words(
+        rt.alloc(),
+        &["record"],
+        "(point)\n(goto-char)\n",
+        Vec::new(rt.alloc()),
+        PLAIN,
+    )?;
     assert_eq!(rt; ran.status, Status::Script(2));
     assert_eq!(rt; ran.written.len(), 0);
     assert_eq!(rt; ran.exchanges.len(), 0);

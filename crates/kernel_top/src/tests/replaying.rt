@@ -138,7 +138,12 @@ fn check_replayed(rt: &impl Abort, alloc: Global, run: &Run) -> Result<(), Fail>
     let children = plays(alloc, run.children)?;
     let recorded = run_words(alloc, &["record"], run.script.as_str(), children, PLAIN)?;
     assert_eq!(rt; recorded.status, Status::Done, "{}", run.shows);
-    assert_eq!(rt; recorded.exchanges.as_slice(), run.exchanges.as_slice(), "{}", run.shows);
+    assert_eq!(rt;
+        recorded.exchanges.as_slice(),
+        run.exchanges.as_slice(),
+        "{}",
+        run.shows
+    );
     let session = String::from_utf8_lossy(alloc, recorded.written.as_slice())?;
     let ran = replay(alloc, session.as_str(), PLAIN)?;
     check_ran(rt, alloc, run.shows, &ran, run.lines.as_str(), b"")
