@@ -19,11 +19,12 @@ module _ (program : Program) (bound : ℕ) where
     pub run : Reaches program bound from exchanges said last
 
   pub front_through : {from c : Config} {all : List Exchange} {said : List Said} → Reaches program bound from all said c → (front rest : List Exchange) → all ≡ front ++ rest → Through from front
-  front_through {from = from} r [] rest e = record { said = []; last = from; run = stays }
-  front_through stays (z ∷ front) rest e = absurd (let no = e in cc)
-  front_through (goes {n = n} h r) (z ∷ front) rest e =
-      let more = front_through r (z ∷ front) rest e in
+  front_through (goes {n = n} h r) front rest e =
+      let more = front_through r front rest e in
       record { said = n.said ++ more.said; last = more.last; run = goes h more.run }
+  front_through {from = from} stays [] rest e = record { said = []; last = from; run = stays }
+  front_through stays (z ∷ front) rest e = absurd (let never = e in cc)
+  front_through {from = from} (asks h k r) [] rest e = record { said = []; last = from; run = stays }
   front_through {from = from} (asks {ask = ask} {answer = answer} {next = next} {n = n} {exchanges = exchanges} h k r) (z ∷ front) rest e =
       let head : Exchange = record { ask = ask; answer = answer } in
       let same : head ≡ z = cc in
@@ -41,8 +42,8 @@ module _ (program : Program) (bound : ℕ) where
     pub step_is : step program bound there ≡ Asks ask next
 
   pub asks_next : {from c : Config} {all : List Exchange} {said : List Said} → Reaches program bound from all said c → (front : List Exchange) (x : Exchange) (behind : List Exchange) → all ≡ front ++ x ∷ behind → AsksNext from front x.ask
-  asks_next stays [] x behind e = absurd (let no = e in cc)
-  asks_next stays (z ∷ front) x behind e = absurd (let no = e in cc)
+  asks_next stays [] x behind e = absurd (let never = e in cc)
+  asks_next stays (z ∷ front) x behind e = absurd (let never = e in cc)
   asks_next (goes {n = n} h r) front x behind e =
       let more = asks_next r front x behind e in
       record { said = n.said ++ more.said; there = more.there; run = goes h more.run; next = more.next; step_is = more.step_is }
@@ -64,8 +65,8 @@ module _ (program : Program) (bound : ℕ) where
       }
 
   first_ask : {from c : Config} {all : List Exchange} {said : List Said} {ask : Ask} {next : Answer → Option Next} → Reaches program bound from all said c → step program bound from ≡ Asks ask next → (y : Exchange) (more : List Exchange) → all ≡ y ∷ more → ask ≡ y.ask
-  first_ask stays h y more e = absurd (let no = e in cc)
-  first_ask {ask = ask} {next = next} (goes {n = n} k r) h y more e = absurd (let no : Asks ask next ≡ Goes n = sym h ∙ k in cc)
+  first_ask stays h y more e = absurd (let never = e in cc)
+  first_ask {ask = ask} {next = next} (goes {n = n} k r) h y more e = absurd (let never : Asks ask next ≡ Goes n = sym h ∙ k in cc)
   first_ask {ask = ask} {next = next} (asks {ask = other} {answer = answer} {next = next'} k j r) h y more e =
       let same : Asks ask next ≡ Asks other next' = sym h ∙ k in
       let one : ask ≡ other = cc in
@@ -82,13 +83,13 @@ module _ (program : Program) (bound : ℕ) where
     where
       by : (at : AsksNext from front x.ask) → GoesOn program bound at.said others at.there d (y ∷ more) ⊎ ((y ∷ more ≡ []) × GoesOn program bound others at.said d at.there []) → x.ask ≡ y.ask
       by at (inl g) = first_ask g.way at.step_is y more refl
-      by at (inr (no, g)) = absurd (let never = no in cc)
+      by at (inr (none, g)) = absurd (let never = none in cc)
 
   -- ENDS
   nothing_follows : {c d : Config} {all : List Exchange} {said : List Said} → Reaches program bound c all said d → step program bound c ≡ Ended → (said ≡ []) × (all ≡ [])
   nothing_follows stays e = (refl, refl)
-  nothing_follows (goes {n = n} h r) e = absurd (let no : Goes n ≡ Ended = sym h ∙ e in cc)
-  nothing_follows (asks {ask = ask} {next = next} h k r) e = absurd (let no : Asks ask next ≡ Ended = sym h ∙ e in cc)
+  nothing_follows (goes {n = n} h r) e = absurd (let never : Goes n ≡ Ended = sym h ∙ e in cc)
+  nothing_follows (asks {ask = ask} {next = next} h k r) e = absurd (let never : Asks ask next ≡ Ended = sym h ∙ e in cc)
 
   -- a run that has ended goes through no exchange more
   pub ended_there : (from c d : Config) (said others : List Said) (front more : List Exchange) (y : Exchange) →
@@ -96,8 +97,8 @@ module _ (program : Program) (bound : ℕ) where
   ended_there from c d said others front more y r e t = by (one_run program bound from front (y ∷ more) said others c d r t)
     where
       by : GoesOn program bound said others c d (y ∷ more) ⊎ ((y ∷ more ≡ []) × GoesOn program bound others said d c []) → ⊥
-      by (inl g) = let no = (nothing_follows g.way e).1 in cc
-      by (inr (no, g)) = let never = no in cc
+      by (inl g) = let never = (nothing_follows g.way e).1 in cc
+      by (inr (none, g)) = let never = none in cc
 
   -- what was said on a front of the exchanges is a front of what the whole run says
   pub said_front : (from c d : Config) (said others : List Said) (front rest : List Exchange) →

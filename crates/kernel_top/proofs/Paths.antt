@@ -52,9 +52,15 @@ followed_first start next now x more exchanges one (follows rest is on count) =
 followed_first start next now x more exchanges one (strays front z behind rest is left differs gone count) =
     strays (x ∷ front) z behind rest (ap (λ l. x ∷ l) is) (ap (λ l. x ∷ l) left) differs gone (omega (arith, count, one))
 
+-- the way on from the next exchange of a journal
+abbrev Behind : (done : List Exchange) → Exchange → (next now : ReplayState) → (exchanges : List Exchange) → Type 0
+Behind done x next now exchanges =
+    (more : List Exchange) → next.list ≡ (done ++ x ∷ []) ++ more → length (done ++ x ∷ []) ≡ next.matched → next.strayed ≡ false → Path next now more exchanges
+
 pub path : (done left exchanges : List Exchange) (start now : ReplayState) → start.list ≡ done ++ left → length done ≡ start.matched → start.strayed ≡ false → CallsSince host_state Replays start now exchanges → Path start now left exchanges
 path done left [] start now list at on calls = follows left refl (ap (λ (s : ReplayState). s.strayed) calls ∙ on) (let e = ap (λ (s : ReplayState). s.matched) calls in omega (arith, e))
-path done left (x ∷ exchanges) start now list at on (next, call, rest) = by left list call.own.follows call.own.reply call.own.after
+path done left (x ∷ exchanges) start now list at on (next, call, rest) =
+    by left list call.own.follows call.own.reply call.own.after (λ more longer count still. path (done ++ x ∷ []) more exchanges next now longer count still rest)
   where
     strayed_here : (left : List Exchange) → start.list ≡ done ++ left → ((y : Exchange) → Agrees start.strayed start.list start.matched x.ask (room_of x.ask) y → ⊥) → next ≡ after_exchange start false x.ask x.answer → Path start now left (x ∷ exchanges)
     strayed_here left list none after =
@@ -63,10 +69,10 @@ path done left (x ∷ exchanges) start now list at on (next, call, rest) = by le
         (λ y more e same room. none y (record { on = on; next = rw (list, e, ← at) (at_next done more y); same = same; fits = room }))
         gone.0 (let e = ap (λ (s : ReplayState). s.matched) after in omega (arith, e, gone.1))
 
-    by : (left : List Exchange) → start.list ≡ done ++ left → (follows : Bool) → IsReply start.strayed start.list start.matched x.ask (room_of x.ask) follows x.answer → next ≡ after_exchange start follows x.ask x.answer → Path start now left (x ∷ exchanges)
-    by left list false (none, is) after = strayed_here left list none after
-    by [] list true (y, agrees, is) after = absurd (let no : None ≡ Some y = sym (rw (list, ← at) (at_end done)) ∙ agrees.next in cc)
-    by (z ∷ more) list true (y, agrees, is) after =
+    by : (left : List Exchange) → start.list ≡ done ++ left → (follows : Bool) → IsReply start.strayed start.list start.matched x.ask (room_of x.ask) follows x.answer → next ≡ after_exchange start follows x.ask x.answer → Behind done x next now exchanges → Path start now left (x ∷ exchanges)
+    by left list false (none, is) after behind = strayed_here left list none after
+    by [] list true (y, agrees, is) after behind = absurd (let never : None ≡ Some y = sym (rw (list, ← at) (at_end done)) ∙ agrees.next in cc)
+    by (z ∷ more) list true (y, agrees, is) after behind =
         let same : Some z ≡ Some y = sym (rw (list, ← at) (at_next done more z)) ∙ agrees.next in
         let first : z ≡ y = cc in
         let whole : y ≡ x = (λ i. record { ask = agrees.same i; answer = sym is i }) in
@@ -76,7 +82,7 @@ path done left (x ∷ exchanges) start now list at on (next, call, rest) = by le
         let count : next.matched ≡ start.matched + 1 = ap (λ (s : ReplayState). s.matched) after in
         subst (λ w. Path start now (w ∷ more) (x ∷ exchanges)) (sym head)
         (followed_first start next now x more exchanges count
-        (path (done ++ x ∷ []) more exchanges next now longer (omega (arith, count, at, length-append done (x ∷ []))) (ap (λ (s : ReplayState). s.strayed) after) rest))
+        (behind more longer (omega (arith, count, at, length-append done (x ∷ []))) (ap (λ (s : ReplayState). s.strayed) after)))
 
 -- ROOM
 -- an answer of a journal has room in what its ask gives

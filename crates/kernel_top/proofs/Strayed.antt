@@ -89,7 +89,7 @@ module _ (program : Program) (script : Script) (journal : List Exchange) where
   is_followed s = not s.strayed && (s.matched == length journal)
 
   pub whole_journal : (now : ReplayState) (exchanges : List Exchange) → CallsSince host_state Replays (new_replay journal) now exchanges → IsWhole program script exchanges → is_followed now ≡ true → IsWhole program script journal
-  whole_journal now exchanges calls whole yes = by (path [] journal exchanges (new_replay journal) now refl refl refl calls)
+  whole_journal now exchanges calls whole all_of_it = by (path [] journal exchanges (new_replay journal) now refl refl refl calls)
     where
       none_left : (rest : List Exchange) → length rest ≡ 0 → rest ≡ []
       none_left [] e = refl
@@ -97,20 +97,20 @@ module _ (program : Program) (script : Script) (journal : List Exchange) where
 
       by : Path (new_replay journal) now journal exchanges → IsWhole program script journal
       by (follows rest is on count) =
-          let all : now.matched ≡ length journal = eqb-true now.matched (length journal) (rw on at yes) in
+          let all : now.matched ≡ length journal = eqb-true now.matched (length journal) (rw on at all_of_it) in
           let none : rest ≡ [] = none_left rest (omega (arith, all, count, ap length is, length-append exchanges rest)) in
           subst (IsWhole program script) (sym (is ∙ ap (λ l. exchanges ++ l) none ∙ append-nil exchanges)) whole
-      by (strays front x behind rest is left differs gone count) = absurd (let no : false ≡ true = rw gone at yes in cc)
+      by (strays front x behind rest is left differs gone count) = absurd (let never : false ≡ true = rw gone at all_of_it in cc)
 
   pub strays_there : (now : ReplayState) (exchanges : List Exchange) → AreAnswered 0 journal → CallsSince host_state Replays (new_replay journal) now exchanges → IsWhole program script exchanges → is_followed now ≡ false → Strays program script journal now.matched
-  strays_there now exchanges answered calls whole no = by (path [] journal exchanges (new_replay journal) now refl refl refl calls)
+  strays_there now exchanges answered calls whole not_all = by (path [] journal exchanges (new_replay journal) now refl refl refl calls)
     where
       by : Path (new_replay journal) now journal exchanges → Strays program script journal now.matched
       by (follows rest is on count) =
           let count_is : length exchanges ≡ now.matched = omega (arith, count) in
           let goes : Goes exchanges = record { said = whole.ran.said; last = whole.ran.last; run = whole.ran.run } in
           subst (Strays program script journal) count_is (strays_by exchanges rest is goes (ended_stuck exchanges rest whole)
-          (λ none. absurd (eqb-false now.matched (length journal) (rw on at no) (omega (arith, count, ap length is, length-append exchanges rest, ap length none)))))
+          (λ none. absurd (eqb-false now.matched (length journal) (rw on at not_all) (omega (arith, count, ap length is, length-append exchanges rest, ap length none)))))
       by (strays front x behind rest is left differs gone count) =
           let count_is : length front ≡ now.matched = omega (arith, count) in
           let asked : Goes (front ++ x ∷ behind) = record { said = whole.ran.said; last = whole.ran.last; run = subst (λ l. Reaches program deepest (start script) l whole.ran.said whole.ran.last) is whole.ran.run } in
@@ -151,8 +151,8 @@ module _ (program : Program) (script : Script) (journal : List Exchange) where
       let (mid, first) = calls_front (new_replay journal) now broken.made broken.kills (subst (CallsSince host_state Replays (new_replay journal) now) broken.exchanges_are calls) in
       let goes : Goes broken.made = record { said = broken.said; last = broken.last; run = broken.run } in
       let (rest, is) = front_of mid broken.made answered first goes whole in
-      let all = whole_goes (broken.made ++ rest) whole is in
-      let (further, said_is) = said_front program deepest (start script) broken.last all.last broken.said all.said broken.made rest broken.run all.run whole.ran.ended in
+      let all = subst (λ l. Reaches program deepest (start script) l whole.ran.said whole.ran.last) is whole.ran.run in
+      let (further, said_is) = said_front program deepest (start script) broken.last whole.ran.last broken.said whole.ran.said broken.made rest broken.run all whole.ran.ended in
       let (cut, front) = broken.bytes in
       let bytes : whole.lines ≡ lines broken.said ++ lines further = whole.ran.bytes ∙ ap lines said_is ∙ flat_map-append (λ x. x.line) broken.said further in
       record {
