@@ -185,6 +185,3 @@ impl Piece {
         })
     }
 }
-
-#[cfg(test)]
-mod tests;
