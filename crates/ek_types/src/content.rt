@@ -260,6 +260,3 @@ impl Content {
         })
     }
 }
-
-#[cfg(test)]
-mod tests;

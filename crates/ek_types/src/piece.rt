@@ -189,6 +189,3 @@ impl Piece {
         })
     }
 }
-
-#[cfg(test)]
-mod tests;
