@@ -1,0 +1,16 @@
+//! Comparing. Each comparison is a call, so a test that makes many of them branches at none.
+ghost use Rattle.std.specs.Prelude.{IsTrue};
+
+use std::fmt::Debug;
+use std::process::Abort;
+
+/// What was found is what was expected.
+pub fn is<T: PartialEq + Debug + Drop>(rt: &impl Abort, found: T, expected: T) {
+    assert_eq!(rt; found, expected);
+}
+
+pub fn holds(rt: &impl Abort, condition: bool)
+    ensures { IsTrue condition }
+{
+    assert!(rt; condition);
+}

@@ -1,0 +1,8 @@
+//! Comparing. Each comparison is a call, so a test that makes many of them branches at none.
+use std::fmt::Debug;
+use std::process::Abort;
+
+/// What was found is what was expected.
+pub fn is<T: PartialEq + Debug + Drop>(rt: &impl Abort, found: T, expected: T) {
+    assert_eq!(rt; found, expected);
+}
