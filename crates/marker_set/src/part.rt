@@ -17,7 +17,7 @@ use std::alloc::Global;
 use std::marker::Model;
 
 /// How many markers a part has room for.
-pub(crate) const CELLS: usize = 128;
+pub(crate) const CELLS: usize = 64;
 
 /// Markers of one buffer that are alike in whether they advance. Their places are counted from an offset, so that all
 /// move at once where that moves. No marker lies before `least` or behind `most`.
