@@ -24,13 +24,27 @@ fn repeated(
     text
 }
 
+/// The lines behind the last waits.
+const SPENT: &str = "! 14 exchanges-spent
+kill #<process c>
+buffer *scratch* point 1 min 1 max 1 modified nil current
+text \"\"
+marker 0 #<marker in no buffer>
+process 0 #<process c> run 0
+";
+
+/// Reads that find nothing, as many as are left behind the start of a child.
+fn silence(rt: &impl Abort, alloc: Global) -> Vec<&'static [u8]> {
+    let mut reads: Vec<&'static [u8]> = Vec::new(alloc);
+    for _ in 0..MOST_EXCHANGES - 1 {
+        reads.push(b"").expect(rt, "memory");
+    }
+    reads
+}
+
 /// Of the 66 waits of 1,000 rounds the last has 535 left. The kill is asked all the same.
 #[test]
 fn no_exchange_is_left(rt: HostRuntime) {
-    let mut reads: Vec<&[u8]> = Vec::new(rt.alloc());
-    for _ in 0..MOST_EXCHANGES - 1 {
-        reads.push(b"").expect(&rt, "memory");
-    }
     let script = repeated(
         &rt,
         rt.alloc(),
@@ -39,20 +53,7 @@ fn no_exchange_is_left(rt: HostRuntime) {
         66,
         "",
     );
-    let lines = repeated(
-        &rt,
-        rt.alloc(),
-        "= #<process c>\n",
-        "= nil\n",
-        65,
-        "! 14 exchanges-spent
-kill #<process c>
-buffer *scratch* point 1 min 1 max 1 modified nil current
-text \"\"
-marker 0 #<marker in no buffer>
-process 0 #<process c> run 0
-",
-    );
+    let lines = repeated(&rt, rt.alloc(), "= #<process c>\n", "= nil\n", 65, SPENT);
     let exchanges = repeated(
         &rt,
         rt.alloc(),
@@ -66,7 +67,7 @@ process 0 #<process c> run 0
         rt.alloc(),
         "no exchange is left",
         script.as_str(),
-        one_child(&rt, rt.alloc(), reads.as_slice()),
+        one_child(&rt, rt.alloc(), silence(&rt, rt.alloc()).as_slice()),
         lines.as_str(),
         exchanges.as_bytes(),
     )
@@ -75,31 +76,8 @@ process 0 #<process c> run 0
 /// The characters of the largest text.
 const LARGEST_TEXT: usize = 4_194_304;
 
-/// A text that fits when it is prepared doesn't where the output that its hook waits for has filled
-/// the buffer meanwhile. What comes then is refused too: by preparing, and by the default handlers.
-#[test]
-fn output_fills_a_buffer_inside_a_hook(rt: HostRuntime) {
-    let letters = "x"
-        .repeat(rt.alloc(), LARGEST_TEXT / 64)
-        .expect(&rt, "memory");
-    let doubled = "(insert-buffer-substring \"out\")"
-        .repeat(rt.alloc(), 4)
-        .expect(&rt, "memory");
-    let script = format!(in rt.alloc();
-        "(defhandler h (b e) (accept-process-output p))
-(setq p (start-process \"c\" \"out\" \"cat\"))(set-buffer \"out\")(insert \"{letters}\"){doubled}
-(insert-buffer-substring \"out\" 1 1048577)(insert-buffer-substring \"out\" 1 1048577)
-(insert-buffer-substring \"out\" 1 1048576)(buffer-size)(add-hook 'before-change-functions 'h)
-(insert \"z\")(insert \"z\")(accept-process-output p)(goto-char 1)(char-after)(buffer-size)(kill-buffer)"
-    )
-    .expect(&rt, "memory");
-    let lines = repeated(
-        &rt,
-        rt.alloc(),
-        "= #<process c>\n= #<buffer out>\n",
-        "= nil\n",
-        8,
-        "= 4194303
+/// The lines from the size of the buffer on.
+const FULL: &str = "= 4194303
 = (h)
 > before h 4194304 4194304
   > filter default #<process c> \"y\"
@@ -123,7 +101,36 @@ buffer *scratch* point 1 min 1 max 1 modified nil current
 text \"\"
 marker 0 #<marker in no buffer>
 process 0 #<process c> signal nil
-",
+";
+
+/// A script that fills a buffer but for one character, which two more are put into.
+fn filling(rt: &impl Abort, alloc: Global) -> String {
+    let letters = "x".repeat(alloc, LARGEST_TEXT / 64).expect(rt, "memory");
+    let doubled = "(insert-buffer-substring \"out\")"
+        .repeat(alloc, 4)
+        .expect(rt, "memory");
+    format!(in alloc;
+        "(defhandler h (b e) (accept-process-output p))
+(setq p (start-process \"c\" \"out\" \"cat\"))(set-buffer \"out\")(insert \"{letters}\"){doubled}
+(insert-buffer-substring \"out\" 1 1048577)(insert-buffer-substring \"out\" 1 1048577)
+(insert-buffer-substring \"out\" 1 1048576)(buffer-size)(add-hook 'before-change-functions 'h)
+(insert \"z\")(insert \"z\")(accept-process-output p)(goto-char 1)(char-after)(buffer-size)(kill-buffer)"
+    )
+    .expect(rt, "memory")
+}
+
+/// A text that fits when it is prepared doesn't where the output that its hook waits for has filled
+/// the buffer meanwhile. What comes then is refused too: by preparing, and by the default handlers.
+#[test]
+fn output_fills_a_buffer_inside_a_hook(rt: HostRuntime) {
+    let script = filling(&rt, rt.alloc());
+    let lines = repeated(
+        &rt,
+        rt.alloc(),
+        "= #<process c>\n= #<buffer out>\n",
+        "= nil\n",
+        8,
+        FULL,
     );
     check_run(
         &rt,

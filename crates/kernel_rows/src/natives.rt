@@ -87,30 +87,19 @@ fn check(
     check_ran(rt, alloc, script, &ran, lines, exchanges)
 }
 
-/// Each is entered twice, at every other depth, and goes on where it was. A process that has left
-/// the list isn't found by its name; that fault is one more reply.
-#[test]
-fn two_natives_that_wait_for_each_others_process(rt: HostRuntime) {
-    let first = waiting(&rt, rt.alloc(), "ping", 'q');
-    let second = waiting(&rt, rt.alloc(), "pong", 'p');
-    check(
-        &rt,
-        rt.alloc(),
-        first,
-        second,
-        r#"(setq p (start-process "p" nil "a"))(setq q (start-process "q" nil "b"))
-(set-process-filter p 'ping)(set-process-filter q 'pong)(accept-process-output p)(accept-process-output p)"#,
-        &[
-            Child {
-                reads: &[b"a", b"c"],
-                ends: &[],
-            },
-            Child {
-                reads: &[b"b", b"d"],
-                ends: &[],
-            },
-        ],
-        r#"= #<process p>
+const TWO: [Child; 2] = [
+    Child {
+        reads: &[b"a", b"c"],
+        ends: &[],
+    },
+    Child {
+        reads: &[b"b", b"d"],
+        ends: &[],
+    },
+];
+
+/// The lines of two natives, each of which waits for the process of the other.
+const WAITING: &str = r#"= #<process p>
 = #<process q>
 = ping
 = pong
@@ -141,7 +130,23 @@ marker 0 #<marker in no buffer>
 marker 1 #<marker in no buffer>
 process 0 #<process p> exit 0
 process 1 #<process q> run 0
-"#,
+"#;
+
+/// Each is entered twice, at every other depth, and goes on where it was. A process that has left
+/// the list isn't found by its name; that fault is one more reply.
+#[test]
+fn two_natives_that_wait_for_each_others_process(rt: HostRuntime) {
+    let first = waiting(&rt, rt.alloc(), "ping", 'q');
+    let second = waiting(&rt, rt.alloc(), "pong", 'p');
+    check(
+        &rt,
+        rt.alloc(),
+        first,
+        second,
+        r#"(setq p (start-process "p" nil "a"))(setq q (start-process "q" nil "b"))
+(set-process-filter p 'ping)(set-process-filter q 'pong)(accept-process-output p)(accept-process-output p)"#,
+        &TWO,
+        WAITING,
         b"spawn a: started 0
 spawn b: started 1
 read 0: bytes a
@@ -187,6 +192,28 @@ text ""
     )
 }
 
+/// The lines of a native whose calls are refused, and which is entered once more.
+const ODD: &str = r#"= (odd)
+> before odd 1 1
+  ! 2 wrong-type-argument
+  ! 2 wrong-type-argument
+  ! 2 wrong-type-argument
+  = nil
+  ! 2 wrong-type-argument
+< odd
+= nil
+> before odd 2 2
+  ! 2 wrong-type-argument
+  ! 2 wrong-type-argument
+  ! 2 wrong-type-argument
+  = nil
+  ! 2 wrong-type-argument
+< odd
+= nil
+buffer *scratch* point 3 min 1 max 3 modified t current
+text "xy"
+"#;
+
 /// Too few arguments and too many, a buffer and a symbol that were never made, and a symbol that
 /// was. These faults end neither the native nor its hook list.
 #[test]
@@ -215,26 +242,7 @@ fn odd_calls_of_a_native_are_of_a_wrong_type(rt: HostRuntime) {
         second,
         "(add-hook 'before-change-functions 'odd)(insert \"x\")(insert \"y\")",
         &[],
-        r#"= (odd)
-> before odd 1 1
-  ! 2 wrong-type-argument
-  ! 2 wrong-type-argument
-  ! 2 wrong-type-argument
-  = nil
-  ! 2 wrong-type-argument
-< odd
-= nil
-> before odd 2 2
-  ! 2 wrong-type-argument
-  ! 2 wrong-type-argument
-  ! 2 wrong-type-argument
-  = nil
-  ! 2 wrong-type-argument
-< odd
-= nil
-buffer *scratch* point 3 min 1 max 3 modified t current
-text "xy"
-"#,
+        ODD,
         b"",
     )
 }
