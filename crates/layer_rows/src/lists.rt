@@ -24,7 +24,7 @@ fn characters_behind_others(rt: HostRuntime) {
     let mut whole = Chars::new(rt.alloc());
     whole.extend(&text).expect(&rt, "memory");
     whole.extend(&text).expect(&rt, "memory");
-    is(&rt, whole.len(), 4);
+    assert_eq!(rt; whole.len(), 4);
     is(&rt, whole.at(2), Ch::Scalar('a'));
     is(&rt, whole.at(3), Ch::Scalar('é'));
 }
@@ -36,7 +36,7 @@ fn characters_and_their_copy(rt: HostRuntime) {
     text.push_spare(Ch::Scalar('€'));
     text.push(Ch::Raw(0x82)).expect(&rt, "memory");
     let copy = text.copy().expect(&rt, "memory");
-    is(&rt, copy.len(), 2);
+    assert_eq!(rt; copy.len(), 2);
     is(&rt, copy.at(0), Ch::Scalar('€'));
     is(&rt, copy.at(1), Ch::Raw(0x82));
 }

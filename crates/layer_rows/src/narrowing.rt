@@ -18,35 +18,35 @@ fn bounds(start: usize, end: usize, point: usize) -> Bounds
 fn point_goes_to_the_nearer_end(rt: HostRuntime) {
     let mut portion = bounds(1, 3, 2);
     portion.goto(9);
-    is(&rt, portion, bounds(1, 3, 3));
+    assert_eq!(rt; portion, bounds(1, 3, 3));
     portion.goto(3);
-    is(&rt, portion, bounds(1, 3, 2));
+    assert_eq!(rt; portion, bounds(1, 3, 2));
     portion.goto(1);
-    is(&rt, portion, bounds(1, 3, 1));
+    assert_eq!(rt; portion, bounds(1, 3, 1));
     portion.goto(i64::MIN);
-    is(&rt, portion, bounds(1, 3, 1));
+    assert_eq!(rt; portion, bounds(1, 3, 1));
 }
 
 #[test]
 fn a_narrowing_takes_point_along(rt: HostRuntime) {
     let mut portion = bounds(0, 6, 6);
     portion.narrow(1, 3);
-    is(&rt, portion, bounds(1, 3, 3));
+    assert_eq!(rt; portion, bounds(1, 3, 3));
 }
 
 #[test]
 fn text_outside_the_portion_stays_outside(rt: HostRuntime) {
     let mut portion = bounds(1, 3, 3);
     portion.note_insert(6, 2);
-    is(&rt, portion, bounds(1, 3, 3));
+    assert_eq!(rt; portion, bounds(1, 3, 3));
     portion.note_insert(3, 2);
-    is(&rt, portion, bounds(1, 5, 5));
+    assert_eq!(rt; portion, bounds(1, 5, 5));
     portion.note_insert(1, 1);
-    is(&rt, portion, bounds(1, 6, 6));
+    assert_eq!(rt; portion, bounds(1, 6, 6));
     portion.note_insert(0, 1);
-    is(&rt, portion, bounds(2, 7, 7));
+    assert_eq!(rt; portion, bounds(2, 7, 7));
     portion.note_delete(1, 4);
-    is(&rt, portion, bounds(1, 4, 4));
+    assert_eq!(rt; portion, bounds(1, 4, 4));
 }
 
 #[test]

@@ -140,21 +140,18 @@ fn an_overlay_moves_to_another_buffer_and_is_killed_with_it(rt: HostRuntime) {
     let a = make(&rt, &mut overlays, 0, 1, 3);
     let b = make(&rt, &mut overlays, 0, 1, 3);
     put(&rt, &mut overlays, a, FACE, &PropVal::Int(7));
-    holds(&rt, a < overlays.count());
-    holds(&rt, b < overlays.count());
+    assert!(rt; a < overlays.count() && b < overlays.count());
     overlays.shift(a, 1, 4, 6).expect(&rt, "memory");
     let copy = overlays.copy().expect(&rt, "memory");
     overlays.note_delete(0, 0, 1);
     overlays.drop_buffer(1);
-    holds(&rt, a < overlays.count());
-    holds(&rt, b < overlays.count());
+    assert!(rt; a < overlays.count() && b < overlays.count());
     overlays.remove(b);
     is(&rt, span(&rt, &overlays, a), None);
     is(&rt, span(&rt, &overlays, b), None);
     is(&rt, span(&rt, &copy, a), Some((1, 4, 6)));
     is(&rt, span(&rt, &copy, b), Some((0, 1, 3)));
-    holds(&rt, a < overlays.count());
-    holds(&rt, a < copy.count());
+    assert!(rt; a < overlays.count() && a < copy.count());
     holds(
         &rt,
         overlays

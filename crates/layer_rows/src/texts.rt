@@ -154,7 +154,7 @@ fn a_copy_has_blocks_of_its_own(rt: HostRuntime) {
     text.insert(&mut pool, 0, &letters);
     holds(&rt, empties_a_copy(&rt, &mut pool, &text));
     is(&rt, pool.live(), 2);
-    is(&rt, text.len(), 300);
+    assert_eq!(rt; text.len(), 300);
     is(&rt, text.at(&pool, 299), letters.at(299));
     text.release(&mut pool);
 }
@@ -175,7 +175,7 @@ fn refused_memory_leaves_the_text(rt: HostRuntime) {
     let refused = text.reserve(&mut pool, 100_000).is_err();
     is(&rt, refused, text.spare() < 100_000);
     let _copied = empties_a_copy(&rt, &mut pool, &text);
-    is(&rt, text.len(), 300);
+    assert_eq!(rt; text.len(), 300);
     is(&rt, text.at(&pool, 299), letters.at(299));
     text.release(&mut pool);
     is(&rt, pool.live(), 0);

@@ -89,7 +89,7 @@ fn a_character_cut_in_two(rt: HostRuntime) {
     is(&rt, out.len(), 1);
     is(&rt, table.get(0).held(), b"\xE2\x82".as_slice());
     feed(&rt, &mut table, b"\xAC", &mut out);
-    is(&rt, out.len(), 2);
+    assert_eq!(rt; out.len(), 2);
     is(&rt, out.at(0), Ch::Scalar('a'));
     is(&rt, out.at(1), Ch::Scalar('€'));
     holds(&rt, table.get(0).held().is_empty());
@@ -101,17 +101,17 @@ fn what_is_held_at_the_end_of_output(rt: HostRuntime) {
     let mut out = Chars::new(rt.alloc());
     feed(&rt, &mut table, b"\xF0\x9F", &mut out);
     feed(&rt, &mut table, b"\x98", &mut out);
-    holds(&rt, out.is_empty());
-    holds(&rt, !table.get(0).drained());
+    assert!(rt; out.is_empty());
+    assert!(rt; !table.get(0).drained());
     let held = table.get(0).held().len();
     out.reserve(held).expect(&rt, "room");
     table.drain(0, &mut out);
-    is(&rt, out.len(), 3);
+    assert_eq!(rt; out.len(), 3);
     is(&rt, out.at(0), Ch::Raw(0xF0));
     is(&rt, out.at(1), Ch::Raw(0x9F));
     is(&rt, out.at(2), Ch::Raw(0x98));
-    holds(&rt, table.get(0).drained());
-    holds(&rt, table.get(0).held().is_empty());
+    assert!(rt; table.get(0).drained());
+    assert!(rt; table.get(0).held().is_empty());
     table.drain(0, &mut out);
     is(&rt, out.len(), 3);
 }

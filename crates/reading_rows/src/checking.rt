@@ -1,4 +1,5 @@
-//! Comparing. Each comparison is a call, so a test that makes many of them branches at none.
+//! Comparing by a call, so that a test branches at none of its comparisons.
+
 use std::fmt::Debug;
 use std::process::Abort;
 
