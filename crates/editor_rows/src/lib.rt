@@ -6,4 +6,6 @@ mod buffers;
 #[cfg(test)]
 mod calls;
 #[cfg(test)]
+mod checking;
+#[cfg(test)]
 mod one_buffer;

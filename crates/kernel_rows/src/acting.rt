@@ -8,6 +8,7 @@ ghost use Rattle.handler_code.specs.Calls.{asked_of, call_asked};
 use ek_call::{Replies, Values};
 use ek_types::{Copied, Mem};
 use handler_code::{NativeCall, Natives, Next};
+use std::process::Abort;
 
 /// A native: its name, and the calls that it makes.
 #[derive(Drop)]
@@ -43,6 +44,11 @@ fn copied(call: &NativeCall) -> Mem<NativeCall>
 }
 
 impl Native {
+    /// Makes one more call.
+    pub fn then(&mut self, rt: &impl Abort, call: NativeCall) {
+        self.calls.push(call).expect(rt, "memory");
+    }
+
     fn name(&self) -> &str
         ensures { result.now ≡ string_bytes self.now.name }
     {

@@ -1,7 +1,6 @@
 //! Changes of texts, with what stands at their places, and with hooks.
 
 use super::playing::{Row, check_rows};
-use std::test::Fail;
 
 /// Scripts without a child.
 pub const ROWS: [Row; 13] = [
@@ -231,6 +230,6 @@ text "ab"
 ];
 
 #[test]
-fn changes_and_hooks(rt: HostRuntime) -> Result<(), Fail> {
+fn changes_and_hooks(rt: HostRuntime) {
     check_rows(&rt, rt.alloc(), &ROWS)
 }

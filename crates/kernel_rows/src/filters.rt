@@ -2,7 +2,7 @@
 
 use super::playing::{Child, Row, UNREAD, check_rows, check_run, one_child};
 use std::alloc::Global;
-use std::test::Fail;
+use std::process::Abort;
 
 /// Runs, each with its lines and its exchanges.
 pub const ROWS: [Row; 7] = [
@@ -216,7 +216,7 @@ text ""
 ];
 
 #[test]
-fn filters(rt: HostRuntime) -> Result<(), Fail> {
+fn filters(rt: HostRuntime) {
     check_rows(&rt, rt.alloc(), &ROWS)
 }
 
@@ -224,35 +224,51 @@ fn filters(rt: HostRuntime) -> Result<(), Fail> {
 const NESTING_BOUND: usize = 16;
 
 /// The lines of a filter that waits in each of its entries, as often as it may.
-fn nested(alloc: Global) -> Result<String, Fail> {
-    let mut lines = String::from_str(alloc, "= #<process c>\n= f\n")?;
+fn nested(rt: &impl Abort, alloc: Global) -> String {
+    let mut lines = String::from_str(alloc, "= #<process c>\n= f\n").expect(rt, "memory");
     for depth in 0..NESTING_BOUND {
-        lines.push_str("  ".repeat(alloc, depth)?.as_str())?;
-        lines.push_str("> filter f #<process c> \"a\"\n")?;
+        lines
+            .push_str("  ".repeat(alloc, depth).expect(rt, "memory").as_str())
+            .expect(rt, "memory");
+        lines
+            .push_str("> filter f #<process c> \"a\"\n")
+            .expect(rt, "memory");
     }
-    lines.push_str("  ".repeat(alloc, NESTING_BOUND)?.as_str())?;
-    lines.push_str("! 13 nesting\n")?;
+    lines
+        .push_str(
+            "  ".repeat(alloc, NESTING_BOUND)
+                .expect(rt, "memory")
+                .as_str(),
+        )
+        .expect(rt, "memory");
+    lines.push_str("! 13 nesting\n").expect(rt, "memory");
     for depth in (0..NESTING_BOUND).rev() {
-        let indent = "  ".repeat(alloc, depth)?;
-        write!(lines, "{indent}< f\n{indent}= t\n")?;
+        let indent = "  ".repeat(alloc, depth).expect(rt, "memory");
+        write!(lines, "{indent}< f\n{indent}= t\n").expect(rt, "memory");
     }
-    lines.push_str(
-        r#"kill #<process c>
+    lines
+        .push_str(
+            r#"kill #<process c>
 buffer *scratch* point 1 min 1 max 1 modified nil current
 text ""
 marker 0 #<marker in no buffer>
 process 0 #<process c> run 0
 "#,
-    )?;
-    Ok(lines)
+        )
+        .expect(rt, "memory");
+    lines
 }
 
 /// The seventeenth read isn't made.
 #[test]
-fn a_filter_that_waits_too_deep(rt: HostRuntime) -> Result<(), Fail> {
-    let lines = nested(rt.alloc())?;
-    let reads = "read 0: bytes a\n".repeat(rt.alloc(), NESTING_BOUND)?;
-    let exchanges = format!(in rt.alloc(); "spawn cat: started 0\n{reads}kill 0: killed\n")?;
+fn a_filter_that_waits_too_deep(rt: HostRuntime) {
+    let lines = nested(&rt, rt.alloc());
+    let reads = "read 0: bytes a\n"
+        .repeat(rt.alloc(), NESTING_BOUND)
+        .expect(&rt, "memory");
+    let exchanges = format!(in rt.alloc(); "spawn cat: started 0\n{reads}kill 0: killed\n").expect(
+        &rt, "memory",
+    );
     let bytes: [&[u8]; 17] = [b"a"; 17];
     check_run(
         &rt,
@@ -260,7 +276,7 @@ fn a_filter_that_waits_too_deep(rt: HostRuntime) -> Result<(), Fail> {
         "the nesting bound",
         r#"(defhandler f (p s) (accept-process-output p))
 (setq p (start-process "c" nil "cat"))(set-process-filter p 'f)(accept-process-output p)"#,
-        one_child(rt.alloc(), &bytes)?,
+        one_child(&rt, rt.alloc(), &bytes),
         lines.as_str(),
         exchanges.as_bytes(),
     )

@@ -1,7 +1,6 @@
 //! Hook functions that change what they are called for.
 
 use super::playing::{Row, check_rows};
-use std::test::Fail;
 
 /// Runs, each with its lines and its exchanges.
 pub const ROWS: [Row; 12] = [
@@ -236,6 +235,6 @@ text "xzy"
 ];
 
 #[test]
-fn hooks(rt: HostRuntime) -> Result<(), Fail> {
+fn hooks(rt: HostRuntime) {
     check_rows(&rt, rt.alloc(), &ROWS)
 }

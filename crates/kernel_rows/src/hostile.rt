@@ -6,12 +6,11 @@ use super::playing::{
 };
 use super::shown::shown_one;
 use super::{edits, filters, hooks, nesting, reentry, undos, waits};
-use kernel_top::Status;
 use handler_code::NoNatives;
 use host_link::{Answer, Ask, Ended, Exchange, Exchanges, MemoryHost};
+use kernel_top::Status;
 use std::alloc::Global;
 use std::process::Abort;
-use std::test::Fail;
 
 const ROWS: [&[Row]; 6] = [
     &edits::ROWS,
@@ -23,41 +22,42 @@ const ROWS: [&[Row]; 6] = [
 ];
 
 /// All runs.
-fn all(alloc: Global) -> Result<Vec<Run>, Fail> {
-    let mut runs = nesting::runs(alloc)?;
+fn all(rt: &impl Abort, alloc: Global) -> Vec<Run> {
+    let mut runs = nesting::runs(rt, alloc);
     for row in ROWS.into_iter().flatten() {
-        runs.push(row.run(alloc)?)?;
+        runs.push(row.run(rt, alloc)).expect(rt, "memory");
     }
-    Ok(runs)
+    runs
 }
 
 /// More calls of the source or the sink than any of these runs makes.
 const CALLS: u32 = 2000;
 
 /// Makes a run by a setting.
-fn ran(alloc: Global, run: &Run, setting: Setting) -> Result<Ran, Fail> {
+fn ran(rt: &impl Abort, alloc: Global, run: &Run, setting: Setting) -> Ran {
     run_script(
+        rt,
         alloc,
         run.script.as_str(),
-        plays(alloc, run.children)?,
+        plays(rt, alloc, run.children),
         setting,
     )
 }
 
 /// Whether two exchanges are the same.
-fn is_same(alloc: Global, one: &Exchange, other: &Exchange) -> Result<bool, Fail> {
-    Ok(shown_one(alloc, one)?.as_str() == shown_one(alloc, other)?.as_str())
+fn is_same(rt: &impl Abort, alloc: Global, one: &Exchange, other: &Exchange) -> bool {
+    shown_one(rt, alloc, one).as_str() == shown_one(rt, alloc, other).as_str()
 }
 
 /// How many exchanges at the front are the same.
-fn same_front(alloc: Global, one: &Exchanges, other: &Exchanges) -> Result<usize, Fail> {
+fn same_front(rt: &impl Abort, alloc: Global, one: &Exchanges, other: &Exchanges) -> usize {
     let shorter = one.len().min(other.len());
     for i in 0..shorter {
-        if i < one.len() && i < other.len() && !is_same(alloc, one.at(i), other.at(i))? {
-            return Ok(i);
+        if i < one.len() && i < other.len() && !is_same(rt, alloc, one.at(i), other.at(i)) {
+            return i;
         }
     }
-    Ok(shorter)
+    shorter
 }
 
 /// The child that an exchange has started.
@@ -86,86 +86,97 @@ fn over(x: &Exchange) -> Option<u32> {
 }
 
 /// The children that the first exchanges leave alive, by rising number.
-fn living(alloc: Global, told: &Exchanges, count: usize) -> Result<Vec<u32>, Fail> {
+fn living(rt: &impl Abort, alloc: Global, told: &Exchanges, count: usize) -> Vec<u32> {
     let mut living = Vec::new(alloc);
     for x in told.as_slice().iter().take(count) {
         if let Some(child) = started(x) {
             let mut later = told.as_slice().iter().take(count);
             if !later.any(|y| over(y) == Some(child)) {
-                living.push(child)?;
+                living.push(child).expect(rt, "memory");
             }
         }
     }
-    Ok(living)
+    living
 }
 
 /// Checks that what a stopped run asked is a front of what the whole run asks, and then a kill of
 /// each child that lives.
-fn check_stopped(
-    rt: &impl Abort,
-    alloc: Global,
-    shows: &str,
-    whole: &Exchanges,
-    told: &Exchanges,
-) -> Result<(), Fail> {
-    let front = same_front(alloc, whole, told)?;
+fn check_stopped(rt: &impl Abort, alloc: Global, shows: &str, whole: &Exchanges, told: &Exchanges) {
+    let front = same_front(rt, alloc, whole, told);
     let mut kills = told.as_slice().iter().skip(front);
-    for child in living(alloc, told, front)? {
+    for child in living(rt, alloc, told, front) {
         let Some(kill) = kills.next() else {
-            return Err(Fail::from("a child is left"));
+            panic!(rt; "a child is left");
         };
         assert_eq!(rt; killed(kill), Some(child), "{shows}");
     }
     assert!(rt; kills.next().is_none(), "{shows}");
-    Ok(())
+}
+
+/// A run whose source fails at a call has written and asked nothing. Says whether it makes that call.
+fn fails_to_read(rt: &impl Abort, alloc: Global, run: &Run, call: u32) -> bool {
+    let from = Calls {
+        piece: 16,
+        fails: Some(call),
+    };
+    let ran = ran(rt, alloc, run, Setting { from, ..PLAIN });
+    if ran.status == Status::Done {
+        return false;
+    }
+    has_nothing(rt, run.shows, &ran);
+    true
+}
+
+fn has_nothing(rt: &impl Abort, shows: &str, ran: &Ran) {
+    assert_eq!(rt; ran.status, Status::ReadFault, "{shows}");
+    assert_eq!(rt; ran.written.len(), 0, "{shows}");
+    assert_eq!(rt; ran.told.len(), 0, "{shows}");
 }
 
 #[test]
-fn a_source_that_fails_writes_and_asks_nothing(rt: HostRuntime) -> Result<(), Fail> {
-    let alloc = rt.alloc();
-    for run in &all(alloc)? {
+fn a_source_that_fails_writes_and_asks_nothing(rt: HostRuntime) {
+    for run in &all(&rt, rt.alloc()) {
         for call in 0..CALLS {
-            let from = Calls {
-                piece: 16,
-                fails: Some(call),
-            };
-            let ran = ran(alloc, run, Setting { from, ..PLAIN })?;
-            if ran.status == Status::Done {
+            if !fails_to_read(&rt, rt.alloc(), run, call) {
                 break;
             }
-            assert_eq!(rt; ran.status, Status::ReadFault, "{}", run.shows);
-            assert_eq!(rt; ran.written.len(), 0, "{}", run.shows);
-            assert_eq!(rt; ran.told.len(), 0, "{}", run.shows);
         }
     }
-    Ok(())
+}
+
+/// A run whose sink fails at a call has written a front of the lines, and leaves no child. Says whether it makes that call.
+fn fails_to_write(rt: &impl Abort, alloc: Global, run: &Run, whole: &Exchanges, call: u32) -> bool {
+    let to = Calls {
+        piece: 1000,
+        fails: Some(call),
+    };
+    let ran = ran(rt, alloc, run, Setting { to, ..PLAIN });
+    if ran.status == Status::Done {
+        return false;
+    }
+    has_a_front(rt, run, &ran);
+    check_stopped(rt, alloc, run.shows, whole, &ran.told);
+    true
+}
+
+fn has_a_front(rt: &impl Abort, run: &Run, ran: &Ran) {
+    let lines = run.lines.as_bytes();
+    let is_front = lines.starts_with(ran.written.as_slice());
+    assert_eq!(rt; ran.status, Status::WriteFault, "{}", run.shows);
+    assert!(rt; is_front, "{}", run.shows);
+    assert!(rt; ran.written.len() < lines.len(), "{}", run.shows);
 }
 
 #[test]
-fn a_sink_that_fails_holds_a_front_and_leaves_no_child(rt: HostRuntime) -> Result<(), Fail> {
-    let alloc = rt.alloc();
-    for run in &all(alloc)? {
-        let whole = ran(alloc, run, PLAIN)?;
+fn a_sink_that_fails_holds_a_front_and_leaves_no_child(rt: HostRuntime) {
+    for run in &all(&rt, rt.alloc()) {
+        let whole = ran(&rt, rt.alloc(), run, PLAIN);
         for call in 0..CALLS {
-            let to = Calls {
-                piece: 1000,
-                fails: Some(call),
-            };
-            let ran = ran(alloc, run, Setting { to, ..PLAIN })?;
-            if ran.status == Status::Done {
+            if !fails_to_write(&rt, rt.alloc(), run, &whole.told, call) {
                 break;
             }
-            assert_eq!(rt; ran.status, Status::WriteFault, "{}", run.shows);
-            assert!(rt;
-                run.lines.as_bytes().starts_with(ran.written.as_slice()),
-                "{}",
-                run.shows
-            );
-            assert!(rt; ran.written.len() < run.lines.len(), "{}", run.shows);
-            check_stopped(&rt, alloc, run.shows, &whole.told, &ran.told)?;
         }
     }
-    Ok(())
 }
 
 /// Whether an input is closed.
@@ -178,54 +189,57 @@ fn is_fault(answer: &Answer) -> bool {
     matches!(answer, Answer::Refused | Answer::Failed | Answer::Broken)
 }
 
-/// Up to the call that fails all is the same; a kill that fails changes no line, and a close can't
-/// fail.
+/// Up to the call that fails, all that a run tells is the same, and no child is left.
+fn goes_on(rt: &impl Abort, alloc: Global, shows: &str, whole: &Exchanges, ran: &Ran, call: usize) {
+    let same = same_front(rt, alloc, whole, &ran.told);
+    let living = living(rt, alloc, &ran.told, ran.told.len()).len();
+    assert_eq!(rt; ran.status, Status::Done, "{shows}");
+    assert!(rt; same >= call, "{shows}");
+    assert_eq!(rt; living, 0, "{shows}");
+}
+
+/// The answer of the call that fails tells of a fault, but for a close.
+fn tells_of_a_fault(rt: &impl Abort, shows: &str, asked: &Exchange, ran: &Ran, call: usize) {
+    let Some(failed) = ran.told.as_slice().get(call) else {
+        panic!(rt; "the call isn't made");
+    };
+    assert!(rt; is_fault(&failed.answer) != is_close(asked), "{shows}");
+}
+
+/// A kill that fails changes no line, and a close can't fail.
+fn keeps_its_lines(rt: &impl Abort, run: &Run, asked: &Exchange, ran: &Ran) {
+    if is_close(asked) || killed(asked).is_some() {
+        assert_eq!(rt;
+            ran.written.as_slice(),
+            run.lines.as_bytes(),
+            "{}",
+            run.shows
+        );
+    }
+}
+
+/// The host fails at a call of the run, which asks this there.
+fn is_failed(rt: &impl Abort, alloc: Global, run: &Run, whole: &Exchanges, call: usize) {
+    let setting = Setting {
+        host_fails: u32::try_from(call).ok(),
+        ..PLAIN
+    };
+    let ran = ran(rt, alloc, run, setting);
+    goes_on(rt, alloc, run.shows, whole, &ran, call);
+    if let Some(asked) = whole.as_slice().get(call) {
+        tells_of_a_fault(rt, run.shows, asked, &ran, call);
+        keeps_its_lines(rt, run, asked, &ran);
+    }
+}
+
 #[test]
-fn a_host_that_fails_is_told_and_leaves_no_child(rt: HostRuntime) -> Result<(), Fail> {
-    let alloc = rt.alloc();
-    for run in &all(alloc)? {
-        let whole = ran(alloc, run, PLAIN)?;
-        for (call, asked) in whole.told.as_slice().iter().enumerate() {
-            let host_fails = u32::try_from(call).ok();
-            let ran = ran(
-                alloc,
-                run,
-                Setting {
-                    host_fails,
-                    ..PLAIN
-                },
-            )?;
-            assert_eq!(rt; ran.status, Status::Done, "{}", run.shows);
-            let Some(failed) = ran.told.as_slice().get(call) else {
-                return Err(Fail::from("the call isn't made"));
-            };
-            assert!(rt;
-                same_front(alloc, &whole.told, &ran.told)? >= call,
-                "{}",
-                run.shows
-            );
-            assert!(rt;
-                is_fault(&failed.answer) != is_close(asked),
-                "{}",
-                run.shows
-            );
-            if is_close(asked) || killed(asked).is_some() {
-                assert_eq!(rt;
-                    ran.written.as_slice(),
-                    run.lines.as_bytes(),
-                    "{}",
-                    run.shows
-                );
-            }
-            assert_eq!(rt;
-                living(alloc, &ran.told, ran.told.len())?.len(),
-                0,
-                "{}",
-                run.shows
-            );
+fn a_host_that_fails_is_told_and_leaves_no_child(rt: HostRuntime) {
+    for run in &all(&rt, rt.alloc()) {
+        let whole = ran(&rt, rt.alloc(), run, PLAIN);
+        for call in 0..whole.told.len() {
+            is_failed(&rt, rt.alloc(), run, &whole.told, call);
         }
     }
-    Ok(())
 }
 
 /// A run with the calls of the host that fail, counted from 0.
@@ -503,13 +517,17 @@ text ""
     },
 ];
 
+fn check_hostile(rt: &impl Abort, alloc: Global, hostile: &Hostile) {
+    let row = &hostile.row;
+    let fails = hostile.fails.to_vec(alloc).expect(rt, "memory");
+    let host = MemoryHost::new(plays(rt, alloc, row.children), fails);
+    let ran = run_over(rt, alloc, &["run"], row.script, host, PLAIN, &NoNatives);
+    check_ran(rt, alloc, row.shows, &ran, row.lines, row.exchanges);
+}
+
 #[test]
-fn runs_over_a_host_that_fails(rt: HostRuntime) -> Result<(), Fail> {
-    let alloc = rt.alloc();
-    for Hostile { fails, row } in &HOSTILE {
-        let host = MemoryHost::new(plays(alloc, row.children)?, fails.to_vec(alloc)?);
-        let ran = run_over(alloc, &["run"], row.script, host, PLAIN, &NoNatives)?;
-        check_ran(&rt, alloc, row.shows, &ran, row.lines, row.exchanges)?;
+fn runs_over_a_host_that_fails(rt: HostRuntime) {
+    for hostile in &HOSTILE {
+        check_hostile(&rt, rt.alloc(), hostile);
     }
-    Ok(())
 }

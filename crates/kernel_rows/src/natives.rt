@@ -3,11 +3,10 @@
 use super::acting::{InTurn, Native};
 use super::playing::{Child, PLAIN, check_ran, plays, run_natives};
 use ek_call::{Primitive, Value};
-use ek_types::{Ch, Chars, ListOf, Mem, Piece, Sym};
+use ek_types::{Ch, Chars, ListOf, Piece, Sym};
 use handler_code::NativeCall;
 use std::alloc::Global;
 use std::process::Abort;
-use std::test::Fail;
 
 /// A call with no arguments.
 fn call(alloc: Global, prim: Primitive) -> NativeCall {
@@ -16,44 +15,56 @@ fn call(alloc: Global, prim: Primitive) -> NativeCall {
 }
 
 /// A call with one argument.
-fn call_of(alloc: Global, prim: Primitive, value: Value) -> Mem<NativeCall> {
+fn call_of(rt: &impl Abort, alloc: Global, prim: Primitive, value: Value) -> NativeCall {
     let mut args = ListOf::new(alloc);
-    args.push(value)?;
-    Ok(NativeCall { prim, args })
+    args.push(value).expect(rt, "memory");
+    NativeCall { prim, args }
 }
 
 /// A list of one symbol.
-fn list_of(alloc: Global, symbol: u32) -> Mem<Value> {
+fn list_of(rt: &impl Abort, alloc: Global, symbol: u32) -> Value {
     let mut items = ListOf::new(alloc);
-    items.push(Value::Sym(Sym(symbol)))?;
-    Ok(Value::List(items))
+    items.push(Value::Sym(Sym(symbol))).expect(rt, "memory");
+    Value::List(items)
 }
 
 /// A string of one letter.
-fn letter(alloc: Global, c: char) -> Mem<Value> {
+fn letter(rt: &impl Abort, alloc: Global, c: char) -> Value {
     let mut text = Chars::new(alloc);
-    text.push(Ch::Scalar(c))?;
-    Ok(Value::Str(Piece::plain(alloc, text)))
+    text.push(Ch::Scalar(c)).expect(rt, "memory");
+    Value::Str(Piece::plain(alloc, text))
 }
 
 /// A native with no calls yet.
-fn named(alloc: Global, name: &str) -> Result<Native, Fail> {
-    Ok(Native {
-        name: String::from_str(alloc, name)?,
+fn named(rt: &impl Abort, alloc: Global, name: &str) -> Native {
+    Native {
+        name: String::from_str(alloc, name).expect(rt, "memory"),
         calls: Vec::new(alloc),
-    })
+    }
 }
 
 /// Waits for the process of this name, and asks for its status.
-fn waiting(alloc: Global, name: &str, process: char) -> Result<Native, Fail> {
-    let mut native = named(alloc, name)?;
-    native.calls.push(call_of(
-        alloc,
-        Primitive::AcceptProcessOutput,
-        letter(alloc, process)?,
-    )?)?;
-    native.calls.push(call_of(alloc, Primitive::ProcessStatus, letter(alloc, process)?)?)?;
-    Ok(native)
+fn waiting(rt: &impl Abort, alloc: Global, name: &str, process: char) -> Native {
+    let mut native = named(rt, alloc, name);
+    native.then(
+        rt,
+        call_of(
+            rt,
+            alloc,
+            Primitive::AcceptProcessOutput,
+            letter(rt, alloc, process),
+        ),
+    );
+    native.then(
+        rt,
+        call_of(
+            rt,
+            alloc,
+            Primitive::ProcessStatus,
+            letter(rt, alloc, process),
+        ),
+    );
+    native
 }
 
 /// Compares the run of a script with two natives with its lines and its exchanges.
@@ -66,40 +77,29 @@ fn check(
     children: &[Child],
     lines: &str,
     exchanges: &[u8],
-) -> Result<(), Fail> {
+) {
     let mut natives = Vec::new(alloc);
-    natives.push(first)?;
-    natives.push(second)?;
+    natives.push(first).expect(rt, "memory");
+    natives.push(second).expect(rt, "memory");
     let natives = InTurn::new(natives);
-    let plays = plays(alloc, children)?;
-    let ran = run_natives(alloc, &["run"], script, plays, PLAIN, &natives)?;
+    let plays = plays(rt, alloc, children);
+    let ran = run_natives(rt, alloc, &["run"], script, plays, PLAIN, &natives);
     check_ran(rt, alloc, script, &ran, lines, exchanges)
 }
 
-/// Each is entered twice, at every other depth, and goes on where it was. A process that has left
-/// the list isn't found by its name; that fault is one more reply.
-#[test]
-fn two_natives_that_wait_for_each_others_process(rt: HostRuntime) -> Result<(), Fail> {
-    let first = waiting(rt.alloc(), "ping", 'q')?;
-    let second = waiting(rt.alloc(), "pong", 'p')?;
-    check(
-        &rt,
-        rt.alloc(),
-        first,
-        second,
-        r#"(setq p (start-process "p" nil "a"))(setq q (start-process "q" nil "b"))
-(set-process-filter p 'ping)(set-process-filter q 'pong)(accept-process-output p)(accept-process-output p)"#,
-        &[
-            Child {
-                reads: &[b"a", b"c"],
-                ends: &[],
-            },
-            Child {
-                reads: &[b"b", b"d"],
-                ends: &[],
-            },
-        ],
-        r#"= #<process p>
+const TWO: [Child; 2] = [
+    Child {
+        reads: &[b"a", b"c"],
+        ends: &[],
+    },
+    Child {
+        reads: &[b"b", b"d"],
+        ends: &[],
+    },
+];
+
+/// The lines of two natives, each of which waits for the process of the other.
+const WAITING: &str = r#"= #<process p>
 = #<process q>
 = ping
 = pong
@@ -130,7 +130,23 @@ marker 0 #<marker in no buffer>
 marker 1 #<marker in no buffer>
 process 0 #<process p> exit 0
 process 1 #<process q> run 0
-"#,
+"#;
+
+/// Each is entered twice, at every other depth, and goes on where it was. A process that has left
+/// the list isn't found by its name; that fault is one more reply.
+#[test]
+fn two_natives_that_wait_for_each_others_process(rt: HostRuntime) {
+    let first = waiting(&rt, rt.alloc(), "ping", 'q');
+    let second = waiting(&rt, rt.alloc(), "pong", 'p');
+    check(
+        &rt,
+        rt.alloc(),
+        first,
+        second,
+        r#"(setq p (start-process "p" nil "a"))(setq q (start-process "q" nil "b"))
+(set-process-filter p 'ping)(set-process-filter q 'pong)(accept-process-output p)(accept-process-output p)"#,
+        &TWO,
+        WAITING,
         b"spawn a: started 0
 spawn b: started 1
 read 0: bytes a
@@ -147,12 +163,12 @@ kill 1: killed
 
 /// The native goes on in the buffer that is current then; the change has no buffer any more.
 #[test]
-fn a_native_kills_the_buffer_before_a_change(rt: HostRuntime) -> Result<(), Fail> {
+fn a_native_kills_the_buffer_before_a_change(rt: HostRuntime) {
     let alloc = rt.alloc();
-    let mut first = named(alloc, "k")?;
-    first.calls.push(call(alloc, Primitive::KillBuffer))?;
-    first.calls.push(call(alloc, Primitive::CurrentBuffer))?;
-    let second = named(alloc, "other")?;
+    let mut first = named(&rt, alloc, "k");
+    first.then(&rt, call(alloc, Primitive::KillBuffer));
+    first.then(&rt, call(alloc, Primitive::CurrentBuffer));
+    let second = named(&rt, alloc, "other");
     check(
         &rt,
         alloc,
@@ -176,30 +192,8 @@ text ""
     )
 }
 
-/// Too few arguments and too many, a buffer and a symbol that were never made, and a symbol that
-/// was. These faults end neither the native nor its hook list.
-#[test]
-fn odd_calls_of_a_native_are_of_a_wrong_type(rt: HostRuntime) -> Result<(), Fail> {
-    let alloc = rt.alloc();
-    let mut first = named(alloc, "odd")?;
-    first.calls.push(call(alloc, Primitive::GotoChar))?;
-    first
-        .calls
-        .push(call_of(alloc, Primitive::Point, Value::T)?)?;
-    first
-        .calls
-        .push(call_of(alloc, Primitive::SetBuffer, Value::Buffer(9))?)?;
-    first.calls.push(call_of(alloc, Primitive::BufferLiveP, list_of(alloc, 0)?)?)?;
-    first.calls.push(call_of(alloc, Primitive::BufferLiveP, list_of(alloc, 99)?)?)?;
-    let second = named(alloc, "other")?;
-    check(
-        &rt,
-        alloc,
-        first,
-        second,
-        "(add-hook 'before-change-functions 'odd)(insert \"x\")(insert \"y\")",
-        &[],
-        r#"= (odd)
+/// The lines of a native whose calls are refused, and which is entered once more.
+const ODD: &str = r#"= (odd)
 > before odd 1 1
   ! 2 wrong-type-argument
   ! 2 wrong-type-argument
@@ -218,7 +212,37 @@ fn odd_calls_of_a_native_are_of_a_wrong_type(rt: HostRuntime) -> Result<(), Fail
 = nil
 buffer *scratch* point 3 min 1 max 3 modified t current
 text "xy"
-"#,
+"#;
+
+/// Too few arguments and too many, a buffer and a symbol that were never made, and a symbol that
+/// was. These faults end neither the native nor its hook list.
+#[test]
+fn odd_calls_of_a_native_are_of_a_wrong_type(rt: HostRuntime) {
+    let alloc = rt.alloc();
+    let mut first = named(&rt, alloc, "odd");
+    first.then(&rt, call(alloc, Primitive::GotoChar));
+    first.then(&rt, call_of(&rt, alloc, Primitive::Point, Value::T));
+    first.then(
+        &rt,
+        call_of(&rt, alloc, Primitive::SetBuffer, Value::Buffer(9)),
+    );
+    first.then(
+        &rt,
+        call_of(&rt, alloc, Primitive::BufferLiveP, list_of(&rt, alloc, 0)),
+    );
+    first.then(
+        &rt,
+        call_of(&rt, alloc, Primitive::BufferLiveP, list_of(&rt, alloc, 99)),
+    );
+    let second = named(&rt, alloc, "other");
+    check(
+        &rt,
+        alloc,
+        first,
+        second,
+        "(add-hook 'before-change-functions 'odd)(insert \"x\")(insert \"y\")",
+        &[],
+        ODD,
         b"",
     )
 }
@@ -227,14 +251,14 @@ text "xy"
 const MOST_REPLIES: usize = 256;
 
 #[test]
-fn a_native_that_never_ends_is_left(rt: HostRuntime) -> Result<(), Fail> {
+fn a_native_that_never_ends_is_left(rt: HostRuntime) {
     let alloc = rt.alloc();
-    let mut first = named(alloc, "n")?;
+    let mut first = named(&rt, alloc, "n");
     for _ in 0..1000 {
-        first.calls.push(call(alloc, Primitive::Point))?;
+        first.then(&rt, call(alloc, Primitive::Point));
     }
-    let second = named(alloc, "other")?;
-    let replies = "  = 1\n".repeat(alloc, MOST_REPLIES)?;
+    let second = named(&rt, alloc, "other");
+    let replies = "  = 1\n".repeat(alloc, MOST_REPLIES).expect(&rt, "memory");
     let lines = format!(in alloc;
         "= (n)
 > before n 1 1
@@ -243,7 +267,8 @@ fn a_native_that_never_ends_is_left(rt: HostRuntime) -> Result<(), Fail> {
 buffer *scratch* point 2 min 1 max 2 modified t current
 text \"a\"
 "
-    )?;
+    )
+    .expect(&rt, "memory");
     check(
         &rt,
         alloc,
@@ -256,23 +281,30 @@ text \"a\"
     )
 }
 
-/// Of natives of one name the first counts, and a handler of the script before both.
-#[test]
-fn a_handler_of_the_script_hides_natives_of_its_name(rt: HostRuntime) -> Result<(), Fail> {
-    let alloc = rt.alloc();
-    for (script, reply) in [
-        ("(add-hook 'before-change-functions 'n)(insert \"a\")", "1"),
-        (
-            "(defhandler n (b e) (buffer-name))(add-hook 'before-change-functions 'n)(insert \"a\")",
-            "\"*scratch*\"",
-        ),
-    ] {
-        let mut first = named(alloc, "n")?;
-        first.calls.push(call(alloc, Primitive::Point))?;
-        let mut second = named(alloc, "n")?;
-        second.calls.push(call(alloc, Primitive::CurrentBuffer))?;
-        let lines = format!(in alloc;
-            "= (n)
+/// A script with two natives of one name, and what its hook function answers.
+struct Hiding {
+    script: &'static str,
+    reply: &'static str,
+}
+
+const HIDING: [Hiding; 2] = [
+    Hiding {
+        script: "(add-hook 'before-change-functions 'n)(insert \"a\")",
+        reply: "1",
+    },
+    Hiding {
+        script: "(defhandler n (b e) (buffer-name))(add-hook 'before-change-functions 'n)(insert \"a\")",
+        reply: "\"*scratch*\"",
+    },
+];
+
+fn check_hiding(rt: &impl Abort, alloc: Global, script: &str, reply: &str) {
+    let mut first = named(rt, alloc, "n");
+    first.then(rt, call(alloc, Primitive::Point));
+    let mut second = named(rt, alloc, "n");
+    second.then(rt, call(alloc, Primitive::CurrentBuffer));
+    let lines = format!(in alloc;
+        "= (n)
 > before n 1 1
   = {reply}
 < n
@@ -280,8 +312,15 @@ fn a_handler_of_the_script_hides_natives_of_its_name(rt: HostRuntime) -> Result<
 buffer *scratch* point 2 min 1 max 2 modified t current
 text \"a\"
 "
-        )?;
-        check(&rt, alloc, first, second, script, &[], lines.as_str(), b"")?;
+    )
+    .expect(rt, "memory");
+    check(rt, alloc, first, second, script, &[], lines.as_str(), b"");
+}
+
+/// Of natives of one name the first counts, and a handler of the script before both.
+#[test]
+fn a_handler_of_the_script_hides_natives_of_its_name(rt: HostRuntime) {
+    for hiding in &HIDING {
+        check_hiding(&rt, rt.alloc(), hiding.script, hiding.reply);
     }
-    Ok(())
 }

@@ -8,7 +8,7 @@
 
 use super::playing::{Child, Run, UNREAD, check_run, plays};
 use std::alloc::Global;
-use std::test::Fail;
+use std::process::Abort;
 
 /// The handlers, and the process whose output enters the filter.
 const HANDLERS: &str = r#"(defhandler h (b e) (accept-process-output c))
@@ -173,15 +173,15 @@ kill 12: killed
 const ROUNDS: u8 = 5;
 
 /// What stands behind the names of a round.
-fn number(alloc: Global, round: u8) -> Result<String, Fail> {
+fn number(rt: &impl Abort, alloc: Global, round: u8) -> String {
     if round == 0 {
-        return Ok(String::new(alloc));
+        return String::new(alloc);
     }
-    Ok(format!(in alloc; "<{round}>")?)
+    format!(in alloc; "<{round}>").expect(rt, "memory")
 }
 
 /// The lines of the handlers that a round enters.
-fn push_entries(lines: &mut String, margin: &str, n: &str) -> Result<(), Fail> {
+fn push_entries(rt: &impl Abort, lines: &mut String, margin: &str, n: &str) {
     write!(
         lines,
         r#"{margin}> filter f #<process c> "a"
@@ -192,12 +192,12 @@ fn push_entries(lines: &mut String, margin: &str, n: &str) -> Result<(), Fail> {
 {margin}    = u
 {margin}    > sentinel u #<process k{n}> "killed\n"
 "#
-    )?;
-    Ok(())
+    )
+    .expect(rt, "memory");
 }
 
 /// The lines behind these handlers.
-fn push_exits(lines: &mut String, margin: &str, killed: &str) -> Result<(), Fail> {
+fn push_exits(rt: &impl Abort, lines: &mut String, margin: &str, killed: &str) {
     write!(
         lines,
         "{margin}    < u
@@ -207,102 +207,138 @@ fn push_exits(lines: &mut String, margin: &str, killed: &str) -> Result<(), Fail
 {margin}< f
 {margin}= t
 "
-    )?;
-    Ok(())
+    )
+    .expect(rt, "memory");
 }
 
-impl Nest {
-    /// The margin of a round's filter, and for the number of rounds that of what is inside them all.
-    fn margin(&self, alloc: Global, round: u8) -> Result<String, Fail> {
-        let outside = usize::from(round.saturating_sub(self.first));
-        Ok("  ".repeat(alloc, usize::from(self.depth) + 3 * outside)?)
+/// The lines of the processes of a round.
+fn push_processes(rt: &impl Abort, alloc: Global, lines: &mut String, round: u8) {
+    if round < ROUNDS {
+        let n = number(rt, alloc, round);
+        let (d, k) = (2 * round + 1, 2 * round + 2);
+        write!(
+            lines,
+            "process {d} #<process d{n}> signal nil\nprocess {k} #<process k{n}> signal nil\n"
+        )
+        .expect(rt, "memory");
     }
+}
 
-    /// The lines of the markers, none of which stands anywhere, and of the processes.
-    fn push_objects(&self, alloc: Global, lines: &mut String) -> Result<(), Fail> {
-        for marker in 0..self.markers {
-            write!(lines, "marker {marker} #<marker in no buffer>\n")?;
-        }
-        lines.push_str("process 0 #<process c> run 0\n")?;
-        for round in 0..ROUNDS {
-            let n = number(alloc, round)?;
-            let (d, k) = (2 * round + 1, 2 * round + 2);
-            write!(
-                lines,
-                "process {d} #<process d{n}> signal nil\nprocess {k} #<process k{n}> signal nil\n"
-            )?;
-        }
-        lines.push_str(self.processes)?;
-        Ok(())
-    }
-
-    fn lines(&self, alloc: Global) -> Result<String, Fail> {
-        let mut lines = String::from_str(alloc, self.front)?;
-        for round in self.first..ROUNDS {
-            let margin = self.margin(alloc, round)?;
-            push_entries(&mut lines, margin.as_str(), number(alloc, round)?.as_str())?;
-        }
-        let margin = self.margin(alloc, ROUNDS)?;
-        for line in self.inside.lines() {
-            write!(lines, "{margin}{line}\n")?;
-        }
-        let mut killed = "t";
-        for round in (self.first..ROUNDS).rev() {
-            push_exits(&mut lines, self.margin(alloc, round)?.as_str(), killed)?;
-            killed = "nil";
-        }
-        lines.push_str(self.back)?;
-        self.push_objects(alloc, &mut lines)?;
-        Ok(lines)
-    }
-
-    fn exchanges(&self, alloc: Global) -> Result<String, Fail> {
-        let mut exchanges = String::from_str(alloc, self.asked_before)?;
-        for round in self.first..ROUNDS {
-            let (d, k) = (2 * round + 1, 2 * round + 2);
-            write!(
-                exchanges,
-                "read 0: bytes a
+/// The exchanges of a round.
+fn push_asked(rt: &impl Abort, exchanges: &mut String, round: u8) {
+    if round < ROUNDS {
+        let (d, k) = (2 * round + 1, 2 * round + 2);
+        write!(
+            exchanges,
+            "read 0: bytes a
 spawn d: started {d}
 kill {d}: killed
 spawn k: started {k}
 kill {k}: killed
 "
-            )?;
+        )
+        .expect(rt, "memory");
+    }
+}
+
+impl Nest {
+    /// The margin of a round's filter, and for the number of rounds that of what is inside them all.
+    fn margin(&self, rt: &impl Abort, alloc: Global, round: u8) -> String {
+        let outside = usize::from(round.saturating_sub(self.first));
+        "  ".repeat(alloc, usize::from(self.depth) + 3 * outside)
+            .expect(rt, "memory")
+    }
+
+    /// The lines of the markers, none of which stands anywhere, and of the processes.
+    fn push_objects(&self, rt: &impl Abort, alloc: Global, lines: &mut String) {
+        for marker in 0..self.markers {
+            write!(lines, "marker {marker} #<marker in no buffer>\n").expect(rt, "memory");
         }
-        exchanges.push_str(self.asked_behind)?;
-        Ok(exchanges)
+        lines
+            .push_str("process 0 #<process c> run 0\n")
+            .expect(rt, "memory");
+        for round in 0..ROUNDS {
+            push_processes(rt, alloc, lines, round);
+        }
+        lines.push_str(self.processes).expect(rt, "memory");
+    }
+
+    fn lines(&self, rt: &impl Abort, alloc: Global) -> String {
+        let mut lines = String::from_str(alloc, self.front).expect(rt, "memory");
+        for round in self.first..ROUNDS {
+            let margin = self.margin(rt, alloc, round);
+            push_entries(
+                rt,
+                &mut lines,
+                margin.as_str(),
+                number(rt, alloc, round).as_str(),
+            );
+        }
+        let margin = self.margin(rt, alloc, ROUNDS);
+        for line in self.inside.lines() {
+            write!(lines, "{margin}{line}\n").expect(rt, "memory");
+        }
+        let mut killed = "t";
+        for round in (self.first..ROUNDS).rev() {
+            push_exits(
+                rt,
+                &mut lines,
+                self.margin(rt, alloc, round).as_str(),
+                killed,
+            );
+            killed = "nil";
+        }
+        lines.push_str(self.back).expect(rt, "memory");
+        self.push_objects(rt, alloc, &mut lines);
+        lines
+    }
+
+    fn exchanges(&self, rt: &impl Abort, alloc: Global) -> String {
+        let mut exchanges = String::from_str(alloc, self.asked_before).expect(rt, "memory");
+        for round in self.first..ROUNDS {
+            push_asked(rt, &mut exchanges, round);
+        }
+        exchanges.push_str(self.asked_behind).expect(rt, "memory");
+        exchanges
+    }
+
+    /// The run, with its lines and its exchanges.
+    fn run(&self, rt: &impl Abort, alloc: Global) -> Run {
+        let forms = self.forms;
+        Run {
+            shows: self.shows,
+            script: format!(in alloc; "{HANDLERS}{forms}").expect(rt, "memory"),
+            children: &CHILDREN,
+            lines: self.lines(rt, alloc),
+            exchanges: self.exchanges(rt, alloc).into_bytes(),
+        }
     }
 }
 
 /// The runs, each with its lines and its exchanges.
-pub fn runs(alloc: Global) -> Result<Vec<Run>, Fail> {
+pub fn runs(rt: &impl Abort, alloc: Global) -> Vec<Run> {
     let mut runs = Vec::new(alloc);
     for nest in &NESTS {
-        let forms = nest.forms;
-        runs.push(Run {
-            shows: nest.shows,
-            script: format!(in alloc; "{HANDLERS}{forms}")?,
-            children: &CHILDREN,
-            lines: nest.lines(alloc)?,
-            exchanges: nest.exchanges(alloc)?.into_bytes(),
-        })?;
+        runs.push(nest.run(rt, alloc)).expect(rt, "memory");
     }
-    Ok(runs)
+    runs
+}
+
+fn check_nest(rt: &impl Abort, alloc: Global, run: &Run) {
+    check_run(
+        rt,
+        alloc,
+        run.shows,
+        run.script.as_str(),
+        plays(rt, alloc, run.children),
+        run.lines.as_str(),
+        run.exchanges.as_slice(),
+    );
 }
 
 #[test]
-fn nesting(rt: HostRuntime) -> Result<(), Fail> {
-    for run in &runs(rt.alloc())? {
-        check_run(
-            &rt,
-            rt.alloc(),
-            run.shows,
-            run.script.as_str(),
-            plays(rt.alloc(), run.children)?,
-            run.lines.as_str(),
-            run.exchanges.as_slice(),
-        )?;
+fn nesting(rt: HostRuntime) {
+    for run in &runs(&rt, rt.alloc()) {
+        check_nest(&rt, rt.alloc(), run);
     }
-    Ok(())
 }

@@ -2,13 +2,12 @@
 ghost use Rattle.std.specs.Prelude.{◌≡◌, []};
 
 use super::shown::shown;
-use kernel_top::{Status, run};
 use ek_types::{Copied, ListOf, MemorySink, MemorySource};
 use handler_code::{Natives, NoNatives};
 use host_link::{Answer, Answers, Ended, Exchanges, Host, MemoryHost, Play};
+use kernel_top::{Status, run};
 use std::alloc::Global;
 use std::process::Abort;
-use std::test::Fail;
 
 /// The most bytes of a call, and the call that fails.
 #[derive(Clone, Copy)]
@@ -83,39 +82,41 @@ pub struct Run {
 
 impl Row {
     /// A copy of the row.
-    pub fn run(&self, alloc: Global) -> Result<Run, Fail> {
-        Ok(Run {
+    pub fn run(&self, rt: &impl Abort, alloc: Global) -> Run {
+        Run {
             shows: self.shows,
-            script: String::from_str(alloc, self.script)?,
+            script: String::from_str(alloc, self.script).expect(rt, "memory"),
             children: self.children,
-            lines: String::from_str(alloc, self.lines)?,
-            exchanges: self.exchanges.to_vec(alloc)?,
-        })
+            lines: String::from_str(alloc, self.lines).expect(rt, "memory"),
+            exchanges: self.exchanges.to_vec(alloc).expect(rt, "memory"),
+        }
     }
 }
 
-fn failing(alloc: Global, call: Option<u32>) -> Result<Vec<u32>, Fail> {
+fn failing(rt: &impl Abort, alloc: Global, call: Option<u32>) -> Vec<u32> {
     let mut fails = Vec::new(alloc);
     if let Some(call) = call {
-        fails.push(call)?;
+        fails.push(call).expect(rt, "memory");
     }
-    Ok(fails)
+    fails
 }
 
-fn given(alloc: Global, words: &[&str]) -> Result<Vec<String>, Fail> {
+fn given(rt: &impl Abort, alloc: Global, words: &[&str]) -> Vec<String> {
     let mut given = Vec::new(alloc);
     for word in words {
-        given.push(String::from_str(alloc, word)?)?;
+        given
+            .push(String::from_str(alloc, word).expect(rt, "memory"))
+            .expect(rt, "memory");
     }
-    Ok(given)
+    given
 }
 
-fn answer(alloc: Global, heard: &[u8]) -> Result<Answer, Fail> {
+fn answer(rt: &impl Abort, alloc: Global, heard: &[u8]) -> Answer {
     let mut bytes = ListOf::new(alloc);
     for byte in heard {
-        bytes.push(*byte)?;
+        bytes.push(*byte).expect(rt, "memory");
     }
-    Ok(Answer::Bytes(bytes))
+    Answer::Bytes(bytes)
 }
 
 fn end_answer(ended: Ended) -> Answer {
@@ -128,53 +129,61 @@ fn end_answer(ended: Ended) -> Answer {
 }
 
 /// The play of a child.
-pub fn play(alloc: Global, reads: &[&[u8]], ends: &[Ended]) -> Result<Play, Fail> {
+pub fn play(rt: &impl Abort, alloc: Global, reads: &[&[u8]], ends: &[Ended]) -> Play {
     let mut heard: Answers = ListOf::new(alloc);
     for read in reads {
-        heard.push(answer(alloc, read)?)?;
+        heard.push(answer(rt, alloc, read)).expect(rt, "memory");
     }
     let mut ended: Answers = ListOf::new(alloc);
     for end in ends {
-        ended.push(end_answer(*end))?;
+        ended.push(end_answer(*end)).expect(rt, "memory");
     }
-    Ok(Play {
+    Play {
         reads: heard,
         ends: ended,
-    })
+    }
 }
 
 /// The plays of some children.
-pub fn plays(alloc: Global, children: &[Child]) -> Result<Vec<Play>, Fail> {
+pub fn plays(rt: &impl Abort, alloc: Global, children: &[Child]) -> Vec<Play> {
     let mut plays = Vec::new(alloc);
     for child in children {
-        plays.push(play(alloc, child.reads, child.ends)?)?;
+        plays
+            .push(play(rt, alloc, child.reads, child.ends))
+            .expect(rt, "memory");
     }
-    Ok(plays)
+    plays
 }
 
 /// The play of one child that gives these bytes.
-pub fn one_child(alloc: Global, reads: &[&[u8]]) -> Result<Vec<Play>, Fail> {
+pub fn one_child(rt: &impl Abort, alloc: Global, reads: &[&[u8]]) -> Vec<Play> {
     let mut plays = Vec::new(alloc);
-    plays.push(play(alloc, reads, &[])?)?;
-    Ok(plays)
+    plays.push(play(rt, alloc, reads, &[])).expect(rt, "memory");
+    plays
 }
 
 /// Runs these words of the command line over a host that has started no child, with these natives.
 pub fn run_over<N: Natives>(
+    rt: &impl Abort,
     alloc: Global,
     words: &[&str],
     script: &str,
     mut host: MemoryHost,
     setting: Setting,
     natives: &N,
-) -> Result<Ran, Fail>
+) -> Ran
     requires { host.kills ≡ [] }
 {
     let Setting { from, to, room, .. } = setting;
-    let words = given(alloc, words)?;
-    let bytes = script.as_bytes().to_vec(alloc)?;
-    let mut source = MemorySource::new(bytes, from.piece.max(1), failing(alloc, from.fails)?);
-    let mut sink = MemorySink::new(alloc, room, to.piece.max(1), failing(alloc, to.fails)?)?;
+    let words = given(rt, alloc, words);
+    let bytes = script.as_bytes().to_vec(alloc).expect(rt, "memory");
+    let mut source = MemorySource::new(bytes, from.piece.max(1), failing(rt, alloc, from.fails));
+    let mut sink = MemorySink::new(
+        alloc,
+        room,
+        to.piece.max(1),
+        failing(rt, alloc, to.fails),
+    ).expect(rt, "memory");
     let status = run(
         alloc,
         words.as_slice(),
@@ -184,48 +193,57 @@ pub fn run_over<N: Natives>(
         natives,
     );
     let Some(told) = host.told() else {
-        return Err(Fail::from("the host tells nothing"));
+        panic!(rt; "the host tells nothing");
     };
-    Ok(Ran {
+    Ran {
         status,
-        written: sink.bytes().to_vec(alloc)?,
-        exchanges: shown(alloc, told)?,
-        told: told.copy()?,
-    })
+        written: sink.bytes().to_vec(alloc).expect(rt, "memory"),
+        exchanges: shown(rt, alloc, told),
+        told: told.copy().expect(rt, "memory"),
+    }
 }
 
 /// Runs a script by these words of the command line, with these natives.
 pub fn run_natives<N: Natives>(
+    rt: &impl Abort,
     alloc: Global,
     words: &[&str],
     script: &str,
     plays: Vec<Play>,
     setting: Setting,
     natives: &N,
-) -> Result<Ran, Fail> {
-    let host = MemoryHost::new(plays, failing(alloc, setting.host_fails)?);
-    run_over(alloc, words, script, host, setting, natives)
+) -> Ran {
+    let host = MemoryHost::new(plays, failing(rt, alloc, setting.host_fails));
+    run_over(rt, alloc, words, script, host, setting, natives)
 }
 
 /// Runs a script by these words of the command line.
 pub fn run_words(
+    rt: &impl Abort,
     alloc: Global,
     words: &[&str],
     script: &str,
     plays: Vec<Play>,
     setting: Setting,
-) -> Result<Ran, Fail> {
-    run_natives(alloc, words, script, plays, setting, &NoNatives)
+) -> Ran {
+    run_natives(rt, alloc, words, script, plays, setting, &NoNatives)
 }
 
 /// Runs a script.
 pub fn run_script(
+    rt: &impl Abort,
     alloc: Global,
     script: &str,
     plays: Vec<Play>,
     setting: Setting,
-) -> Result<Ran, Fail> {
-    run_words(alloc, &["run"], script, plays, setting)
+) -> Ran {
+    run_words(rt, alloc, &["run"], script, plays, setting)
+}
+
+/// Compares what a run writes with its lines.
+fn is_written(rt: &impl Abort, alloc: Global, shows: &str, written: &[u8], lines: &str) {
+    let written = String::from_utf8_lossy(alloc, written).expect(rt, "memory");
+    assert_eq!(rt; written.as_str(), lines, "{shows}");
 }
 
 /// Compares a run that is done with its lines and its exchanges.
@@ -236,12 +254,10 @@ pub fn check_ran(
     ran: &Ran,
     lines: &str,
     exchanges: &[u8],
-) -> Result<(), Fail> {
+) {
     assert_eq!(rt; ran.status, Status::Done, "{shows}");
-    let written = String::from_utf8_lossy(alloc, ran.written.as_slice())?;
-    assert_eq!(rt; written.as_str(), lines, "{shows}");
+    is_written(rt, alloc, shows, ran.written.as_slice(), lines);
     assert_eq!(rt; ran.exchanges.as_slice(), exchanges, "{shows}");
-    Ok(())
 }
 
 /// Compares the run of a script with its lines and its exchanges.
@@ -253,23 +269,22 @@ pub fn check_run(
     plays: Vec<Play>,
     lines: &str,
     exchanges: &[u8],
-) -> Result<(), Fail> {
-    let ran = run_script(alloc, script, plays, PLAIN)?;
+) {
+    let ran = run_script(rt, alloc, script, plays, PLAIN);
     check_ran(rt, alloc, shows, &ran, lines, exchanges)
 }
 
 /// Compares each run with its row.
-pub fn check_rows(rt: &impl Abort, alloc: Global, rows: &[Row]) -> Result<(), Fail> {
+pub fn check_rows(rt: &impl Abort, alloc: Global, rows: &[Row]) {
     for row in rows {
         check_run(
             rt,
             alloc,
             row.shows,
             row.script,
-            plays(alloc, row.children)?,
+            plays(rt, alloc, row.children),
             row.lines,
             row.exchanges,
-        )?;
+        );
     }
-    Ok(())
 }

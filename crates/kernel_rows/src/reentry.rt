@@ -1,7 +1,8 @@
 //! Handlers that set others, wait, start, delete and kill while they are running themselves.
 
-use super::playing::{Child, Row, UNREAD, check_rows, check_run, play};
-use std::test::Fail;
+use super::playing::{Child, Row, UNREAD, check_rows, check_run, plays};
+use std::alloc::Global;
+use std::process::Abort;
 
 /// Runs, each with its lines and its exchanges.
 pub const ROWS: [Row; 8] = [
@@ -307,54 +308,85 @@ kill 1: killed
 ];
 
 #[test]
-fn reentry(rt: HostRuntime) -> Result<(), Fail> {
+fn reentry(rt: HostRuntime) {
     check_rows(&rt, rt.alloc(), &ROWS)
 }
 
 /// How many children end, each of whose sentinels starts the next one. The last one's finds none.
 const CHILDREN: usize = 251;
 
-/// A process is listed while its sentinel is running, so its successor can't have its name, and the
-/// next one can.
-#[test]
-fn a_sentinel_that_starts_its_successor(rt: HostRuntime) -> Result<(), Fail> {
-    let mut plays = Vec::new(rt.alloc());
-    let mut lines = String::from_str(rt.alloc(), "= #<process c>\n= s\n")?;
-    let mut exchanges = String::new(rt.alloc());
-    let mut marks = String::new(rt.alloc());
-    let mut ended = String::new(rt.alloc());
+/// The name of a child's process.
+fn name(child: usize) -> &'static str {
+    if child % 2 == 0 { "c" } else { "c<1>" }
+}
+
+/// The lines of the sentinel of a child that has a successor.
+fn push_heard(rt: &impl Abort, lines: &mut String, own: &str, next: &str) {
+    write!(
+        lines,
+        "> sentinel s #<process {own}> \"finished\\n\"\n  = #<process {next}>\n  = s\n< s\n"
+    )
+    .expect(rt, "memory");
+}
+
+/// The lines of the run: the sentinels, the last of which finds no child, then the markers and the processes.
+fn successors(rt: &impl Abort, alloc: Global) -> String {
+    let mut lines = String::from_str(alloc, "= #<process c>\n= s\n").expect(rt, "memory");
+    for child in 1..CHILDREN {
+        push_heard(rt, &mut lines, name(child - 1), name(child));
+    }
+    lines
+        .push_str(
+            "> sentinel s #<process c> \"finished\\n\"
+  ! 12 spawn-failed
+< s
+= nil
+buffer *scratch* point 1 min 1 max 1 modified nil current
+text \"\"
+",
+        )
+        .expect(rt, "memory");
     for child in 0..CHILDREN {
-        let (name, next) = if child % 2 == 0 {
-            ("c", "c<1>")
-        } else {
-            ("c<1>", "c")
-        };
-        plays.push(play(rt.alloc(), &[], &[])?)?;
+        write!(lines, "marker {child} #<marker in no buffer>\n").expect(rt, "memory");
+    }
+    for child in 0..CHILDREN {
+        push_process(rt, &mut lines, child, name(child));
+    }
+    lines
+}
+
+fn push_process(rt: &impl Abort, lines: &mut String, child: usize, name: &str) {
+    write!(lines, "process {child} #<process {name}> exit 0\n").expect(rt, "memory");
+}
+
+/// What is asked: each child is started and ends, and one more is refused.
+fn succession(rt: &impl Abort, alloc: Global) -> String {
+    let mut exchanges = String::new(alloc);
+    for child in 0..CHILDREN {
         write!(
             exchanges,
             "spawn cat: started {child}\nread {child}: end\nend {child}: code 0\n"
-        )?;
-        write!(lines, "> sentinel s #<process {name}> \"finished\\n\"\n")?;
-        if child < CHILDREN - 1 {
-            write!(lines, "  = #<process {next}>\n  = s\n< s\n")?;
-        }
-        write!(marks, "marker {child} #<marker in no buffer>\n")?;
-        write!(ended, "process {child} #<process {name}> exit 0\n")?;
+        )
+        .expect(rt, "memory");
     }
-    exchanges.push_str("spawn cat: refused\n")?;
-    lines.push_str(
-        "  ! 12 spawn-failed\n< s\n= nil\nbuffer *scratch* point 1 min 1 max 1 modified nil current\ntext \"\"\n",
-    )?;
-    lines.push_str(marks.as_str())?;
-    lines.push_str(ended.as_str())?;
+    exchanges
+        .push_str("spawn cat: refused\n")
+        .expect(rt, "memory");
+    exchanges
+}
+
+/// A process is listed while its sentinel is running, so its successor can't have its name, and the
+/// next one can.
+#[test]
+fn a_sentinel_that_starts_its_successor(rt: HostRuntime) {
     check_run(
         &rt,
         rt.alloc(),
         "successors",
         r#"(defhandler s (p m) (setq p (start-process "c" nil "cat"))(set-process-sentinel p 's))
 (setq p (start-process "c" nil "cat"))(set-process-sentinel p 's)(accept-process-output)"#,
-        plays,
-        lines.as_str(),
-        exchanges.as_bytes(),
+        plays(&rt, rt.alloc(), &[UNREAD; CHILDREN]),
+        successors(&rt, rt.alloc()).as_str(),
+        succession(&rt, rt.alloc()).as_bytes(),
     )
 }

@@ -2,18 +2,18 @@
 
 use host_link::{Exchange, Exchanges};
 use std::alloc::Global;
-use std::test::Fail;
+use std::process::Abort;
 
 /// An exchange as text.
-pub fn shown_one(alloc: Global, x: &Exchange) -> Result<String, Fail> {
-    Ok(format!(in alloc; "{x}")?)
+pub fn shown_one(rt: &impl Abort, alloc: Global, x: &Exchange) -> String {
+    format!(in alloc; "{x}").expect(rt, "memory")
 }
 
 /// A line for each exchange.
-pub fn shown(alloc: Global, exchanges: &Exchanges) -> Result<Vec<u8>, Fail> {
+pub fn shown(rt: &impl Abort, alloc: Global, exchanges: &Exchanges) -> Vec<u8> {
     let mut text = String::new(alloc);
     for x in exchanges.as_slice() {
-        writeln!(text, "{x}")?;
+        writeln!(text, "{x}").expect(rt, "memory");
     }
-    Ok(text.into_bytes())
+    text.into_bytes()
 }

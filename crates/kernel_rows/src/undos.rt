@@ -1,7 +1,6 @@
 //! Undo.
 
 use super::playing::{Row, check_rows};
-use std::test::Fail;
 
 /// Runs, each with its lines and its exchanges.
 pub const ROWS: [Row; 3] = [
@@ -60,6 +59,6 @@ text "abcd"
 ];
 
 #[test]
-fn undo(rt: HostRuntime) -> Result<(), Fail> {
+fn undo(rt: HostRuntime) {
     check_rows(&rt, rt.alloc(), &ROWS)
 }

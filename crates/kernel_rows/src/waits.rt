@@ -2,7 +2,6 @@
 
 use super::playing::{Child, Row, check_rows};
 use host_link::Ended;
-use std::test::Fail;
 
 /// A child that is silent for five reads.
 const SILENT: Child = Child {
@@ -135,6 +134,6 @@ end 0: signal
 ];
 
 #[test]
-fn waits(rt: HostRuntime) -> Result<(), Fail> {
+fn waits(rt: HostRuntime) {
     check_rows(&rt, rt.alloc(), &ROWS)
 }

@@ -1,8 +1,8 @@
 //! Worked cases of what a character inherits.
 
+use crate::checking::is;
 use ek_types::{Mem, PropSet, PropVal, Sym, SymList};
 use std::alloc::Global;
-use std::test::Fail;
 use stickiness::inherited;
 
 const FRONT_STICKY: Sym = Sym(0);
@@ -41,62 +41,77 @@ fn faces(alloc: Global, sticky: Sym, value: &PropVal, face: &PropVal) -> Mem<Pro
 }
 
 #[test]
-fn a_list_that_withholds_at_the_rear_and_all_offered_at_the_front(
-    rt: HostRuntime,
-) -> Result<(), Fail> {
+fn a_list_that_withholds_at_the_rear_and_all_offered_at_the_front(rt: HostRuntime) {
     let alloc = rt.alloc();
     let before = PropSet::empty(alloc)
-        .with(FACE, &BOLD)?
-        .with(REAR_NONSTICKY, &just(alloc, FACE)?)?;
+        .with(FACE, &BOLD)
+        .expect(&rt, "memory")
+        .with(REAR_NONSTICKY, &just(alloc, FACE).expect(&rt, "memory"))
+        .expect(&rt, "memory");
     let after = PropSet::empty(alloc)
-        .with(FACE, &ITALIC)?
-        .with(FRONT_STICKY, &PropVal::Truth)?;
-    let set = inherited(alloc, Some(&before), Some(&after))?;
-    assert_eq!(rt; set.len(), 1);
-    assert_eq!(rt; symbol(&set, FACE), 31);
-    Ok(())
+        .with(FACE, &ITALIC)
+        .expect(&rt, "memory")
+        .with(FRONT_STICKY, &PropVal::Truth)
+        .expect(&rt, "memory");
+    let set = inherited(alloc, Some(&before), Some(&after)).expect(&rt, "memory");
+    is(&rt, set.len(), 1);
+    is(&rt, symbol(&set, FACE), 31);
 }
 
 #[test]
-fn the_preceding_value_is_taken_where_both_offer_one(rt: HostRuntime) -> Result<(), Fail> {
+fn the_preceding_value_is_taken_where_both_offer_one(rt: HostRuntime) {
     let alloc = rt.alloc();
-    let before = PropSet::empty(alloc).with(FACE, &BOLD)?;
-    let after = faces(alloc, FRONT_STICKY, &PropVal::Truth, &ITALIC)?;
-    let set = inherited(alloc, Some(&before), Some(&after))?;
-    assert_eq!(rt; set.len(), 2);
-    assert_eq!(rt; symbol(&set, FACE), 30);
-    assert_eq!(rt; symbol(&set, MOUSE_FACE), 31);
-    Ok(())
+    let before = PropSet::empty(alloc)
+        .with(FACE, &BOLD)
+        .expect(&rt, "memory");
+    let after = faces(alloc, FRONT_STICKY, &PropVal::Truth, &ITALIC).expect(&rt, "memory");
+    let set = inherited(alloc, Some(&before), Some(&after)).expect(&rt, "memory");
+    is(&rt, set.len(), 2);
+    is(&rt, symbol(&set, FACE), 30);
+    is(&rt, symbol(&set, MOUSE_FACE), 31);
 }
 
 #[test]
-fn the_end_of_the_text_offers_nothing(rt: HostRuntime) -> Result<(), Fail> {
+fn the_end_of_the_text_offers_nothing(rt: HostRuntime) {
     let alloc = rt.alloc();
-    let after = faces(alloc, FRONT_STICKY, &just(alloc, FACE)?, &ITALIC)?;
-    let set = inherited(alloc, None, Some(&after))?;
-    assert_eq!(rt; set.len(), 1);
-    assert_eq!(rt; symbol(&set, FACE), 31);
-    assert_eq!(rt; inherited(alloc, None, None)?.len(), 0);
-    Ok(())
+    let after = faces(
+        alloc,
+        FRONT_STICKY,
+        &just(alloc, FACE).expect(&rt, "memory"),
+        &ITALIC,
+    )
+    .expect(&rt, "memory");
+    let set = inherited(alloc, None, Some(&after)).expect(&rt, "memory");
+    is(&rt, set.len(), 1);
+    is(&rt, symbol(&set, FACE), 31);
+    is(
+        &rt,
+        inherited(alloc, None, None).expect(&rt, "memory").len(),
+        0,
+    );
 }
 
 #[test]
-fn neither_t_nor_a_list_counts_as_absent(rt: HostRuntime) -> Result<(), Fail> {
+fn neither_t_nor_a_list_counts_as_absent(rt: HostRuntime) {
     let alloc = rt.alloc();
-    let before = faces(alloc, REAR_NONSTICKY, &PropVal::Int(1), &BOLD)?;
-    let after = faces(alloc, FRONT_STICKY, &PropVal::Sym(FACE), &ITALIC)?;
-    let set = inherited(alloc, Some(&before), None)?;
-    assert_eq!(rt; set.len(), 2);
-    assert_eq!(rt; symbol(&set, FACE), 30);
-    assert_eq!(rt; inherited(alloc, None, Some(&after))?.len(), 0);
-    Ok(())
+    let before = faces(alloc, REAR_NONSTICKY, &PropVal::Int(1), &BOLD).expect(&rt, "memory");
+    let after = faces(alloc, FRONT_STICKY, &PropVal::Sym(FACE), &ITALIC).expect(&rt, "memory");
+    let set = inherited(alloc, Some(&before), None).expect(&rt, "memory");
+    is(&rt, set.len(), 2);
+    is(&rt, symbol(&set, FACE), 30);
+    is(
+        &rt,
+        inherited(alloc, None, Some(&after))
+            .expect(&rt, "memory")
+            .len(),
+        0,
+    );
 }
 
 #[test]
-fn a_character_before_that_withholds_all(rt: HostRuntime) -> Result<(), Fail> {
+fn a_character_before_that_withholds_all(rt: HostRuntime) {
     let alloc = rt.alloc();
-    let before = faces(alloc, REAR_NONSTICKY, &PropVal::Truth, &BOLD)?;
-    let set = inherited(alloc, Some(&before), None)?;
-    assert_eq!(rt; set.len(), 0);
-    Ok(())
+    let before = faces(alloc, REAR_NONSTICKY, &PropVal::Truth, &BOLD).expect(&rt, "memory");
+    let set = inherited(alloc, Some(&before), None).expect(&rt, "memory");
+    is(&rt, set.len(), 0);
 }

@@ -1,46 +1,44 @@
 //! Characters, lists and property sets: each call that takes memory, once with ample memory.
 
+use crate::checking::{holds, is};
 use ek_types::{Ch, Chars, Copied, ListOf, Mem, PropSet, PropVal, Sym};
 use std::alloc::Global;
-use std::test::Fail;
+use std::process::Abort;
 
 #[test]
-fn a_list_and_its_copy(rt: HostRuntime) -> Result<(), Fail> {
+fn a_list_and_its_copy(rt: HostRuntime) {
     let mut list = ListOf::new(rt.alloc());
-    list.reserve(1)?;
+    list.reserve(1).expect(&rt, "memory");
     list.push_spare(7u32);
-    list.push(9u32)?;
-    let copy = list.copy()?;
-    assert_eq!(rt; list.as_slice(), [7u32, 9].as_slice());
-    assert_eq!(rt; copy.as_slice(), [7u32, 9].as_slice());
-    assert_eq!(rt; copy.len(), 2);
-    Ok(())
+    list.push(9u32).expect(&rt, "memory");
+    let copy = list.copy().expect(&rt, "memory");
+    is(&rt, list.as_slice(), [7u32, 9].as_slice());
+    is(&rt, copy.as_slice(), [7u32, 9].as_slice());
+    is(&rt, copy.len(), 2);
 }
 
 #[test]
-fn characters_behind_others(rt: HostRuntime) -> Result<(), Fail> {
+fn characters_behind_others(rt: HostRuntime) {
     let mut text = Chars::new(rt.alloc());
-    text.extend_bytes(b"a\xe9")?;
+    text.extend_bytes(b"a\xe9").expect(&rt, "memory");
     let mut whole = Chars::new(rt.alloc());
-    whole.extend(&text)?;
-    whole.extend(&text)?;
+    whole.extend(&text).expect(&rt, "memory");
+    whole.extend(&text).expect(&rt, "memory");
     assert_eq!(rt; whole.len(), 4);
-    assert_eq!(rt; whole.at(2), Ch::Scalar('a'));
-    assert_eq!(rt; whole.at(3), Ch::Scalar('é'));
-    Ok(())
+    is(&rt, whole.at(2), Ch::Scalar('a'));
+    is(&rt, whole.at(3), Ch::Scalar('é'));
 }
 
 #[test]
-fn characters_and_their_copy(rt: HostRuntime) -> Result<(), Fail> {
+fn characters_and_their_copy(rt: HostRuntime) {
     let mut text = Chars::new(rt.alloc());
-    text.reserve(1)?;
+    text.reserve(1).expect(&rt, "memory");
     text.push_spare(Ch::Scalar('€'));
-    text.push(Ch::Raw(0x82))?;
-    let copy = text.copy()?;
+    text.push(Ch::Raw(0x82)).expect(&rt, "memory");
+    let copy = text.copy().expect(&rt, "memory");
     assert_eq!(rt; copy.len(), 2);
-    assert_eq!(rt; copy.at(0), Ch::Scalar('€'));
-    assert_eq!(rt; copy.at(1), Ch::Raw(0x82));
-    Ok(())
+    is(&rt, copy.at(0), Ch::Scalar('€'));
+    is(&rt, copy.at(1), Ch::Raw(0x82));
 }
 
 /// The number, where the value is one.
@@ -63,37 +61,51 @@ fn copied_set(alloc: Global) -> Mem<PropSet> {
 }
 
 #[test]
-fn a_property_given_anew(rt: HostRuntime) -> Result<(), Fail> {
-    let set = copied_set(rt.alloc())?;
-    assert_eq!(rt; set.len(), 2);
-    assert_eq!(rt; number(set.get(PRIORITY)), Some(2));
-    assert_eq!(rt; number(set.get(FACE)), Some(5));
-    Ok(())
+fn a_property_given_anew(rt: HostRuntime) {
+    let set = copied_set(rt.alloc()).expect(&rt, "memory");
+    is(&rt, set.len(), 2);
+    is(&rt, number(set.get(PRIORITY)), Some(2));
+    is(&rt, number(set.get(FACE)), Some(5));
 }
 
 #[test]
-fn a_property_taken_away(rt: HostRuntime) -> Result<(), Fail> {
-    let set = copied_set(rt.alloc())?.without(PRIORITY)?;
-    assert_eq!(rt; set.len(), 1);
-    assert_eq!(rt; number(set.get(FACE)), Some(5));
-    Ok(())
+fn a_property_taken_away(rt: HostRuntime) {
+    let set = copied_set(rt.alloc())
+        .expect(&rt, "memory")
+        .without(PRIORITY)
+        .expect(&rt, "memory");
+    is(&rt, set.len(), 1);
+    is(&rt, number(set.get(FACE)), Some(5));
 }
 
 #[test]
-fn nil_takes_a_property_away(rt: HostRuntime) -> Result<(), Fail> {
+fn nil_takes_a_property_away(rt: HostRuntime) {
     let nil = PropVal::Syms(ListOf::new(rt.alloc()));
-    let set = copied_set(rt.alloc())?.with(FACE, &nil)?;
-    assert_eq!(rt; set.len(), 1);
-    assert_eq!(rt; number(set.get(PRIORITY)), Some(2));
-    Ok(())
+    let set = copied_set(rt.alloc())
+        .expect(&rt, "memory")
+        .with(FACE, &nil)
+        .expect(&rt, "memory");
+    is(&rt, set.len(), 1);
+    is(&rt, number(set.get(PRIORITY)), Some(2));
+}
+
+/// The copy is of the same kind and word.
+fn copies_as_itself(rt: &impl Abort, value: &PropVal) {
+    let copy = value.copy().expect(rt, "memory");
+    let copied = match (value, &copy) {
+        (PropVal::Truth, PropVal::Truth) => true,
+        (PropVal::Int(one), PropVal::Int(other)) => one == other,
+        (PropVal::Sym(one), PropVal::Sym(other)) => one == other,
+        _ => false,
+    };
+    holds(rt, copied);
 }
 
 #[test]
-fn values_of_one_word_and_their_copies(rt: HostRuntime) -> Result<(), Fail> {
-    assert!(rt; matches!(PropVal::Truth.copy()?, PropVal::Truth));
-    assert!(rt; matches!(PropVal::Int(-4).copy()?, PropVal::Int(-4)));
-    assert!(rt; matches!(PropVal::Sym(Sym(8)).copy()?, PropVal::Sym(Sym(8))));
-    Ok(())
+fn values_of_one_word_and_their_copies(rt: HostRuntime) {
+    copies_as_itself(&rt, &PropVal::Truth);
+    copies_as_itself(&rt, &PropVal::Int(-4));
+    copies_as_itself(&rt, &PropVal::Sym(Sym(8)));
 }
 
 /// The copy of a list of one name.
@@ -104,12 +116,11 @@ fn copied_names(alloc: Global, name: Sym) -> Mem<PropVal> {
 }
 
 #[test]
-fn names_and_their_copy(rt: HostRuntime) -> Result<(), Fail> {
-    let PropVal::Syms(names) = copied_names(rt.alloc(), Sym(14))? else {
-        return Err(Fail::from("the copy of names is of another kind"));
+fn names_and_their_copy(rt: HostRuntime) {
+    let PropVal::Syms(names) = copied_names(rt.alloc(), Sym(14)).expect(&rt, "memory") else {
+        panic!(rt; "the copy of names is of another kind");
     };
-    assert_eq!(rt; names.as_slice(), [Sym(14)].as_slice());
-    Ok(())
+    is(&rt, names.as_slice(), [Sym(14)].as_slice());
 }
 
 /// The copy of a text of one character.
@@ -120,10 +131,9 @@ fn copied_text(alloc: Global) -> Mem<PropVal> {
 }
 
 #[test]
-fn a_text_and_its_copy(rt: HostRuntime) -> Result<(), Fail> {
-    let PropVal::Text(text) = copied_text(rt.alloc())? else {
-        return Err(Fail::from("the copy of a text is of another kind"));
+fn a_text_and_its_copy(rt: HostRuntime) {
+    let PropVal::Text(text) = copied_text(rt.alloc()).expect(&rt, "memory") else {
+        panic!(rt; "the copy of a text is of another kind");
     };
-    assert_eq!(rt; text.len(), 1);
-    Ok(())
+    is(&rt, text.len(), 1);
 }

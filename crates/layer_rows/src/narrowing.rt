@@ -1,8 +1,8 @@
 //! Worked cases of narrowing and of kept places.
 ghost use Rattle.std.specs.Prelude.{◌≡◌, ◌≤◌};
 
+use crate::checking::is;
 use narrow_region::{Bounds, Saved, SavedStack};
-use std::test::Fail;
 
 fn bounds(start: usize, end: usize, point: usize) -> Bounds
     requires after { start ≤ point }
@@ -50,29 +50,30 @@ fn text_outside_the_portion_stays_outside(rt: HostRuntime) {
 }
 
 #[test]
-fn the_end_of_a_kept_restriction_advances(rt: HostRuntime) -> Result<(), Fail> {
+fn the_end_of_a_kept_restriction_advances(rt: HostRuntime) {
     let mut kept = SavedStack::new(rt.alloc());
-    kept.push(Saved::Restriction(0, Some((1, 3))))?;
-    kept.push(Saved::Restriction(0, None))?;
-    kept.push(Saved::Restriction(1, Some((1, 3))))?;
-    kept.push(Saved::Excursion(0, 3))?;
-    kept.push(Saved::Change(0, 3, 3))?;
+    kept.push(Saved::Restriction(0, Some((1, 3))))
+        .expect(&rt, "memory");
+    kept.push(Saved::Restriction(0, None)).expect(&rt, "memory");
+    kept.push(Saved::Restriction(1, Some((1, 3))))
+        .expect(&rt, "memory");
+    kept.push(Saved::Excursion(0, 3)).expect(&rt, "memory");
+    kept.push(Saved::Change(0, 3, 3)).expect(&rt, "memory");
     kept.note_insert(0, 3, 2);
     kept.note_insert(0, 1, 1);
 
-    let mut copy = kept.copy()?;
-    assert_eq!(rt; kept.pop(), Some(Saved::Change(0, 4, 4)));
-    assert_eq!(rt; kept.pop(), Some(Saved::Excursion(0, 4)));
-    assert_eq!(rt; kept.pop(), Some(Saved::Restriction(1, Some((1, 3)))));
-    assert_eq!(rt; kept.pop(), Some(Saved::Restriction(0, None)));
-    assert_eq!(rt; kept.pop(), Some(Saved::Restriction(0, Some((1, 6)))));
-    assert_eq!(rt; kept.pop(), None);
+    let mut copy = kept.copy().expect(&rt, "memory");
+    is(&rt, kept.pop(), Some(Saved::Change(0, 4, 4)));
+    is(&rt, kept.pop(), Some(Saved::Excursion(0, 4)));
+    is(&rt, kept.pop(), Some(Saved::Restriction(1, Some((1, 3)))));
+    is(&rt, kept.pop(), Some(Saved::Restriction(0, None)));
+    is(&rt, kept.pop(), Some(Saved::Restriction(0, Some((1, 6)))));
+    is(&rt, kept.pop(), None);
 
     copy.note_delete(0, 2, 5);
-    assert_eq!(rt; copy.pop(), Some(Saved::Change(0, 2, 2)));
-    assert_eq!(rt; copy.pop(), Some(Saved::Excursion(0, 2)));
-    assert_eq!(rt; copy.pop(), Some(Saved::Restriction(1, Some((1, 3)))));
-    assert_eq!(rt; copy.pop(), Some(Saved::Restriction(0, None)));
-    assert_eq!(rt; copy.pop(), Some(Saved::Restriction(0, Some((1, 3)))));
-    Ok(())
+    is(&rt, copy.pop(), Some(Saved::Change(0, 2, 2)));
+    is(&rt, copy.pop(), Some(Saved::Excursion(0, 2)));
+    is(&rt, copy.pop(), Some(Saved::Restriction(1, Some((1, 3)))));
+    is(&rt, copy.pop(), Some(Saved::Restriction(0, None)));
+    is(&rt, copy.pop(), Some(Saved::Restriction(0, Some((1, 3)))));
 }

@@ -1,5 +1,6 @@
 //! Pieces of text with their properties, and their copies.
 
+use crate::checking::{holds, is};
 use ek_types::{Ch, Chars, Mem, Piece, PropSet, PropVal, Sym};
 use std::alloc::Global;
 use std::test::Fail;
@@ -88,53 +89,81 @@ fn has_faces(alloc: Global, piece: &Piece, wanted: &[i64]) -> Mem<bool> {
 }
 
 #[test]
-fn properties_of_the_parts_of_a_piece(rt: HostRuntime) -> Result<(), Fail> {
+fn properties_of_the_parts_of_a_piece(rt: HostRuntime) {
     let alloc = rt.alloc();
-    let mut piece = bare_text(alloc, 8)?;
+    let mut piece = bare_text(alloc, 8).expect(&rt, "memory");
     for part in PARTS.iter() {
-        paint(alloc, &mut piece, part.from, part.to, part.face)?;
-        assert!(rt; has_faces(alloc, &piece, part.faces.as_slice())?);
+        paint(alloc, &mut piece, part.from, part.to, part.face).expect(&rt, "memory");
+        holds(
+            &rt,
+            has_faces(alloc, &piece, part.faces.as_slice()).expect(&rt, "memory"),
+        );
     }
-    Ok(())
 }
 
 #[test]
-fn a_piece_behind_another(rt: HostRuntime) -> Result<(), Fail> {
+fn a_piece_behind_another(rt: HostRuntime) {
     let alloc = rt.alloc();
-    let mut piece = bare_text(alloc, 3)?;
-    paint(alloc, &mut piece, 0, 2, 1)?;
-    let mut more = bare_text(alloc, 2)?;
-    paint(alloc, &mut more, 1, 2, 2)?;
-    piece.append(&more)?;
-    assert_eq!(rt;
-        faces(alloc, &piece)?.as_slice(),
-        [1i64, 1, 0, 0, 2].as_slice()
+    let mut piece = bare_text(alloc, 3).expect(&rt, "memory");
+    paint(alloc, &mut piece, 0, 2, 1).expect(&rt, "memory");
+    let mut more = bare_text(alloc, 2).expect(&rt, "memory");
+    paint(alloc, &mut more, 1, 2, 2).expect(&rt, "memory");
+    piece.append(&more).expect(&rt, "memory");
+    is(
+        &rt,
+        faces(alloc, &piece).expect(&rt, "memory").as_slice(),
+        [1i64, 1, 0, 0, 2].as_slice(),
     );
-    if piece.len() < 5 {
-        return Err(Fail::from("too short"));
-    }
-    assert_eq!(rt; (piece.run_end(0), piece.run_end(4)), (2, 5));
-    assert!(rt; piece.text().same(bare_text(alloc, 5)?.text()));
-    assert!(rt; piece.props(0).same(piece.props(1)));
-    assert!(rt; !piece.props(0).same(piece.props(2)));
-    Ok(())
+    assert!(rt; piece.len() > 4);
+    is(&rt, (piece.run_end(0), piece.run_end(4)), (2, 5));
+    holds(
+        &rt,
+        piece
+            .text()
+            .same(bare_text(alloc, 5).expect(&rt, "memory").text()),
+    );
+    holds(&rt, piece.props(0).same(piece.props(1)));
+    holds(&rt, !piece.props(0).same(piece.props(2)));
 }
 
 #[test]
-fn a_shared_piece_and_its_copies(rt: HostRuntime) -> Result<(), Fail> {
+fn a_run_and_its_copy(rt: HostRuntime) {
     let alloc = rt.alloc();
-    let mut piece = bare_text(alloc, 3)?;
-    paint(alloc, &mut piece, 0, 2, 1)?;
-    let shared = piece.shared(alloc)?;
-    let mut first = shared.copy()?;
-    let mut second = shared.copy()?.shared(alloc)?;
-    first.append(&shared)?;
-    paint(alloc, &mut second, 1, 3, 2)?;
-    assert_eq!(rt; faces(alloc, &shared)?.as_slice(), [1i64, 1, 0].as_slice());
-    assert_eq!(rt;
-        faces(alloc, &first)?.as_slice(),
-        [1i64, 1, 0, 1, 1, 0].as_slice()
+    let mut piece = bare_text(alloc, 3).expect(&rt, "memory");
+    paint(alloc, &mut piece, 0, 3, 1).expect(&rt, "memory");
+    let copy = piece.copy().expect(&rt, "memory");
+    assert!(rt; copy.len() > 0);
+    is(&rt, copy.run_end(0), 3);
+    is(&rt, copy.props(0).len(), 1);
+}
+
+#[test]
+fn a_shared_piece_and_its_copies(rt: HostRuntime) {
+    let alloc = rt.alloc();
+    let mut piece = bare_text(alloc, 3).expect(&rt, "memory");
+    paint(alloc, &mut piece, 0, 2, 1).expect(&rt, "memory");
+    let shared = piece.shared(alloc).expect(&rt, "memory");
+    let mut first = shared.copy().expect(&rt, "memory");
+    let mut second = shared
+        .copy()
+        .expect(&rt, "memory")
+        .shared(alloc)
+        .expect(&rt, "memory");
+    first.append(&shared).expect(&rt, "memory");
+    paint(alloc, &mut second, 1, 3, 2).expect(&rt, "memory");
+    is(
+        &rt,
+        faces(alloc, &shared).expect(&rt, "memory").as_slice(),
+        [1i64, 1, 0].as_slice(),
     );
-    assert_eq!(rt; faces(alloc, &second)?.as_slice(), [1i64, 2, 2].as_slice());
-    Ok(())
+    is(
+        &rt,
+        faces(alloc, &first).expect(&rt, "memory").as_slice(),
+        [1i64, 1, 0, 1, 1, 0].as_slice(),
+    );
+    is(
+        &rt,
+        faces(alloc, &second).expect(&rt, "memory").as_slice(),
+        [1i64, 2, 2].as_slice(),
+    );
 }

@@ -1,10 +1,10 @@
 //! Worked cases of property sets, and the time of many insertions.
 ghost use Rattle.std.specs.Prelude.{◌≡◌, ◌+◌, ◌-◌, ◌<◌, ◌≤◌, ◌^◌, length, IfOk};
 
+use crate::checking::is;
 use ek_types::{Ch, Chars, Mem, Piece, PropSet, PropVal, Sym, SymList};
 use prop_intervals::{PropEdit, Props};
 use std::alloc::Global;
-use std::test::Fail;
 
 const FACE: Sym = Sym(20);
 
@@ -88,97 +88,141 @@ fn just(alloc: Global, name: Sym) -> Mem<SymList> {
 }
 
 #[test]
-fn next_changes_and_a_change_to_what_is_there(rt: HostRuntime) -> Result<(), Fail> {
+fn next_changes_and_a_change_to_what_is_there(rt: HostRuntime) {
     let alloc = rt.alloc();
-    let mut props = with_face(alloc, 4, 1, 3)?;
-    assert_eq!(rt; props.next_change(0, None), Some(1));
-    assert_eq!(rt; props.next_change(1, None), Some(3));
-    assert_eq!(rt; props.next_change(3, None), None);
-    assert_eq!(rt; props.next_change(4, None), None);
-    assert_eq!(rt; props.prev_change(4, None), Some(3));
-    assert_eq!(rt; props.prev_change(3, None), Some(1));
-    assert_eq!(rt; props.prev_change(1, None), None);
-    assert_eq!(rt; props.prev_change(0, None), None);
-    let again = PropEdit::Add(face(alloc, 1)?, SymList::new(alloc));
-    assert_eq!(rt; changed(&mut props, 1, 3, &again)?, false);
-    assert_eq!(rt; changed(&mut props, 1, 4, &again)?, true);
-    assert_eq!(rt;
-        faces(alloc, &props, 4)?.as_slice(),
-        [0i64, 1, 1, 1].as_slice()
+    let mut props = with_face(alloc, 4, 1, 3).expect(&rt, "memory");
+    is(&rt, props.next_change(0, None), Some(1));
+    is(&rt, props.next_change(1, None), Some(3));
+    is(&rt, props.next_change(3, None), None);
+    is(&rt, props.next_change(4, None), None);
+    is(&rt, props.prev_change(4, None), Some(3));
+    is(&rt, props.prev_change(3, None), Some(1));
+    is(&rt, props.prev_change(1, None), None);
+    is(&rt, props.prev_change(0, None), None);
+    let again = PropEdit::Add(face(alloc, 1).expect(&rt, "memory"), SymList::new(alloc));
+    is(
+        &rt,
+        changed(&mut props, 1, 3, &again).expect(&rt, "memory"),
+        false,
     );
-    Ok(())
-}
-
-#[test]
-fn adding_with_nil_takes_away(rt: HostRuntime) -> Result<(), Fail> {
-    let alloc = rt.alloc();
-    let mut props = with_face(alloc, 3, 0, 2)?;
-    let both = face(alloc, 2)?.with(MOUSE_FACE, &PropVal::Truth)?;
-    assert_eq!(rt; changed(&mut props, 1, 3, &PropEdit::Replace(both))?, true);
-    let add = PropEdit::Add(face(alloc, 3)?, just(alloc, MOUSE_FACE)?);
-    assert_eq!(rt; changed(&mut props, 0, 3, &add)?, true);
-    assert_eq!(rt;
-        faces(alloc, &props, 3)?.as_slice(),
-        [3i64, 3, 3].as_slice()
+    is(
+        &rt,
+        changed(&mut props, 1, 4, &again).expect(&rt, "memory"),
+        true,
     );
-    assert_eq!(rt; props.at(1).len(), 1);
-    assert_eq!(rt; props.run_end(0), 3);
-    Ok(())
+    is(
+        &rt,
+        faces(alloc, &props, 4).expect(&rt, "memory").as_slice(),
+        [0i64, 1, 1, 1].as_slice(),
+    );
 }
 
 #[test]
-fn runs_join_after_a_change_back(rt: HostRuntime) -> Result<(), Fail> {
+fn adding_with_nil_takes_away(rt: HostRuntime) {
     let alloc = rt.alloc();
-    let mut props = with_face(alloc, 3, 1, 2)?;
-    assert_eq!(rt; props.run_end(0), 1);
-    assert_eq!(rt; props.run_end(1), 2);
-    let remove = PropEdit::Remove(just(alloc, FACE)?);
-    assert_eq!(rt; changed(&mut props, 1, 2, &remove)?, true);
-    assert_eq!(rt; props.run_end(0), 3);
-    assert_eq!(rt; props.next_change(0, None), None);
-    assert_eq!(rt; changed(&mut props, 0, 3, &remove)?, false);
-    Ok(())
+    let mut props = with_face(alloc, 3, 0, 2).expect(&rt, "memory");
+    let both = face(alloc, 2)
+        .expect(&rt, "memory")
+        .with(MOUSE_FACE, &PropVal::Truth)
+        .expect(&rt, "memory");
+    is(
+        &rt,
+        changed(&mut props, 1, 3, &PropEdit::Replace(both)).expect(&rt, "memory"),
+        true,
+    );
+    let add = PropEdit::Add(
+        face(alloc, 3).expect(&rt, "memory"),
+        just(alloc, MOUSE_FACE).expect(&rt, "memory"),
+    );
+    is(
+        &rt,
+        changed(&mut props, 0, 3, &add).expect(&rt, "memory"),
+        true,
+    );
+    is(
+        &rt,
+        faces(alloc, &props, 3).expect(&rt, "memory").as_slice(),
+        [3i64, 3, 3].as_slice(),
+    );
+    is(&rt, props.at(1).len(), 1);
+    is(&rt, props.run_end(0), 3);
 }
 
 #[test]
-fn changes_of_one_property(rt: HostRuntime) -> Result<(), Fail> {
+fn runs_join_after_a_change_back(rt: HostRuntime) {
     let alloc = rt.alloc();
-    let mut props = with_face(alloc, 4, 0, 3)?;
-    let mouse = PropSet::empty(alloc).with(MOUSE_FACE, &PropVal::Truth)?;
+    let mut props = with_face(alloc, 3, 1, 2).expect(&rt, "memory");
+    is(&rt, props.run_end(0), 1);
+    is(&rt, props.run_end(1), 2);
+    let remove = PropEdit::Remove(just(alloc, FACE).expect(&rt, "memory"));
+    is(
+        &rt,
+        changed(&mut props, 1, 2, &remove).expect(&rt, "memory"),
+        true,
+    );
+    is(&rt, props.run_end(0), 3);
+    is(&rt, props.next_change(0, None), None);
+    is(
+        &rt,
+        changed(&mut props, 0, 3, &remove).expect(&rt, "memory"),
+        false,
+    );
+}
+
+#[test]
+fn changes_of_one_property(rt: HostRuntime) {
+    let alloc = rt.alloc();
+    let mut props = with_face(alloc, 4, 0, 3).expect(&rt, "memory");
+    let mouse = PropSet::empty(alloc)
+        .with(MOUSE_FACE, &PropVal::Truth)
+        .expect(&rt, "memory");
     let add = PropEdit::Add(mouse, SymList::new(alloc));
-    assert_eq!(rt; changed(&mut props, 1, 2, &add)?, true);
-    assert_eq!(rt; props.next_change(0, None), Some(1));
-    assert_eq!(rt; props.next_change(0, Some(FACE)), Some(3));
-    assert_eq!(rt; props.next_change(1, Some(MOUSE_FACE)), Some(2));
-    assert_eq!(rt; props.prev_change(4, Some(FACE)), Some(3));
-    assert_eq!(rt; props.prev_change(4, Some(MOUSE_FACE)), Some(2));
-    assert_eq!(rt; props.prev_change(3, Some(FACE)), None);
-    Ok(())
+    is(
+        &rt,
+        changed(&mut props, 1, 2, &add).expect(&rt, "memory"),
+        true,
+    );
+    is(&rt, props.next_change(0, None), Some(1));
+    is(&rt, props.next_change(0, Some(FACE)), Some(3));
+    is(&rt, props.next_change(1, Some(MOUSE_FACE)), Some(2));
+    is(&rt, props.prev_change(4, Some(FACE)), Some(3));
+    is(&rt, props.prev_change(4, Some(MOUSE_FACE)), Some(2));
+    is(&rt, props.prev_change(3, Some(FACE)), None);
 }
 
 #[test]
-fn a_part_replaced(rt: HostRuntime) -> Result<(), Fail> {
+fn a_part_replaced(rt: HostRuntime) {
     let alloc = rt.alloc();
-    let mut props = with_face(alloc, 6, 2, 4)?;
-    let copy = props.copy()?;
-    let mut text = bare_text(alloc, 2)?;
-    text.put(0, 1, &face(alloc, 2)?)?;
-    let n = replaced(&mut props, 1, 3, &text, 6)?;
-    assert_eq!(rt;
-        faces(alloc, &props, n)?.as_slice(),
-        [0i64, 2, 0, 1, 0, 0].as_slice()
+    let mut props = with_face(alloc, 6, 2, 4).expect(&rt, "memory");
+    let copy = props.copy().expect(&rt, "memory");
+    let mut text = bare_text(alloc, 2).expect(&rt, "memory");
+    text.put(0, 1, &face(alloc, 2).expect(&rt, "memory"))
+        .expect(&rt, "memory");
+    let n = replaced(&mut props, 1, 3, &text, 6).expect(&rt, "memory");
+    is(
+        &rt,
+        faces(alloc, &props, n).expect(&rt, "memory").as_slice(),
+        [0i64, 2, 0, 1, 0, 0].as_slice(),
     );
-    let n = replaced(&mut props, 1, 4, &bare_text(alloc, 0)?, n)?;
-    assert_eq!(rt;
-        faces(alloc, &props, n)?.as_slice(),
-        [0i64, 0, 0].as_slice()
+    let n = replaced(
+        &mut props,
+        1,
+        4,
+        &bare_text(alloc, 0).expect(&rt, "memory"),
+        n,
+    )
+    .expect(&rt, "memory");
+    is(
+        &rt,
+        faces(alloc, &props, n).expect(&rt, "memory").as_slice(),
+        [0i64, 0, 0].as_slice(),
     );
-    assert_eq!(rt; props.run_end(0), 3);
-    assert_eq!(rt;
-        faces(alloc, &copy, 6)?.as_slice(),
-        [0i64, 0, 1, 1, 0, 0].as_slice()
+    is(&rt, props.run_end(0), 3);
+    is(
+        &rt,
+        faces(alloc, &copy, 6).expect(&rt, "memory").as_slice(),
+        [0i64, 0, 1, 1, 0, 0].as_slice(),
     );
-    Ok(())
 }
 
 const RUNS: usize = 131_072;
@@ -209,12 +253,15 @@ fn put_in_front(props: &mut Props, x: &Piece, size: usize) -> Mem<i64>
 }
 
 #[test]
-fn many_insertions_in_front_of_many_runs(rt: HostRuntime) -> Result<(), Fail> {
+fn many_insertions_in_front_of_many_runs(rt: HostRuntime) {
     let alloc = rt.alloc();
-    let mut props = own_faces(alloc)?;
-    let x = bare_text(alloc, 1)?;
+    let mut props = own_faces(alloc).expect(&rt, "memory");
+    let x = bare_text(alloc, 1).expect(&rt, "memory");
     for k in 0..2_000_000usize {
-        assert_eq!(rt; put_in_front(&mut props, &x, RUNS + k)?, 65_537);
+        is(
+            &rt,
+            put_in_front(&mut props, &x, RUNS + k).expect(&rt, "memory"),
+            65_537,
+        );
     }
-    Ok(())
 }

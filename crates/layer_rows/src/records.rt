@@ -1,4 +1,5 @@
 //! Worked cases of records, limits and plans. Where a serial number is expected, it is counted by hand.
+use crate::checking::is;
 use ek_types::{Ch, Chars, Copied, Piece, PropVal, Sym};
 use std::alloc::Global;
 use std::process::Abort;
@@ -83,11 +84,11 @@ fn an_insertion_goes_on_where_the_newest_ended(rt: HostRuntime) {
         rt.alloc(),
         &[Rec::First, Rec::Inserted(0, 2), Rec::Inserted(2, 3)],
     );
-    assert_eq!(rt; inserted(&undo), Some((0, 3)));
-    assert_eq!(rt; serials(&undo), Some((1, 0, 2)));
+    is(&rt, inserted(&undo), Some((0, 3)));
+    is(&rt, serials(&undo), Some((1, 0, 2)));
     put(&rt, &mut undo, Rec::Inserted(0, 1));
-    assert_eq!(rt; inserted(&undo), Some((0, 1)));
-    assert_eq!(rt; serials(&undo), Some((2, 0, 3)));
+    is(&rt, inserted(&undo), Some((0, 1)));
+    is(&rt, serials(&undo), Some((2, 0, 3)));
 }
 
 #[test]
@@ -102,18 +103,18 @@ fn no_insertion_goes_on_across_a_boundary(rt: HostRuntime) {
             Rec::Inserted(1, 2),
         ],
     );
-    assert_eq!(rt; inserted(&undo), Some((1, 2)));
-    assert_eq!(rt; serials(&undo), Some((2, 0, 3)));
+    is(&rt, inserted(&undo), Some((1, 2)));
+    is(&rt, serials(&undo), Some((2, 0, 3)));
 }
 
 #[test]
 fn no_undo_without_a_start(rt: HostRuntime) {
     let mut undo = Undo::new(rt.alloc());
     put(&rt, &mut undo, Rec::Inserted(0, 2));
-    assert_eq!(rt; planned(&rt, &undo, 1, 0, 2), Err(Refused::Nothing));
-    assert_eq!(rt; undo.start(), Ok(()));
+    is(&rt, planned(&rt, &undo, 1, 0, 2), Err(Refused::Nothing));
+    is(&rt, undo.start(), Ok(()));
     undo.drop_pending();
-    assert_eq!(rt; planned(&rt, &undo, 1, 0, 2), Err(Refused::Nothing));
+    is(&rt, planned(&rt, &undo, 1, 0, 2), Err(Refused::Nothing));
 }
 
 #[test]
@@ -122,12 +123,12 @@ fn nothing_is_recorded_where_recording_is_off(rt: HostRuntime) {
     undo.disable();
     put(&rt, &mut undo, Rec::Inserted(0, 2));
     put(&rt, &mut undo, Rec::Boundary);
-    assert_eq!(rt; serials(&undo), None);
-    assert_eq!(rt; undo.start(), Err(Refused::Disabled));
-    assert_eq!(rt; planned(&rt, &undo, 1, 0, 2), Err(Refused::Disabled));
+    is(&rt, serials(&undo), None);
+    is(&rt, undo.start(), Err(Refused::Disabled));
+    is(&rt, planned(&rt, &undo, 1, 0, 2), Err(Refused::Disabled));
     undo.enable();
     put(&rt, &mut undo, Rec::Inserted(0, 2));
-    assert_eq!(rt; serials(&undo), Some((1, 1, 1)));
+    is(&rt, serials(&undo), Some((1, 1, 1)));
 }
 
 #[test]
@@ -143,14 +144,14 @@ fn an_empty_group_passes_its_boundary_alone(rt: HostRuntime) {
             Rec::Boundary,
         ],
     );
-    assert_eq!(rt; planned(&rt, &undo, 1, 0, 3), Ok((4, 4, 0)));
-    assert_eq!(rt; passed(&rt, &mut undo), Ok(0));
-    assert_eq!(rt; planned(&rt, &undo, 1, 0, 3), Ok((3, 2, 1)));
-    assert_eq!(rt; passed(&rt, &mut undo), Ok(1));
+    is(&rt, planned(&rt, &undo, 1, 0, 3), Ok((4, 4, 0)));
+    is(&rt, passed(&rt, &mut undo), Ok(0));
+    is(&rt, planned(&rt, &undo, 1, 0, 3), Ok((3, 2, 1)));
+    is(&rt, passed(&rt, &mut undo), Ok(1));
     put(&rt, &mut undo, Rec::Point(2));
-    assert_eq!(rt; planned(&rt, &undo, 9, 0, 2), Ok((1, 0, 2)));
-    assert_eq!(rt; passed(&rt, &mut undo), Ok(2));
-    assert_eq!(rt; passed(&rt, &mut undo), Err(Refused::Nothing));
+    is(&rt, planned(&rt, &undo, 9, 0, 2), Ok((1, 0, 2)));
+    is(&rt, passed(&rt, &mut undo), Ok(2));
+    is(&rt, passed(&rt, &mut undo), Err(Refused::Nothing));
 }
 
 #[test]
@@ -169,20 +170,20 @@ fn the_text_of_a_deletion_comes_back_in_a_trial(rt: HostRuntime) {
     );
     put_deletion(&rt, rt.alloc(), &mut undo, 2, 1);
     put(&rt, &mut undo, Rec::Boundary);
-    assert_eq!(rt; undo.start(), Ok(()));
-    assert_eq!(rt; planned(&rt, &undo, 2, 0, 4), Ok((6, 2, 3)));
-    assert_eq!(rt; planned(&rt, &undo, 2, 0, 3), Err(Refused::Outside(3)));
-    assert_eq!(rt; planned(&rt, &undo, 2, 1, 4), Err(Refused::Outside(4)));
-    assert_eq!(rt; planned(&rt, &undo, 2, 2, 4), Err(Refused::Outside(5)));
-    assert_eq!(rt; planned(&rt, &undo, 2, 0, usize::MAX), Ok((6, 2, 3)));
+    is(&rt, undo.start(), Ok(()));
+    is(&rt, planned(&rt, &undo, 2, 0, 4), Ok((6, 2, 3)));
+    is(&rt, planned(&rt, &undo, 2, 0, 3), Err(Refused::Outside(3)));
+    is(&rt, planned(&rt, &undo, 2, 1, 4), Err(Refused::Outside(4)));
+    is(&rt, planned(&rt, &undo, 2, 2, 4), Err(Refused::Outside(5)));
+    is(&rt, planned(&rt, &undo, 2, 0, usize::MAX), Ok((6, 2, 3)));
 }
 
 #[test]
 fn undo_outside_the_bounds(rt: HostRuntime) {
     let undo = started(&rt, rt.alloc(), &[Rec::First, Rec::Inserted(0, 4)]);
-    assert_eq!(rt; planned(&rt, &undo, 1, 0, 1), Err(Refused::Outside(1)));
+    is(&rt, planned(&rt, &undo, 1, 0, 1), Err(Refused::Outside(1)));
     let undo = started(&rt, rt.alloc(), &[Rec::Point(5), Rec::Moved(0, -1)]);
-    assert_eq!(rt; planned(&rt, &undo, 1, 0, 4), Err(Refused::Outside(0)));
+    is(&rt, planned(&rt, &undo, 1, 0, 4), Err(Refused::Outside(0)));
 }
 
 #[test]
@@ -197,8 +198,8 @@ fn a_copy_is_another_list(rt: HostRuntime) {
     );
     let copy = undo.copy().expect(&rt, "a copy");
     undo.disable();
-    assert_eq!(rt; inserted(&copy), Some((0, 2)));
-    assert_eq!(rt; planned(&rt, &copy, 1, 0, 2), Err(Refused::Outside(0)));
+    is(&rt, inserted(&copy), Some((0, 2)));
+    is(&rt, planned(&rt, &copy, 1, 0, 2), Err(Refused::Outside(0)));
 }
 
 /// So many records in one group, each point at its number.
@@ -214,11 +215,11 @@ fn long_group(rt: &impl Abort, alloc: Global, n: usize) -> Undo {
 #[test]
 fn one_record_past_the_limit_empties_a_single_group(rt: HostRuntime) {
     let mut undo = long_group(&rt, rt.alloc(), 65_536);
-    assert_eq!(rt; serials(&undo), Some((65_535, 0, 65_536)));
+    is(&rt, serials(&undo), Some((65_535, 0, 65_536)));
     put(&rt, &mut undo, Rec::Point(0));
-    assert_eq!(rt; serials(&undo), None);
+    is(&rt, serials(&undo), None);
     put(&rt, &mut undo, Rec::Point(0));
-    assert_eq!(rt; serials(&undo), Some((65_537, 65_537, 1)));
+    is(&rt, serials(&undo), Some((65_537, 65_537, 1)));
 }
 
 #[test]
@@ -227,10 +228,14 @@ fn the_oldest_group_goes_with_the_boundary_next_to_it(rt: HostRuntime) {
     for place in 3..65_536 {
         put(&rt, &mut undo, Rec::Point(place));
     }
-    assert_eq!(rt; serials(&undo), Some((65_535, 0, 65_536)));
+    is(&rt, serials(&undo), Some((65_535, 0, 65_536)));
     put(&rt, &mut undo, Rec::Point(0));
-    assert_eq!(rt; serials(&undo), Some((65_536, 3, 65_534)));
-    assert_eq!(rt; planned(&rt, &undo, 1, 0, 65_536), Err(Refused::Nothing));
+    is(&rt, serials(&undo), Some((65_536, 3, 65_534)));
+    is(
+        &rt,
+        planned(&rt, &undo, 1, 0, 65_536),
+        Err(Refused::Nothing),
+    );
 }
 
 #[test]
@@ -239,9 +244,9 @@ fn deleted_characters_are_limited(rt: HostRuntime) {
     put_deletion(&rt, rt.alloc(), &mut undo, 1_048_575, 0);
     put(&rt, &mut undo, Rec::Boundary);
     put_deletion(&rt, rt.alloc(), &mut undo, 1, 0);
-    assert_eq!(rt; serials(&undo), Some((2, 0, 3)));
+    is(&rt, serials(&undo), Some((2, 0, 3)));
     put_deletion(&rt, rt.alloc(), &mut undo, 1, 0);
-    assert_eq!(rt; serials(&undo), Some((3, 2, 2)));
+    is(&rt, serials(&undo), Some((3, 2, 2)));
     put_deletion(&rt, rt.alloc(), &mut undo, 1_048_575, 0);
-    assert_eq!(rt; serials(&undo), None);
+    is(&rt, serials(&undo), None);
 }

@@ -1,5 +1,6 @@
 //! Symbols and their numbers.
 
+use crate::checking::is;
 use ek_types::{Sym, Symbols};
 use std::test::Fail;
 
@@ -18,25 +19,28 @@ fn number(symbols: &mut Symbols, name: &str) -> Result<u32, Fail> {
 // The names of `(defhandler h (b e) (delete-region 1 2)) (add-hook 'before-change-functions 'h) (setq m (copy-marker 2))`,
 // the words for calls left out.
 #[test]
-fn numbers_for_the_names_of_a_script(rt: HostRuntime) -> Result<(), Fail> {
-    let mut symbols = Symbols::new(rt.alloc())?;
-    assert_eq!(rt; symbols.count(), 14);
-    assert_eq!(rt; number(&mut symbols, "h")?, 14);
-    assert_eq!(rt; number(&mut symbols, "b")?, 15);
-    assert_eq!(rt; number(&mut symbols, "e")?, 16);
-    assert_eq!(rt; number(&mut symbols, "before-change-functions")?, 4);
-    assert_eq!(rt; number(&mut symbols, "h")?, 14);
-    assert_eq!(rt; number(&mut symbols, "m")?, 17);
-    let copy = symbols.copy()?;
-    assert_eq!(rt; copy.count(), 18);
-    assert_eq!(rt; copy.find("e"), Some(Sym(16)));
-    assert_eq!(rt; copy.find("insert"), None);
-    Ok(())
+fn numbers_for_the_names_of_a_script(rt: HostRuntime) {
+    let mut symbols = Symbols::new(rt.alloc()).expect(&rt, "memory");
+    is(&rt, symbols.count(), 14);
+    is(&rt, number(&mut symbols, "h").expect(&rt, "memory"), 14);
+    is(&rt, number(&mut symbols, "b").expect(&rt, "memory"), 15);
+    is(&rt, number(&mut symbols, "e").expect(&rt, "memory"), 16);
+    is(
+        &rt,
+        number(&mut symbols, "before-change-functions").expect(&rt, "memory"),
+        4,
+    );
+    is(&rt, number(&mut symbols, "h").expect(&rt, "memory"), 14);
+    is(&rt, number(&mut symbols, "m").expect(&rt, "memory"), 17);
+    let copy = symbols.copy().expect(&rt, "memory");
+    is(&rt, copy.count(), 18);
+    is(&rt, copy.find("e"), Some(Sym(16)));
+    is(&rt, copy.find("insert"), None);
 }
 
 #[test]
-fn the_names_that_have_a_number_in_every_script(rt: HostRuntime) -> Result<(), Fail> {
-    let symbols = Symbols::new(rt.alloc())?;
+fn the_names_that_have_a_number_in_every_script(rt: HostRuntime) {
+    let symbols = Symbols::new(rt.alloc()).expect(&rt, "memory");
     let names = [
         "front-sticky",
         "rear-nonsticky",
@@ -54,7 +58,6 @@ fn the_names_that_have_a_number_in_every_script(rt: HostRuntime) -> Result<(), F
         "after-string",
     ];
     for (i, name) in names.iter().enumerate() {
-        assert_eq!(rt; symbols.find(name), Some(Sym(i as u32)));
+        is(&rt, symbols.find(name), Some(Sym(i as u32)));
     }
-    Ok(())
 }

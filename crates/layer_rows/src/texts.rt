@@ -2,6 +2,7 @@
 ghost use Rattle.std.specs.Prelude.{◌≡◌, length, IfOk};
 ghost use Rattle.gap_text.specs.Text.{LiesIn, characters};
 
+use crate::checking::{holds, is};
 use ek_types::{Ch, Chars, Mem};
 use gap_text::Text;
 use std::alloc::Global;
@@ -121,10 +122,10 @@ fn an_empty_text_gets_whole_blocks(rt: HostRuntime) {
     let mut pool = Pool::new(rt.alloc());
     let mut text = Text::new(rt.alloc());
     text.reserve(&mut pool, 300).expect(&rt, "room");
-    assert_eq!(rt; text.len(), 0);
-    assert!(rt; text.spare() >= 300);
-    assert_eq!(rt; text.spare() % 256, 0);
-    assert_eq!(rt; text.spare() / 256, pool.live());
+    is(&rt, text.len(), 0);
+    holds(&rt, text.spare() >= 300);
+    is(&rt, text.spare() % 256, 0);
+    is(&rt, text.spare() / 256, pool.live());
     text.release(&mut pool);
 }
 
@@ -151,10 +152,10 @@ fn a_copy_has_blocks_of_its_own(rt: HostRuntime) {
     let mut text = Text::new(rt.alloc());
     text.reserve(&mut pool, 300).expect(&rt, "room");
     text.insert(&mut pool, 0, &letters);
-    assert!(rt; empties_a_copy(&rt, &mut pool, &text));
-    assert_eq!(rt; pool.live(), 2);
+    holds(&rt, empties_a_copy(&rt, &mut pool, &text));
+    is(&rt, pool.live(), 2);
     assert_eq!(rt; text.len(), 300);
-    assert_eq!(rt; text.at(&pool, 299), letters.at(299));
+    is(&rt, text.at(&pool, 299), letters.at(299));
     text.release(&mut pool);
 }
 
@@ -172,10 +173,10 @@ fn refused_memory_leaves_the_text(rt: HostRuntime) {
     }
     text.insert(&mut pool, 0, &letters);
     let refused = text.reserve(&mut pool, 100_000).is_err();
-    assert_eq!(rt; refused, text.spare() < 100_000);
+    is(&rt, refused, text.spare() < 100_000);
     let _copied = empties_a_copy(&rt, &mut pool, &text);
     assert_eq!(rt; text.len(), 300);
-    assert_eq!(rt; text.at(&pool, 299), letters.at(299));
+    is(&rt, text.at(&pool, 299), letters.at(299));
     text.release(&mut pool);
-    assert_eq!(rt; pool.live(), 0);
+    is(&rt, pool.live(), 0);
 }

@@ -3,6 +3,7 @@ ghost use Rattle.std.specs.Prelude.{◌≡◌, ◌<◌, ◌≤◌, [], length};
 ghost use Rattle.handler_run.specs.Answers.{IsRead};
 
 use super::processes::one;
+use crate::checking::{holds, is};
 use ek_call::{Value, Values};
 use ek_types::{Ch, Sym};
 use handler_run::{Entry, ended, enter, ready};
@@ -96,7 +97,10 @@ fn the_filter_set_now_hears_a_character_cut_in_two(rt: HostRuntime) {
     let entry = read(&rt, alloc, &mut table, Got::Bytes(3), b"a\xE2\x82");
     is_filter(&rt, &entry, None, &[Ch::Scalar('a')]);
     table.set_filter(0, Filter::Named(Sym(30)));
-    assert!(rt; is_none(&read(&rt, alloc, &mut table, Got::Nothing, &[])));
+    holds(
+        &rt,
+        is_none(&read(&rt, alloc, &mut table, Got::Nothing, &[])),
+    );
     let entry = read(&rt, alloc, &mut table, Got::Bytes(1), b"\xAC");
     is_filter(&rt, &entry, Some(Sym(30)), &[Ch::Scalar('€')]);
 }
@@ -141,6 +145,6 @@ fn ends_of_all_kinds(rt: HostRuntime) {
     is_told(&rt, alloc, Ended::Signal, b"killed\n", Status::Signal);
     is_told(&rt, alloc, Ended::Failed, b"failed\n", Status::Failed);
     let mut table = one(&rt, alloc);
-    assert!(rt; is_none(&end(&rt, alloc, &mut table, Ended::Running)));
-    assert_eq!(rt; table.get(0).status(), Status::Run);
+    holds(&rt, is_none(&end(&rt, alloc, &mut table, Ended::Running)));
+    is(&rt, table.get(0).status(), Status::Run);
 }

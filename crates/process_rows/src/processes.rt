@@ -1,6 +1,7 @@
 //! What runs: names after an unlisting, a character cut in two, arguments, and what each call changes.
 ghost use Rattle.std.specs.Prelude.{◌≡◌, ◌+◌, ◌<◌, length};
 
+use crate::checking::{holds, is};
 use ek_call::{Fault, Value};
 use ek_types::{Ch, Chars, Piece, Sym};
 use process_table::{Filter, Processes, Status};
@@ -56,7 +57,7 @@ fn names_after_an_unlisting(rt: HostRuntime) {
     table.unlist(first);
     start(&rt, alloc, &mut table, b"p", b"p");
     start(&rt, alloc, &mut table, b"p", b"p<3>");
-    assert_eq!(rt; table.count(), 8);
+    is(&rt, table.count(), 8);
 }
 
 /// A process by itself, which isn't drained.
@@ -85,13 +86,13 @@ fn a_character_cut_in_two(rt: HostRuntime) {
     let mut table = one(&rt, rt.alloc());
     let mut out = Chars::new(rt.alloc());
     feed(&rt, &mut table, b"a\xE2\x82", &mut out);
-    assert_eq!(rt; out.len(), 1);
-    assert_eq!(rt; table.get(0).held(), b"\xE2\x82".as_slice());
+    is(&rt, out.len(), 1);
+    is(&rt, table.get(0).held(), b"\xE2\x82".as_slice());
     feed(&rt, &mut table, b"\xAC", &mut out);
     assert_eq!(rt; out.len(), 2);
-    assert_eq!(rt; out.at(0), Ch::Scalar('a'));
-    assert_eq!(rt; out.at(1), Ch::Scalar('€'));
-    assert!(rt; table.get(0).held().is_empty());
+    is(&rt, out.at(0), Ch::Scalar('a'));
+    is(&rt, out.at(1), Ch::Scalar('€'));
+    holds(&rt, table.get(0).held().is_empty());
 }
 
 #[test]
@@ -106,13 +107,13 @@ fn what_is_held_at_the_end_of_output(rt: HostRuntime) {
     out.reserve(held).expect(&rt, "room");
     table.drain(0, &mut out);
     assert_eq!(rt; out.len(), 3);
-    assert_eq!(rt; out.at(0), Ch::Raw(0xF0));
-    assert_eq!(rt; out.at(1), Ch::Raw(0x9F));
-    assert_eq!(rt; out.at(2), Ch::Raw(0x98));
+    is(&rt, out.at(0), Ch::Raw(0xF0));
+    is(&rt, out.at(1), Ch::Raw(0x9F));
+    is(&rt, out.at(2), Ch::Raw(0x98));
     assert!(rt; table.get(0).drained());
     assert!(rt; table.get(0).held().is_empty());
     table.drain(0, &mut out);
-    assert_eq!(rt; out.len(), 3);
+    is(&rt, out.len(), 3);
 }
 
 /// What a string gives as an argument of a call.
@@ -134,34 +135,45 @@ fn arguments_that_give_a_process(rt: HostRuntime) {
     let mut table = Processes::new(alloc);
     let first = start(&rt, alloc, &mut table, b"p", b"p");
     let second = start(&rt, alloc, &mut table, b"p", b"p<1>");
-    assert_eq!(rt; by_name(&rt, alloc, &table, b"p"), Ok(0));
-    assert_eq!(rt; by_name(&rt, alloc, &table, b"p<1>"), Ok(1));
-    assert_eq!(rt;
+    is(&rt, by_name(&rt, alloc, &table, b"p"), Ok(0));
+    is(&rt, by_name(&rt, alloc, &table, b"p<1>"), Ok(1));
+    is(
+        &rt,
         by_name(&rt, alloc, &table, b"p<"),
-        Err(Fault::NoSuchProcess)
+        Err(Fault::NoSuchProcess),
     );
-    assert_eq!(rt;
+    is(
+        &rt,
         by_name(&rt, alloc, &table, b"P"),
-        Err(Fault::NoSuchProcess)
+        Err(Fault::NoSuchProcess),
     );
-    assert_eq!(rt; by_name(&rt, alloc, &table, b""), Err(Fault::NoSuchProcess));
+    is(
+        &rt,
+        by_name(&rt, alloc, &table, b""),
+        Err(Fault::NoSuchProcess),
+    );
     table.unlist(second);
-    assert_eq!(rt;
+    is(
+        &rt,
         by_name(&rt, alloc, &table, b"p<1>"),
-        Err(Fault::NoSuchProcess)
+        Err(Fault::NoSuchProcess),
     );
-    assert_eq!(rt; by_number(&table, second), Ok(1));
-    assert_eq!(rt; by_number(&table, first), Ok(0));
+    is(&rt, by_number(&table, second), Ok(1));
+    is(&rt, by_number(&table, first), Ok(0));
 }
 
 #[test]
 fn arguments_of_a_wrong_type(rt: HostRuntime) {
     let table = Processes::new(rt.alloc());
-    assert_eq!(rt; table.resolve(&Value::Nil), Err(Fault::WrongType));
-    assert_eq!(rt; table.resolve(&Value::T), Err(Fault::WrongType));
-    assert_eq!(rt; table.resolve(&Value::Int(0)), Err(Fault::WrongType));
-    assert_eq!(rt; table.resolve(&Value::Sym(Sym(0))), Err(Fault::WrongType));
-    assert_eq!(rt; table.resolve(&Value::Buffer(0)), Err(Fault::WrongType));
+    is(&rt, table.resolve(&Value::Nil), Err(Fault::WrongType));
+    is(&rt, table.resolve(&Value::T), Err(Fault::WrongType));
+    is(&rt, table.resolve(&Value::Int(0)), Err(Fault::WrongType));
+    is(
+        &rt,
+        table.resolve(&Value::Sym(Sym(0))),
+        Err(Fault::WrongType),
+    );
+    is(&rt, table.resolve(&Value::Buffer(0)), Err(Fault::WrongType));
 }
 
 /// The process is as it was started.
@@ -196,16 +208,16 @@ fn one_process_is_changed_and_no_other(rt: HostRuntime) {
     is_new(&rt, &table, first);
     is_new(&rt, &table, third);
     let process = table.get(second);
-    assert_eq!(rt; process.filter(), Filter::Named(Sym(20)));
-    assert_eq!(rt; process.sentinel(), Some(Sym(21)));
-    assert_eq!(rt; process.buffer(), None);
-    assert!(rt; process.closed());
-    assert_eq!(rt; process.status(), Status::Exit(-1));
-    assert_eq!(rt; process.mark(), 7);
-    assert!(rt; process.listed());
+    is(&rt, process.filter(), Filter::Named(Sym(20)));
+    is(&rt, process.sentinel(), Some(Sym(21)));
+    is(&rt, process.buffer(), None);
+    holds(&rt, process.closed());
+    is(&rt, process.status(), Status::Exit(-1));
+    is(&rt, process.mark(), 7);
+    holds(&rt, process.listed());
     table.set_filter(second, Filter::Off);
     table.note_end(second, Status::Signal);
-    assert_eq!(rt; table.get(second).filter(), Filter::Off);
-    assert_eq!(rt; table.get(second).status(), Status::Signal);
+    is(&rt, table.get(second).filter(), Filter::Off);
+    is(&rt, table.get(second).status(), Status::Signal);
     is_new(&rt, &table, first);
 }
