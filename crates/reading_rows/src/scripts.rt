@@ -305,7 +305,7 @@ fn line(rt: &impl Abort, alloc: Global, bytes: &[u8]) -> Option<u32> {
 }
 
 fn is_told(rt: &impl Abort, alloc: Global, bytes: &[u8], fault: Option<u32>) {
-    assert_eq!(rt; line(rt, alloc, bytes), fault);
+    assert_eq!(rt; line(rt, alloc, bytes), fault, "{} bytes", bytes.len());
 }
 
 #[test]

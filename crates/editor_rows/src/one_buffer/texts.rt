@@ -159,11 +159,14 @@ fn changes_on_both_sides_of_the_gap(rt: HostRuntime) {
     is(&rt, scene.release(), 0);
 }
 
+/// The start and the end of the accessible portion, and point.
+type Places = (usize, usize, usize);
+
 /// A change of six characters, of which those from place 2 to 4 are accessible with point at 3, and what that leaves: the
 /// start and the end of the accessible portion, and point.
 struct Narrowed {
     change: Change,
-    bounds: (usize, usize, usize),
+    bounds: Places,
 }
 
 const NARROWED: [Narrowed; 14] = [
@@ -281,13 +284,19 @@ const NARROWED: [Narrowed; 14] = [
     },
 ];
 
+/// Compares the bounds behind a change with those that are expected.
+fn stands_at(rt: &impl Abort, change: &Change, found: Places, expected: Places) {
+    let Change { from, to, text } = change;
+    assert_eq!(rt; found, expected, "{from} to {to} {text}");
+}
+
 fn check_narrowed(rt: &impl Abort, alloc: Global, row: &Narrowed) {
     let mut scene = Scene::new(alloc);
     scene.insert(rt, 0, "abcdef");
     scene.narrow(rt, 2, 4);
     scene.go(3);
     change(rt, &mut scene, &row.change);
-    is(rt, scene.bounds(), row.bounds);
+    stands_at(rt, &row.change, scene.bounds(), row.bounds);
     scene.release();
 }
 
