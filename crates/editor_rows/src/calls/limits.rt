@@ -9,7 +9,6 @@ use editor_prims::prepare;
 use ek_call::Prim::*;
 use ek_call::{Fault, Prim, Reply, Value, Values};
 use ek_types::Piece;
-use std::alloc::Global;
 use std::process::Abort;
 
 /// The longest string that is made from a buffer.
