@@ -1,0 +1,4 @@
+pub mod Handlers
+pub mod Script
+pub mod Replies
+pub mod Forms
