@@ -1,11 +1,11 @@
 -- The two natives of a session, each a list of calls: its filter puts the text of a child at the end of the session's
 -- buffer; its sentinel closes the last line there, and starts the child again.
-use Rattle.std.specs.Prelude.{ℕ, zero, suc, ℤ, pos, ◌-ℤ◌, Bool, true, false, ◌&&◌, not, nat_lt, List, [], ◌∷◌, ◌++◌, map, codes, if◌then◌else◌, Option, Some, None}
+use Rattle.std.specs.Prelude.{ℕ, zero, suc, ℤ, pos, ◌-ℤ◌, Bool, false, ◌&&◌, not, nat_lt, List, [], ◌∷◌, ◌++◌, map, codes, if◌then◌else◌, Option, Some, None}
 use Rattle.std.specs.Ordering.{int_eq}
 use Rattle.text_model.specs.Characters.{Scalar}
 use Rattle.editor_model.specs.Values.{Value, Nil, T, Int, TheProcess, equal, plain, Reply, Answered, Refused, SetBuffer, PointMax, GotoChar, CharAfter, Insert, StartProcess, ProcessBuffer, ProcessFilter, ProcessSentinel, SetProcessFilter, SetProcessSentinel}
 use Rattle.editor_model.specs.Arguments.{arg}
-use Rattle.plain_machine.specs.Shipped.{NativeCall, Line, line, Anything, along, is_i64}
+use Rattle.plain_machine.specs.Shipped.{NativeCall, line, Anything, along, is_i64}
 
 abbrev pub ascii : List ℕ → Value
 ascii bytes = plain (map Scalar bytes)

@@ -38,5 +38,8 @@ waiting_forms waits command =
     Do (call SetProcessSentinel (Name p ∷ Const (Sym sentinel_name) ∷ [])) ∷
     replicate waits wait_form
 
+abbrev pub script_with : (waits : ℕ) → (command : List Value) → Script
+script_with waits command = record { symbols = session_symbols; handlers = []; forms = in_order (waiting_forms waits command) }
+
 abbrev pub session_script : (command : List Value) → Script
-session_script command = record { symbols = session_symbols; handlers = []; forms = in_order (waiting_forms 65536 command) }
+session_script command = script_with 65536 command

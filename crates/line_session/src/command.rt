@@ -1,5 +1,6 @@
 //! The words of a session's child.
 ghost use Rattle.std.specs.Prelude.{◌≡◌, map, string_bytes, IfOk};
+ghost use Rattle.text_model.specs.Decoding.{all_characters};
 ghost use Rattle.ek_call.specs.Meaning.{view};
 ghost use Rattle.line_session.specs.Script.{word_value, command_of};
 ghost use Rattle.line_session.specs.Replies.{values_of};
@@ -10,18 +11,24 @@ use ek_types::{Chars, ListOf, Mem, Piece};
 use std::alloc::Global;
 use utf8_stream::Decoder;
 
+/// The characters of a word.
+fn decoded(alloc: Global, word: &[u8]) -> Mem<Chars>
+    ensures { IfOk result (λ text. text.items ≡ all_characters word.now) }
+{
+    let mut text = Chars::new(alloc);
+    let mut decoder = Decoder::new();
+    text.reserve(word.len())?;
+    decoder.feed(word, &mut text);
+    text.reserve(decoder.held().len())?;
+    decoder.finish(&mut text);
+    Ok(text)
+}
+
 /// A word as a string.
-#[tactic(auto, using(text_model::proofs::Decodings::all_law))]
 fn word_value(alloc: Global, word: &str) -> Mem<Value>
     ensures { IfOk result (λ v. view v ≡ word_value word.now) }
 {
-    let bytes = word.as_bytes();
-    let mut text = Chars::new(alloc);
-    let mut decoder = Decoder::new();
-    text.reserve(bytes.len())?;
-    decoder.feed(bytes, &mut text);
-    text.reserve(decoder.held().len())?;
-    decoder.finish(&mut text);
+    let text = decoded(alloc, word.as_bytes())?;
     Ok(Value::Str(Piece::plain(alloc, text)))
 }
 

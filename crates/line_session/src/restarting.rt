@@ -2,7 +2,7 @@
 ghost use Rattle.std.specs.Prelude.{◌≡◌, ◌∷◌, [], Some, unwrap_or, IfOk};
 ghost use Rattle.std.specs.Option.{option_map};
 ghost use Rattle.editor_model.specs.Arguments.{arg};
-ghost use Rattle.editor_model.specs.Values.{Nil, StartProcess};
+ghost use Rattle.editor_model.specs.Values.{Nil, Str, StartProcess};
 ghost use Rattle.ek_call.specs.Meaning.{view};
 ghost use Rattle.ek_call.specs.Primitives.{prim_of};
 ghost use Rattle.handler_code.specs.Calls.{asked_of};
@@ -13,7 +13,7 @@ ghost use Rattle.line_session.specs.Replies.{values_of, replies_of, answers_of, 
 use crate::asking::{ask_with, ask_with_two, copied};
 use crate::replies::{answer, are_answers};
 use ek_call::{Primitive, Reply, Value, Values, argument};
-use ek_types::{Chars, Copied, Mem};
+use ek_types::{Chars, Copied, Mem, Piece};
 use handler_code::{NativeCall, Next};
 use std::alloc::Global;
 
@@ -41,12 +41,16 @@ fn is_finished(alloc: Global, told: Option<&Value>) -> Mem<bool>
     ensures { IfOk result (λ is. is ≡
         handlers.is_finished (unwrap_or (option_map (λ v. view v.now) told.entry) Nil)) }
 {
-    let Some(told) = told else {
-        return Ok(false);
-    };
-    let Value::Str(text) = told else {
-        return Ok(false);
-    };
+    match told {
+        Some(Value::Str(text)) => says_finished(alloc, text),
+        _ => Ok(false),
+    }
+}
+
+/// Whether a text is what is told of an end with code 0.
+fn says_finished(alloc: Global, text: &Piece) -> Mem<bool>
+    ensures { IfOk result (λ is. is ≡ handlers.is_finished (Str text.now)) }
+{
     let mut finished = Chars::new(alloc);
     finished.extend_bytes(b"finished\n")?;
     Ok(text.text().same(&finished))

@@ -45,7 +45,10 @@ fn look_back(args: &Values, past: &[Reply]) -> Mem<Next>
     if past.len() < 4 {
         return to_the_end(args, past);
     }
-    if past.len() > 4 || !are_answers(past) {
+    if past.len() > 4 {
+        return Ok(Next::Done);
+    }
+    if !are_answers(past) {
         return Ok(Next::Done);
     }
     ask_with(
