@@ -49,12 +49,7 @@ pub(crate) fn ask_with(alloc: Global, prim: Primitive, value: Value) -> Mem<Next
 }
 
 /// A call with two arguments.
-pub(crate) fn ask_with_two(
-    alloc: Global,
-    prim: Primitive,
-    first: Value,
-    second: Value,
-) -> Mem<Next>
+pub(crate) fn ask_with_two(alloc: Global, prim: Primitive, first: Value, second: Value) -> Mem<Next>
     ensures { IfOk result (λ next. asked_of next ≡
         Some (prim_of prim, view first ∷ view second ∷ [])) }
 {

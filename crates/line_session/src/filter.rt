@@ -29,7 +29,11 @@ fn insert(args: &Values, past: &[Reply]) -> Mem<Next>
         put_or_stop (process_of args.now) (told_of args.now) (λ left. None) (replies_of past.now)) }
 {
     match past {
-        [] => ask_with(args.allocator(), Primitive::Insert, copied(argument(args, 1))?),
+        [] => ask_with(
+            args.allocator(),
+            Primitive::Insert,
+            copied(argument(args, 1))?,
+        ),
         [inserted, left @ ..] => {
             if is_answer(inserted) {
                 Ok(Next::Done)

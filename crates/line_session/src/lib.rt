@@ -10,5 +10,7 @@ mod restarting;
 mod script;
 mod sentinel;
 mod session;
+#[cfg(test)]
+mod tests;
 
 pub use session::LineSession;

@@ -18,12 +18,7 @@ use handler_code::{NativeCall, Next};
 use std::alloc::Global;
 
 /// The child is started again unless it ended with code 0, or was restarted as often as it may be.
-pub(crate) fn restart(
-    limit: u32,
-    command: &Values,
-    args: &Values,
-    past: &[Reply],
-) -> Mem<Next>
+pub(crate) fn restart(limit: u32, command: &Values, args: &Values, past: &[Reply]) -> Mem<Next>
     ensures { IfOk result (λ next. asked_of next ≡ handlers.restart limit (values_of command.now)
         (process_of args.now) (told_of args.now) (replies_of past.now)) }
 {
@@ -74,7 +69,7 @@ fn has_restarts(limit: u32, process: Option<&Value>) -> bool
 fn start_again(command: &Values, args: &Values, past: &[Reply]) -> Mem<Next>
     ensures { IfOk result (λ next. asked_of next ≡
         in_turn (handlers.start_again (values_of command.now) (process_of args.now))
-            (replies_of past.now) nothing) }
+        (replies_of past.now) nothing) }
 {
     if !are_answers(past) {
         return Ok(Next::Done);
@@ -82,7 +77,11 @@ fn start_again(command: &Values, args: &Values, past: &[Reply]) -> Mem<Next>
     let alloc = args.allocator();
     match past.len() {
         0 => ask_with(alloc, Primitive::ProcessFilter, copied(argument(args, 0))?),
-        1 => ask_with(alloc, Primitive::ProcessSentinel, copied(argument(args, 0))?),
+        1 => ask_with(
+            alloc,
+            Primitive::ProcessSentinel,
+            copied(argument(args, 0))?,
+        ),
         2 => start(command),
         3 => hand_over(alloc, Primitive::SetProcessFilter, past, 0),
         4 => hand_over(alloc, Primitive::SetProcessSentinel, past, 1),
