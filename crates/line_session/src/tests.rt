@@ -314,7 +314,8 @@ fn a_word_is_decoded(rt: HostRuntime) -> Result<(), Fail> {
     let alloc = rt.alloc();
     let session = LineSession::new(alloc, 0, "é€😀", &[])?;
     let script = session.script()?;
-    let call = call_of(script.forms.at(0)).ok_or("no call")?;
+    let start = script.forms.as_slice().first().ok_or("no form")?;
+    let call = call_of(start).ok_or("no call")?;
     assert_eq!(rt; call.args.len(), 3);
     let Arg::Const(program) = call.args.at(2) else {
         return Err(Fail::from("no value"));
