@@ -21,6 +21,3 @@ pub use null_sink::NullSink;
 pub use status::Status;
 pub use top::run;
 pub use words::drill_of;
-
-#[cfg(test)]
-mod tests;

@@ -1,3 +1,4 @@
+pub mod Codes
 pub mod Gathering
 pub mod Live
 pub mod Numbered

@@ -26,6 +26,10 @@ impl Characters for BufferText<'_> {
     fn character(&self, i: usize) -> Ch {
         self.ch(i)
     }
+
+    fn codes(&self, i: usize) -> &[u32] {
+        self.stretch(i)
+    }
 }
 
 impl Sets for BufferText<'_> {

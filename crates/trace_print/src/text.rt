@@ -1,6 +1,7 @@
 //! Characters in a name, and between quotes.
-ghost use Rattle.std.specs.Prelude.{◌≡◌, ◌<◌, List, length, flat_map, slice_get, Some};
-ghost use Rattle.text_model.specs.Characters.{Ch as Character};
+ghost use Rattle.std.specs.Prelude.{◌≡◌, ◌+◌, ◌<◌, ◌≤◌, List, length, map, take, drop, flat_map};
+ghost use Rattle.std.specs.Prelude.{slice_get, Some};
+ghost use Rattle.text_model.specs.Characters.{Ch as Character, code};
 ghost use Rattle.plain_machine.specs.Lines.{shown_ch, quoted};
 ghost use Rattle.ek_types.specs.Seen.{ch_of};
 ghost use Rattle.trace_print.specs.Printing.{Prints};
@@ -19,6 +20,11 @@ pub(crate) trait Characters {
     fn character(&self, i: usize) -> Ch
         requires { i < length (chars self.now) }
         ensures { slice_get (chars self.now) i ≡ Some (ch_of result) };
+
+    /// The codes of some characters from character `i` on, or of none where they aren't kept as codes.
+    fn codes(&self, i: usize) -> &[u32]
+        requires { i < length (chars self.now) }
+        ensures { result.now ≡ map code (take (length result.now) (drop i (chars self.now))) };
 }
 
 impl Characters for Chars {
@@ -30,6 +36,10 @@ impl Characters for Chars {
 
     fn character(&self, i: usize) -> Ch {
         self.at(i)
+    }
+
+    fn codes(&self, _i: usize) -> &[u32] {
+        &[]
     }
 }
 
@@ -44,6 +54,10 @@ impl Characters for Piece {
 
     fn character(&self, i: usize) -> Ch {
         self.ch(i)
+    }
+
+    fn codes(&self, _i: usize) -> &[u32] {
+        &[]
     }
 }
 
@@ -66,12 +80,44 @@ impl<K: Sink> Printer<'_, K> {
         self.put(&bytes[..size]);
     }
 
+    /// Writes what stands for the characters of some codes, up to the first that is no scalar value, and says for how many.
+    fn scalars(&mut self, codes: &[u32]) -> usize
+        ensures prints { (chars : List Character) → codes.now ≡ map code chars →
+            Prints K.state self.old self.new (flat_map shown_ch (take result chars)) }
+        ensures range { result ≤ length codes.now }
+    {
+        for n in 0..codes.len() {
+            match char::from_u32(codes[n]) {
+                Some(scalar) => self.shown(Ch::Scalar(scalar)),
+                None => return n,
+            }
+        }
+        codes.len()
+    }
+
+    /// Writes what stands for some characters from character `i` on, for one at least, and says for how many.
+    fn some_characters<T: Characters>(&mut self, text: &T, i: usize) -> usize
+        requires { i < length (T.chars text.now) }
+        ensures prints { Prints K.state self.old self.new
+            (flat_map shown_ch (take result (drop i (T.chars text.now)))) }
+        ensures some { 0 < result }
+        ensures range { i + result ≤ length (T.chars text.now) }
+    {
+        let count = self.scalars(text.codes(i));
+        if count > 0 {
+            return count;
+        }
+        self.shown(text.character(i));
+        1
+    }
+
     /// Writes what stands for the characters of a text.
     pub(crate) fn characters<T: Characters>(&mut self, text: &T)
         ensures { Prints K.state self.old self.new (flat_map shown_ch (T.chars text.now)) }
     {
-        for i in 0..text.count() {
-            self.shown(text.character(i));
+        let mut i = 0;
+        while i < text.count() {
+            i += self.some_characters(text, i);
         }
     }
 

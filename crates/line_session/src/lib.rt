@@ -1,0 +1,16 @@
+//! Line sessions: a child that is run and started again until it ends well, its output gathered in one buffer.
+#![tactic(auto)]
+
+mod asking;
+mod command;
+mod filter;
+mod output;
+mod replies;
+mod restarting;
+mod script;
+mod sentinel;
+mod session;
+#[cfg(test)]
+mod tests;
+
+pub use session::LineSession;

@@ -1,0 +1,335 @@
+//! The two natives reply by reply, and the script.
+use crate::LineSession;
+use ek_call::{Arg, Call, Fault, Form, Primitive, Replies, Reply, Value, Values};
+use ek_types::{Ch, Chars, ListOf, Mem, Piece, Sym};
+use handler_code::{Natives, Next};
+use std::alloc::Global;
+use std::test::Fail;
+
+/// A session of `make -k`.
+fn session(alloc: Global, limit: u32) -> Mem<LineSession> {
+    let mut args = Vec::new(alloc);
+    args.push(String::from_str(alloc, "-k")?)?;
+    LineSession::new(alloc, limit, "make", &args)
+}
+
+/// Process 4 and what is told of it.
+fn arguments(alloc: Global, told: &[u8]) -> Mem<Values> {
+    let mut chars = Chars::new(alloc);
+    chars.extend_bytes(told)?;
+    let mut args = ListOf::new(alloc);
+    args.push(Value::Process(4))?;
+    args.push(Value::Str(Piece::plain(alloc, chars)))?;
+    Ok(args)
+}
+
+/// The answers up to the end of the buffer, which is buffer 1 and ends at 7, and the answer `last` about the character there.
+fn looked(alloc: Global, count: usize, last: i64) -> Mem<Replies> {
+    let mut past = ListOf::new(alloc);
+    for call in 0..count {
+        let value = match call {
+            0 => Value::Buffer(1),
+            2 => Value::Int(7),
+            4 => Value::Int(last),
+            _ => Value::T,
+        };
+        past.push(Reply::Value(value))?;
+    }
+    Ok(past)
+}
+
+/// The answers of a restart: the filter 15, the sentinel 16, the new process 9.
+fn started(past: &mut Replies, count: usize) -> Mem<()> {
+    for call in 0..count {
+        let value = match call {
+            0 => Value::Sym(Sym(15)),
+            1 => Value::Sym(Sym(16)),
+            2 => Value::Process(9),
+            _ => Value::T,
+        };
+        past.push(Reply::Value(value))?;
+    }
+    Ok(())
+}
+
+/// An argument as a number: an integer, the number of an object or a symbol, 100 and the length of a string, 0 for any other value, and
+/// -1 where it was left out.
+fn argument(args: &Values, i: usize) -> i64 {
+    match args.as_slice().get(i) {
+        Some(Value::Int(n)) => *n,
+        Some(Value::Buffer(n)) => i64::from(*n),
+        Some(Value::Process(n)) => i64::from(*n),
+        Some(Value::Sym(name)) => i64::from(name.0),
+        Some(Value::Str(text)) => 100 + text.len().min(100) as i64,
+        Some(_) => 0,
+        None => -1,
+    }
+}
+
+/// A call with its first two arguments.
+#[derive(Clone, Copy, Debug, PartialEq, Eq)]
+struct Step {
+    prim: Primitive,
+    first: i64,
+    second: i64,
+}
+
+fn asked(prim: Primitive, first: i64, second: i64) -> Option<Step> {
+    Some(Step {
+        prim,
+        first,
+        second,
+    })
+}
+
+fn shown(next: &Next) -> Option<Step> {
+    match next {
+        Next::Call(call) => asked(call.prim, argument(&call.args, 0), argument(&call.args, 1)),
+        Next::Done => None,
+    }
+}
+
+/// What the filter does next, told `ab`.
+fn filter(alloc: Global, past: &Replies) -> Mem<Option<Step>> {
+    let args = arguments(alloc, b"ab")?;
+    let next = session(alloc, 5)?.next(0, &args, past)?;
+    Ok(shown(&next))
+}
+
+/// What the sentinel of a session with at most 5 restarts does next.
+fn sentinel(alloc: Global, told: &[u8], past: &Replies) -> Mem<Option<Step>> {
+    let args = arguments(alloc, told)?;
+    let next = session(alloc, 5)?.next(1, &args, past)?;
+    Ok(shown(&next))
+}
+
+/// What a sentinel does next behind an end with code 3, where the last character has this code and so many answers of the restart came.
+fn restarting(alloc: Global, last: i64, count: usize) -> Mem<Option<Step>> {
+    let mut past = looked(alloc, 5, last)?;
+    started(&mut past, count)?;
+    sentinel(alloc, b"exited abnormally with code 3\n", &past)
+}
+
+#[test]
+fn the_filter_puts_its_text_at_the_end_of_the_buffer(rt: HostRuntime) -> Result<(), Fail> {
+    let alloc = rt.alloc();
+    let past = |count| looked(alloc, count, 98);
+    assert_eq!(rt;
+        filter(alloc, &past(0)?)?,
+        asked(Primitive::ProcessBuffer, 4, -1)
+    );
+    assert_eq!(rt;
+        filter(alloc, &past(1)?)?,
+        asked(Primitive::SetBuffer, 1, -1)
+    );
+    assert_eq!(rt;
+        filter(alloc, &past(2)?)?,
+        asked(Primitive::PointMax, -1, -1)
+    );
+    assert_eq!(rt;
+        filter(alloc, &past(3)?)?,
+        asked(Primitive::GotoChar, 7, -1)
+    );
+    assert_eq!(rt;
+        filter(alloc, &past(4)?)?,
+        asked(Primitive::Insert, 102, -1)
+    );
+    assert_eq!(rt; filter(alloc, &past(5)?)?, None);
+    assert_eq!(rt; filter(alloc, &past(6)?)?, None);
+    Ok(())
+}
+
+#[test]
+fn a_refused_insertion_switches_reading_off(rt: HostRuntime) -> Result<(), Fail> {
+    let alloc = rt.alloc();
+    let mut past = looked(alloc, 4, 98)?;
+    past.push(Reply::Fault(Fault::BufferFull))?;
+    assert_eq!(rt;
+        filter(alloc, &past)?,
+        asked(Primitive::SetProcessFilter, 4, 0)
+    );
+    past.push(Reply::Value(Value::T))?;
+    assert_eq!(rt; filter(alloc, &past)?, None);
+    let mut past = looked(alloc, 5, 98)?;
+    past.push(Reply::Fault(Fault::BufferFull))?;
+    assert_eq!(rt;
+        sentinel(alloc, b"killed\n", &past)?,
+        asked(Primitive::SetProcessFilter, 4, 0)
+    );
+    past.push(Reply::Fault(Fault::BufferFull))?;
+    assert_eq!(rt; sentinel(alloc, b"killed\n", &past)?, None);
+    Ok(())
+}
+
+#[test]
+fn a_fault_on_the_way_to_the_end_ends_both(rt: HostRuntime) -> Result<(), Fail> {
+    let alloc = rt.alloc();
+    for count in 0..5 {
+        let mut past = looked(alloc, count, 98)?;
+        past.push(Reply::Fault(Fault::BufferKilled))?;
+        if count < 4 {
+            assert_eq!(rt; filter(alloc, &past)?, None);
+        }
+        assert_eq!(rt; sentinel(alloc, b"killed\n", &past)?, None);
+    }
+    Ok(())
+}
+
+#[test]
+fn the_sentinel_closes_an_open_line(rt: HostRuntime) -> Result<(), Fail> {
+    let alloc = rt.alloc();
+    let told = b"finished\n";
+    let past = looked(alloc, 4, 98)?;
+    assert_eq!(rt;
+        sentinel(alloc, told, &past)?,
+        asked(Primitive::CharAfter, 6, -1)
+    );
+    let mut past = looked(alloc, 5, 98)?;
+    assert_eq!(rt;
+        sentinel(alloc, told, &past)?,
+        asked(Primitive::Insert, 101, -1)
+    );
+    past.push(Reply::Value(Value::Nil))?;
+    assert_eq!(rt; sentinel(alloc, told, &past)?, None);
+    let past = looked(alloc, 5, 10)?;
+    assert_eq!(rt; sentinel(alloc, told, &past)?, None);
+    let mut past = looked(alloc, 4, 10)?;
+    past.push(Reply::Value(Value::Nil))?;
+    assert_eq!(rt; sentinel(alloc, told, &past)?, None);
+    Ok(())
+}
+
+#[test]
+fn a_child_that_ended_otherwise_is_started_again(rt: HostRuntime) -> Result<(), Fail> {
+    let alloc = rt.alloc();
+    let set = Primitive::SetProcessSentinel;
+    assert_eq!(rt;
+        restarting(alloc, 10, 0)?,
+        asked(Primitive::ProcessFilter, 4, -1)
+    );
+    assert_eq!(rt;
+        restarting(alloc, 10, 1)?,
+        asked(Primitive::ProcessSentinel, 4, -1)
+    );
+    assert_eq!(rt;
+        restarting(alloc, 10, 2)?,
+        asked(Primitive::StartProcess, 107, 109)
+    );
+    assert_eq!(rt;
+        restarting(alloc, 10, 3)?,
+        asked(Primitive::SetProcessFilter, 9, 15)
+    );
+    assert_eq!(rt; restarting(alloc, 10, 4)?, asked(set, 9, 16));
+    assert_eq!(rt; restarting(alloc, 10, 5)?, None);
+    assert_eq!(rt;
+        restarting(alloc, 98, 0)?,
+        asked(Primitive::Insert, 101, -1)
+    );
+    assert_eq!(rt;
+        restarting(alloc, 98, 1)?,
+        asked(Primitive::ProcessFilter, 4, -1)
+    );
+    Ok(())
+}
+
+#[test]
+fn a_refused_start_ends_the_session(rt: HostRuntime) -> Result<(), Fail> {
+    let alloc = rt.alloc();
+    let mut past = looked(alloc, 5, 10)?;
+    started(&mut past, 2)?;
+    past.push(Reply::Fault(Fault::SpawnFailed))?;
+    assert_eq!(rt; sentinel(alloc, b"killed\n", &past)?, None);
+    Ok(())
+}
+
+#[test]
+fn there_are_no_more_restarts_than_the_limit(rt: HostRuntime) -> Result<(), Fail> {
+    let alloc = rt.alloc();
+    let args = arguments(alloc, b"killed\n")?;
+    let past = looked(alloc, 5, 10)?;
+    let last = session(alloc, 5)?.next(1, &args, &past)?;
+    assert_eq!(rt; shown(&last), asked(Primitive::ProcessFilter, 4, -1));
+    let over = session(alloc, 4)?.next(1, &args, &past)?;
+    assert_eq!(rt; shown(&over), None);
+    Ok(())
+}
+
+/// Whether a value is a string of these characters.
+fn is_text(value: &Value, chars: &[char]) -> bool {
+    let Value::Str(text) = value else {
+        return false;
+    };
+    if text.len() != chars.len() {
+        return false;
+    }
+    for i in 0..chars.len() {
+        if text.ch(i) != Ch::Scalar(chars[i]) {
+            return false;
+        }
+    }
+    true
+}
+
+/// The call of a form.
+fn call_of(form: &Form) -> Option<&Call> {
+    match form {
+        Form::Do(call) => Some(call),
+        Form::Setq(_, call) => Some(call),
+        _ => None,
+    }
+}
+
+/// The name of a form's call, and how many arguments it has.
+fn outline(form: &Form) -> Option<(Primitive, usize)> {
+    call_of(form).map(|call| (call.prim, call.args.len()))
+}
+
+#[test]
+fn the_script_starts_the_child_and_waits(rt: HostRuntime) -> Result<(), Fail> {
+    let script = session(rt.alloc(), 2)?.script()?;
+    let forms = script.forms.as_slice();
+    assert_eq!(rt; script.symbols.count(), 17);
+    assert!(rt; script.symbols.find("session-sentinel") == Some(Sym(16)));
+    assert_eq!(rt; script.handlers.len(), 0);
+    assert_eq!(rt; forms.len(), 65_539);
+    assert_eq!(rt; outline(&forms[0]), Some((Primitive::StartProcess, 4)));
+    assert_eq!(rt; outline(&forms[1]), Some((Primitive::SetProcessFilter, 2)));
+    assert_eq!(rt;
+        outline(&forms[2]),
+        Some((Primitive::SetProcessSentinel, 2))
+    );
+    assert_eq!(rt;
+        outline(&forms[3]),
+        Some((Primitive::AcceptProcessOutput, 0))
+    );
+    assert_eq!(rt;
+        outline(&forms[65_538]),
+        Some((Primitive::AcceptProcessOutput, 0))
+    );
+    Ok(())
+}
+
+#[test]
+fn a_word_is_decoded(rt: HostRuntime) -> Result<(), Fail> {
+    let alloc = rt.alloc();
+    let session = LineSession::new(alloc, 0, "é€😀", &[])?;
+    let script = session.script()?;
+    let start = script.forms.as_slice().first().ok_or("no form")?;
+    let call = call_of(start).ok_or("no call")?;
+    assert_eq!(rt; call.args.len(), 3);
+    let Arg::Const(program) = call.args.at(2) else {
+        return Err(Fail::from("no value"));
+    };
+    assert!(rt; is_text(program, &['é', '€', '😀']));
+    Ok(())
+}
+
+#[test]
+fn the_natives_have_their_names(rt: HostRuntime) -> Result<(), Fail> {
+    let session = session(rt.alloc(), 2)?;
+    assert_eq!(rt; session.count(), 2);
+    assert_eq!(rt; session.name(0), "session-filter");
+    assert_eq!(rt; session.name(1), "session-sentinel");
+    assert_eq!(rt; session.name(2), "");
+    Ok(())
+}
