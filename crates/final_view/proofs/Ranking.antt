@@ -1,5 +1,5 @@
 -- The marks of a buffer by strength are its overlays by strength.
-use Rattle.std.proofs.Common.{◌≡◌, ℕ, ◌+◌, ◌<◌, ◌≤◌, ℤ, Bool, true, false, cond, not, ◌&&◌, ◌||◌, ◌==◌, nat_lt, nat_le, int_lt, if◌then◌else◌, List, [], ◌∷◌, ◌++◌, map, filter, take, length, Option, Some, None, All, refl, sym, ap, ap₂, ◌∙◌, subst, arith}
+use Rattle.std.proofs.Common.{◌≡◌, ℕ, ◌+◌, ◌<◌, ◌≤◌, ℤ, Bool, true, false, cond, not, ◌&&◌, ◌||◌, ◌==◌, nat_lt, nat_le, int_lt, if◌then◌else◌, List, [], ◌∷◌, ◌++◌, map, filter, take, length, Option, Some, None, All, refl, sym, ap, ap₂, ◌∙◌, subst, arith, option_to_list, IfSome}
 use Rattle.std.specs.Prelude.{slice_get}
 use Rattle.std.specs.List.{AllByRecursion}
 use Rattle.std.specs.List.Sorted.{IsSortedBy, IsStableBy, IsPermutation}
@@ -9,8 +9,9 @@ use Rattle.std.specs.declared.cmp.Ordering.TheVariants.{Less, Equal, Greater}
 use Rattle.std.specs.Ordering.{nat_cmp, int_cmp, int_eq, is_lt, is_eq, is_gt, ordering_then, ordering_reverse}
 use Rattle.std.proofs.lemmas.Cmp.{nat_cmp_total, int_cmp_total, on_total, then_total, back_total}
 use Rattle.std.proofs.lemmas.Bool.{eqb-true, eqb-false, ltb-true, ltb-false, ne_eqb, le-leb, lt-leb}
+use Rattle.std.proofs.lemmas.List.{map-append}
 use Rattle.std.proofs.lemmas.List.MinMax.{ranks_by}
-use Rattle.std.proofs.lemmas.List.Elements.{recursion_from_All, All-from_recursion, filter-append}
+use Rattle.std.proofs.lemmas.List.Elements.{recursion_from_All, All-from_recursion, filter-append, All-nil, All-cons, All-append}
 use Rattle.std.proofs.lemmas.List.Sorted.{All-permutation}
 use Rattle.std.proofs.lemmas.Option.{slice_get-get_or, unwrap_or-slice_get}
 use Rattle.text_model.specs.Marks.{Overlay, Span}
@@ -128,3 +129,15 @@ module _ (os : List Overlay) where
   one_more buffer k h =
       let there : slice_get os k ≡ Some (overlay_at os k) = slice_get-get_or os k no_overlay h ∙ ap Some (sym (unwrap_or-slice_get os k no_overlay)) in
       sym (ap (in_buffer buffer) (take_one_more os k (overlay_at os k) there) ∙ filter-append _ (take k os) (overlay_at os k ∷ []))
+
+  pub marks_more : (buffer k : ℕ) (marks new : List Mark) (found : Option Mark) → k < length os → map (overlay_of os) (option_to_list found) ≡ in_buffer buffer (overlay_at os k ∷ []) → new ≡ marks ++ option_to_list found
+      → overlays_in os marks ≡ in_buffer buffer (take k os) → overlays_in os new ≡ in_buffer buffer (take (k + 1) os)
+  marks_more buffer k marks new found h one e before =
+      ap (overlays_in os) e ∙ map-append (overlay_of os) marks (option_to_list found) ∙ ap₂ (λ a b. a ++ b) before one ∙ one_more buffer k h
+
+  found_are : (found : Option Mark) → IfSome found (IsMark os) → All (IsMark os) (option_to_list found)
+  found_are None h = All-nil (IsMark os)
+  found_are (Some m) h = All-cons (IsMark os) m [] h (All-nil (IsMark os))
+
+  pub are_more : (marks new : List Mark) (found : Option Mark) → IfSome found (IsMark os) → new ≡ marks ++ option_to_list found → All (IsMark os) marks → All (IsMark os) new
+  are_more marks new found h e are = subst (All (IsMark os)) (sym e) (All-append (IsMark os) marks (option_to_list found) are (found_are found h))

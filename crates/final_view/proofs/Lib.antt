@@ -1,0 +1,5 @@
+pub mod Passing
+pub mod Ranking
+pub mod Showing
+pub mod Sorting
+pub mod Tests

@@ -1,0 +1,35 @@
+-- What the tests of a mark say of its places.
+use Rattle.std.proofs.Common.{◌≡◌, ℕ, ◌+◌, ◌<◌, ◌≤◌, Bool, true, false, ◌&&◌, ◌||◌, ◌==◌, nat_lt, nat_le, max, if◌then◌else◌, List, [], ◌∷◌, refl, sym, ap, ◌∙◌, true≢false, arith}
+use Rattle.std.specs.List.{list_any}
+use Rattle.std.proofs.lemmas.Bool.{eqb-true}
+use Rattle.std.proofs.lemmas.Bool.Decides.{nat_tests}
+use Rattle.text_model.specs.Marks.{Overlay}
+use Rattle.overlay_set.specs.Numbered.{span_at}
+use Rattle.final_view.specs.Shown.{ends_at, starts_at, is_wide, is_empty}
+use Rattle.final_view.specs.Marks.{ends_here, starts_here, hides, hides_at, hidden_until, covered, Cover}
+use Rattle.final_view.specs.declared.mark.Mark.{Mark}
+
+front : (a b : Bool) → a && b ≡ true → a ≡ true
+front true b h = refl
+front false b h = h
+
+pub ends_sound : (first q : ℕ) (m : Mark) → ends_here first q m ≡ true → m.end ≡ q
+ends_sound first q m h = eqb-true m.end q (front (m.end == q) (nat_lt m.start m.end && nat_lt first q) h)
+
+pub starts_sound : (last q : ℕ) (m : Mark) → starts_here last q m ≡ true → m.start ≡ q
+starts_sound last q m h = eqb-true m.start q (front (m.start == q) ((m.start == m.end) || (nat_lt m.start m.end && nat_lt q last)) h)
+
+-- HIDING
+module _ (os : List Overlay) where
+  hidden_by : (until q : ℕ) (m : Mark) (rest : Bool) → m.start ≤ q → (b : Bool) → nat_lt q (if b then max until m.end else until) || rest ≡ nat_lt q until || ((b && (nat_le m.start q && nat_lt q m.end)) || rest)
+  hidden_by until q m rest h true = grind (arith, nat_tests)
+  hidden_by until q m rest h false = refl
+
+  -- one that starts at a place or before it is passed
+  pub cover_on : (at old_until until : ℕ) (m : Mark) (old all rest : List Mark) → all ≡ m ∷ rest → m.start ≤ at → Cover os at old_until until old all → Cover os at old_until (hidden_until os until m) old rest
+  cover_on at old_until until m old all rest e h c = record {
+    by = λ q k. hidden_by until q m (list_any (hides_at os q) rest) (omega (arith, h, k)) (hides os m) ∙ ap (λ l. covered os until l q) (sym e) ∙ c.by q k;
+  }
+
+  pub cover_begins : (at until : ℕ) (old : List Mark) → Cover os at until until old old
+  cover_begins at until old = record { by = λ q k. refl }
