@@ -3,3 +3,5 @@ pub mod Ranking
 pub mod Showing
 pub mod Sorting
 pub mod Tests
+pub mod Visible
+pub mod Whole

@@ -6,7 +6,7 @@ use Rattle.std.proofs.lemmas.Bool.Decides.{nat_tests}
 use Rattle.text_model.specs.Marks.{Overlay}
 use Rattle.overlay_set.specs.Numbered.{span_at}
 use Rattle.final_view.specs.Shown.{ends_at, starts_at, is_wide, is_empty}
-use Rattle.final_view.specs.Marks.{ends_here, starts_here, hides, hides_at, hidden_until, covered, Cover}
+use Rattle.final_view.specs.Marks.{ends_here, starts_here, hides, hides_at, hidden_until, covered, Cover, Rises, start_key}
 use Rattle.final_view.specs.declared.mark.Mark.{Mark}
 
 front : (a b : Bool) → a && b ≡ true → a ≡ true
@@ -33,3 +33,19 @@ module _ (os : List Overlay) where
 
   pub cover_begins : (at until : ℕ) (old : List Mark) → Cover os at until until old old
   cover_begins at until old = record { by = λ q k. refl }
+
+  -- none hides in front of where the first starts
+  pub none_hides : (q least : ℕ) (marks : List Mark) → Rises start_key least marks → q < least → list_any (hides_at os q) marks ≡ false
+  none_hides q least [] r h = refl
+  none_hides q least (m ∷ marks) r h =
+      ap (λ b. (hides os m && (b && nat_lt q m.end)) || list_any (hides_at os q) marks) (not_yet m.start q (omega (arith, h, r.0))) ∙ ap (λ b. b || list_any (hides_at os q) marks) (never (hides os m)) ∙ none_hides q m.start marks r.1 (omega (arith, h, r.0))
+    where
+      not_yet : (s q : ℕ) → q < s → nat_le s q ≡ false
+      not_yet s q h = grind (arith, nat_tests)
+      never : (b : Bool) → b && false ≡ false
+      never true = refl
+      never false = refl
+
+pub or_false : (b : Bool) → b || false ≡ b
+or_false true = refl
+or_false false = refl

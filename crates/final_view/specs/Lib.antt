@@ -1,3 +1,5 @@
-pub mod Shown
 pub mod Marks
+pub mod Scenes
 pub mod Showing
+pub mod Shown
+pub mod Visible
