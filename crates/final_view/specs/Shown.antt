@@ -97,12 +97,11 @@ abbrev pub shown_from : Scene → (place : ℕ) → List Cell → List Ch
 shown_from scene p [] = strings_at scene p
 shown_from scene p (c ∷ cells) = strings_at scene p ++ (seen scene p c ++ shown_from scene (p + 1) cells)
 
-abbrev pub scene_of : Editor → (id : ℕ) → Scene
-scene_of e id =
-    let b : Buffer = buffer_at e id in
-    record { buffer = id; first = b.begin; last = b.end; overlays = e.marks.overlays; ranked = rising (in_buffer id e.marks.overlays) }
+abbrev pub scene_in : (buffer first last : ℕ) → List Overlay → Scene
+scene_in buffer first last overlays = record { buffer = buffer; first = first; last = last; overlays = overlays; ranked = rising (in_buffer buffer overlays) }
+
+abbrev pub shown_in : (id : ℕ) → Buffer → List Overlay → List Ch
+shown_in id b overlays = shown_from (scene_in id b.begin b.end overlays) b.begin (part b.begin b.end b.text)
 
 abbrev pub shown : Editor → (id : ℕ) → List Ch
-shown e id =
-    let b : Buffer = buffer_at e id in
-    shown_from (scene_of e id) b.begin (part b.begin b.end b.text)
+shown e id = shown_in id (buffer_at e id) e.marks.overlays
