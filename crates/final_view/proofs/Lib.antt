@@ -4,5 +4,6 @@ pub mod Ranking
 pub mod Showing
 pub mod Sorting
 pub mod Tests
+pub mod Viewed
 pub mod Visible
 pub mod Whole

@@ -36,34 +36,6 @@ struct Row {
     seen: &'static str,
 }
 
-const fn laid(
-    start: usize,
-    end: usize,
-    priority: i64,
-    before: &'static str,
-    after: &'static str,
-) -> Laid {
-    Laid {
-        start,
-        end,
-        priority,
-        before,
-        after,
-        hides: false,
-    }
-}
-
-const fn hiding(start: usize, end: usize, before: &'static str, after: &'static str) -> Laid {
-    Laid {
-        start,
-        end,
-        priority: 0,
-        before,
-        after,
-        hides: true,
-    }
-}
-
 fn chars(alloc: Global, text: &str) -> Mem<Chars> {
     let mut chars = Chars::new(alloc);
     for c in text.chars() {
@@ -147,7 +119,7 @@ const HIDDEN_LETTERS: Row = Row {
     text: "abcdef",
     invisible: (1, 3),
     accessible: (0, 6),
-    overlays: &[laid(4, 6, 0, "[", "]")],
+    overlays: &[Laid { start: 4, end: 6, priority: 0, before: "[", after: "]", hides: false }],
     seen: "ad[ef]",
 };
 
@@ -156,7 +128,7 @@ fn hidden_letters_and_an_overlay_at_the_end(rt: HostRuntime) {
     check(&rt, rt.alloc(), &HIDDEN_LETTERS);
 }
 
-const TWO: [Laid; 2] = [laid(0, 2, 5, "A", "a"), laid(0, 2, 0, "B", "b")];
+const TWO: [Laid; 2] = [Laid { start: 0, end: 2, priority: 5, before: "A", after: "a", hides: false }, Laid { start: 0, end: 2, priority: 0, before: "B", after: "b", hides: false }];
 
 const TWO_WHOLE: Row = Row {
     text: "xy",
@@ -167,9 +139,11 @@ const TWO_WHOLE: Row = Row {
 };
 
 const TWO_NARROWED: Row = Row {
+    text: "xy",
+    invisible: (0, 0),
     accessible: (0, 1),
+    overlays: &TWO,
     seen: "BAx",
-    ..TWO_WHOLE
 };
 
 #[test]
@@ -185,10 +159,10 @@ const NESTED: Row = Row {
     invisible: (0, 0),
     accessible: (0, 4),
     overlays: &[
-        laid(0, 4, 0, "(", ")"),
-        laid(0, 2, 0, "[", "]"),
-        laid(2, 4, 0, "{", "}"),
-        laid(2, 4, -1, "<", ">"),
+        Laid { start: 0, end: 4, priority: 0, before: "(", after: ")", hides: false },
+        Laid { start: 0, end: 2, priority: 0, before: "[", after: "]", hides: false },
+        Laid { start: 2, end: 4, priority: 0, before: "{", after: "}", hides: false },
+        Laid { start: 2, end: 4, priority: -1, before: "<", after: ">", hides: false },
     ],
     seen: "([wx]<{yz})>",
 };
@@ -205,9 +179,9 @@ const EMPTY_BETWEEN: Row = Row {
     invisible: (0, 0),
     accessible: (0, 2),
     overlays: &[
-        laid(1, 1, 0, "1", "2"),
-        laid(0, 1, 0, "", "!"),
-        laid(1, 2, 0, "?", ""),
+        Laid { start: 1, end: 1, priority: 0, before: "1", after: "2", hides: false },
+        Laid { start: 0, end: 1, priority: 0, before: "", after: "!", hides: false },
+        Laid { start: 1, end: 2, priority: 0, before: "?", after: "", hides: false },
     ],
     seen: "a!?12b",
 };
@@ -218,12 +192,12 @@ const EMPTY_AT_BOUNDS: Row = Row {
     invisible: (0, 0),
     accessible: (1, 3),
     overlays: &[
-        laid(1, 1, 0, "<", ","),
-        laid(3, 3, 0, ".", ">"),
-        laid(0, 1, 0, "p", "q"),
-        laid(3, 4, 0, "r", "s"),
-        laid(0, 0, 0, "t", "u"),
-        laid(0, 4, 0, "v", "w"),
+        Laid { start: 1, end: 1, priority: 0, before: "<", after: ",", hides: false },
+        Laid { start: 3, end: 3, priority: 0, before: ".", after: ">", hides: false },
+        Laid { start: 0, end: 1, priority: 0, before: "p", after: "q", hides: false },
+        Laid { start: 3, end: 4, priority: 0, before: "r", after: "s", hides: false },
+        Laid { start: 0, end: 0, priority: 0, before: "t", after: "u", hides: false },
+        Laid { start: 0, end: 4, priority: 0, before: "v", after: "w", hides: false },
     ],
     seen: "<,bc.>",
 };
@@ -239,7 +213,7 @@ const HIDDEN_BY_BOTH: Row = Row {
     text: "abcdefg",
     invisible: (4, 5),
     accessible: (1, 7),
-    overlays: &[hiding(0, 2, "x", "1"), hiding(2, 4, "2", "3"), hiding(4, 5, "4", "5")],
+    overlays: &[Laid { start: 0, end: 2, priority: 0, before: "x", after: "1", hides: true }, Laid { start: 2, end: 4, priority: 0, before: "2", after: "3", hides: true }, Laid { start: 4, end: 5, priority: 0, before: "4", after: "5", hides: true }],
     seen: "12345fg",
 };
 
@@ -259,7 +233,7 @@ fn all_lengths_and_other_values(rt: HostRuntime) {
     editor
         .replace(0, 0, 0, &Piece::plain(alloc, text), false)
         .expect(&rt, "room");
-    lay(&rt, alloc, &mut editor, &laid(0, 1, 0, "", ""));
+    lay(&rt, alloc, &mut editor, &Laid { start: 0, end: 1, priority: 0, before: "", after: "", hides: false });
     put(&rt, &mut editor, 0, BEFORE_STRING, &PropVal::Int(7));
     put(&rt, &mut editor, 0, AFTER_STRING, &PropVal::Truth);
     let mut sink = MemorySink::new(alloc, 99, 3, Vec::new(alloc)).expect(&rt, "a sink");
