@@ -7,7 +7,7 @@ It uses `rt try`, which proves nothing and refuses the allocation of a given num
 that number is fixed, and each run first makes and drops so many others that the wanted one comes to it. How many
 allocations a run makes is found by making more behind it, until the one that is refused is among them.
 
-The runs are those that the tests of `kernel_top` work out, and some more: each a script, with a source, a sink and a
+The runs are those that `kernel_rows` works out, and some more: each a script, with a source, a sink and a
 host in memory. What a run writes and asks where memory is ample is what the tests compare. Where an allocation is refused it
 must answer
 
@@ -31,7 +31,7 @@ import sys
 import tempfile
 
 TOP = os.path.dirname(os.path.dirname(os.path.abspath(__file__)))
-TESTS = f"{TOP}/crates/kernel_top/src/tests"
+TESTS = f"{TOP}/crates/kernel_rows/src"
 WORD = sys.argv[1] if len(sys.argv) > 1 else ""
 # The allocation that is refused, counted from the beginning of a program: one of these, the least that is more than a run makes.
 REFUSED = [600, 5000]

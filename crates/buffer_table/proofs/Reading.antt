@@ -16,6 +16,11 @@ zip_size [] ys h = refl
 zip_size (x ∷ xs) [] h = cc
 zip_size (x ∷ xs) (y ∷ ys) h = ap suc (zip_size xs ys (omega arith))
 
+firsts : {A B : Type 0} (xs : List A) (ys : List B) → length xs ≡ length ys → xs ≡ map (λ c. c.0) (zip xs ys)
+firsts [] ys h = refl
+firsts (x ∷ xs) [] h = cc
+firsts (x ∷ xs) (y ∷ ys) h = ap (λ l. x ∷ l) (firsts xs ys (omega arith))
+
 seconds : {A B : Type 0} (xs : List A) (ys : List B) → length xs ≡ length ys → ys ≡ map (λ c. c.1) (zip xs ys)
 seconds [] [] h = refl
 seconds [] (y ∷ ys) h = cc
@@ -43,6 +48,9 @@ module _ (pool : Pooled) (n : Named) (l : Live) (readable : IsReadable pool n.bu
 
   pub sets_are : n.buffer.sets ≡ map (λ c. c.1) l.buffer.text
   sets_are = seconds (characters pool n.buffer.text) n.buffer.sets readable.size ∙ ap (λ (x : Live). map (λ c. c.1) x.buffer.text) shown
+
+  pub chars_are : characters pool n.buffer.text ≡ map (λ c. c.0) l.buffer.text
+  chars_are = firsts (characters pool n.buffer.text) n.buffer.sets readable.size ∙ ap (λ (x : Live). map (λ c. c.0) x.buffer.text) shown
 
   pub char_is : (i : ℕ) (x : Ch) → slice_get (characters pool n.buffer.text) i ≡ Some x → option_map (λ c. c.0) (slice_get l.buffer.text i) ≡ Some x
   char_is i x e = ap (λ (m : Live). option_map (λ c. c.0) (slice_get m.buffer.text i)) (sym shown) ∙ first_at (characters pool n.buffer.text) n.buffer.sets i x readable.size e

@@ -1,5 +1,6 @@
 //! A live buffer, lent to be read.
-ghost use Rattle.std.specs.Prelude.{◌≡◌, ◌<◌, length, map, option_map, slice_get, Some};
+ghost use Rattle.std.specs.Prelude.{◌≡◌, ◌<◌, length, map, option_map, slice_get, Some, take, drop};
+ghost use Rattle.text_model.specs.Characters.{code};
 ghost use Rattle.editor_model.specs.Editor.{live};
 ghost use Rattle.ek_types.specs.Seen.{ch_of};
 ghost use Rattle.gap_text.specs.Text.{LiesIn};
@@ -73,6 +74,16 @@ impl<'a> BufferText<'a> {
         ensures { option_map (λ c. c.0) (slice_get self.now.buffer.text i) ≡ Some (ch_of result) }
     {
         self.buffer.text().at(self.pool, i)
+    }
+
+    /// The codes of some characters from character `i` on: of one at least.
+    pub fn stretch(&self, i: usize) -> &'a [u32]
+        requires { i < length self.now.buffer.text }
+        ensures some { 0 < length result.now }
+        ensures codes { result.now ≡
+            map code (take (length result.now) (drop i (map (λ c. c.0) self.now.buffer.text))) }
+    {
+        self.buffer.text().stretch(self.pool, i)
     }
 
     /// The property set of character `i`.

@@ -1,10 +1,11 @@
-//! Tests alone: of the layers below the kernel, of one buffer, and of rows of calls on the whole editor. All values were
-//! worked out by hand.
+//! Tests alone: of one buffer, of the whole editor, and of rows of calls on it. All values were worked out by hand.
 #![tactic(auto)]
 
 #[cfg(test)]
+mod buffers;
+#[cfg(test)]
 mod calls;
 #[cfg(test)]
-mod layers;
+mod checking;
 #[cfg(test)]
 mod one_buffer;

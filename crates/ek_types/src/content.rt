@@ -251,7 +251,7 @@ impl Content {
     pub fn copy(&self) -> Mem<Content>
         ensures { IfOk result (λ p. p ≡ self.now) }
     {
-        let mut runs = Vec::new(*self.runs.allocator());
+        let mut runs = Vec::with_capacity(*self.runs.allocator(), self.runs.len())?;
         add_copies(&mut runs, &self.runs)?;
         Ok(Content {
             text: self.text.copy()?,
@@ -260,6 +260,3 @@ impl Content {
         })
     }
 }
-
-#[cfg(test)]
-mod tests;

@@ -16,8 +16,6 @@ mod prop_set;
 mod property;
 mod same;
 mod symbol;
-#[cfg(test)]
-mod tests;
 mod writing;
 
 pub use character::Ch;

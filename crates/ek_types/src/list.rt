@@ -36,6 +36,16 @@ impl<T> ListOf<T> {
         }
     }
 
+    /// The empty list with a spare of at least `n`, for items whose number is known before.
+    pub fn with_room(alloc: Global, n: usize) -> Mem<ListOf<T>>
+        ensures items { IfOk result (λ list. items_of list ≡ []) }
+        ensures room { IfOk result (λ list. n ≤ spare_of list) }
+    {
+        Ok(ListOf {
+            items: Vec::with_capacity(alloc, n)?,
+        })
+    }
+
     /// Makes the spare at least `n`. A refusal leaves the list as it was.
     pub fn reserve(&mut self, n: usize) -> Mem<()>
         ensures items { items_of self.new ≡ items_of self.old }
@@ -124,7 +134,7 @@ impl<T: Copied + Drop> Copied for ListOf<T> {
     ghost seen = { λ a. map T.seen (items_of a) };
 
     fn copy(&self) -> Mem<ListOf<T>> {
-        let mut copies = ListOf::new(*self.items.allocator());
+        let mut copies = ListOf::with_room(*self.items.allocator(), self.len())?;
         for i in 0..self.len() {
             copies.push(self.at(i).copy()?)?;
         }

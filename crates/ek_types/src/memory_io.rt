@@ -192,6 +192,3 @@ impl Sink for MemorySink {
         Wrote::Bytes(n)
     }
 }
-
-#[cfg(test)]
-mod tests;

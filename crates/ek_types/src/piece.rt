@@ -147,6 +147,10 @@ impl Piece {
         ensures ok { OnOk result (self.new ≡ self.old ++ more.now) }
         ensures err { OnErr result (self.new ≡ self.old) }
     {
+        if self.is_empty() {
+            self.held = copy(&more.held)?;
+            return Ok(());
+        }
         match &mut self.held {
             Held::Own(own) => own.append(content(&more.held)),
             Held::Shared(shared) => {
@@ -185,6 +189,3 @@ impl Piece {
         })
     }
 }
-
-#[cfg(test)]
-mod tests;

@@ -77,7 +77,7 @@ fn pairs_with(alloc: Global, pairs: &[Pair], name: Sym, value: &PropVal) -> Mem<
 {
     let at = place(pairs, name);
     let rest = behind(pairs, at, name);
-    let mut new = Vec::new(alloc);
+    let mut new = Vec::with_capacity(alloc, pairs.len() + 1)?;
     add_copies(&mut new, &pairs[..at])?;
     new.push((name, value.copy()?))?;
     add_copies(&mut new, &pairs[rest..])?;
@@ -91,7 +91,7 @@ fn pairs_without(alloc: Global, pairs: &[Pair], name: Sym) -> Mem<Vec<Pair>>
 {
     let at = place(pairs, name);
     let rest = behind(pairs, at, name);
-    let mut new = Vec::new(alloc);
+    let mut new = Vec::with_capacity(alloc, pairs.len())?;
     add_copies(&mut new, &pairs[..at])?;
     add_copies(&mut new, &pairs[rest..])?;
     Ok(new)
@@ -167,7 +167,7 @@ impl PropSet {
     pub fn copy(&self) -> Mem<PropSet>
         ensures { IfOk result (λ set. set ≡ self.now) }
     {
-        let mut pairs = Vec::new(*self.pairs.allocator());
+        let mut pairs = Vec::with_capacity(*self.pairs.allocator(), self.pairs.len())?;
         add_copies(&mut pairs, &self.pairs)?;
         Ok(PropSet { pairs })
     }

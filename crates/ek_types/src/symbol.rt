@@ -124,6 +124,3 @@ impl Symbols {
         Ok(Symbols { names })
     }
 }
-
-#[cfg(test)]
-mod tests;

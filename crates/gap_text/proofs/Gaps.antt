@@ -1,7 +1,7 @@
 -- A gap that moves among cells.
 use Rattle.std.proofs.Common.{take-add, ◌≡◌, ℕ, ◌+◌, ◌-◌, ◌≤◌, List, ◌++◌, length, take, drop, refl, sym, ap, ◌∙◌, arith, append_assoc}
 use lib.Seq.{paste, take-append-add}
-use Rattle.std.proofs.lemmas.List.{take_at, drop_at, take-take, take-append-le, take-append-drop, drop-drop, length-take-le, length-drop}
+use Rattle.std.proofs.lemmas.List.{take_at, drop_at, take-take, take-append-le, take-append-drop, drop-append-le, drop-take, drop-drop, length-take-le, length-drop}
 use Rattle.std.proofs.lemmas.List.Edits.{take-paste, drop-paste}
 use Rattle.gap_text.specs.Text.{without_gap}
 
@@ -73,3 +73,21 @@ gap_grows front added back p s m n k =
     let new_back : drop (p + (m + s)) (front ++ (added ++ back)) ≡ drop s back = drop_over front (added ++ back) p (m + s) n ∙ drop_over added back m s k in
     let old_back : drop (p + s) (front ++ back) ≡ drop s back = drop_over front back p s n in
     rw (turn, new_front, old_front, new_back, old_back) refl
+
+-- a part in front of the gap
+pub part_before_gap : (found : List ℕ) (p s at n : ℕ) → p + s ≤ length found → at + n ≤ p → take n (drop at (without_gap p s found)) ≡ take n (drop at found)
+part_before_gap found p s at n h k =
+    let size : length (take p found) ≡ p = length-take-le p found (omega arith) in
+    let left : length (drop at (take p found)) ≡ length (take p found) - at = length-drop at (take p found) in
+    let on : p ≡ at + (p - at) = omega arith in
+    ap (take n) (drop-append-le at (take p found) (drop (p + s) found) (omega arith))
+    ∙ take-append-le n (drop at (take p found)) (drop (p + s) found) (omega arith)
+    ∙ ap (λ m. take n (drop at (take m found))) on
+    ∙ ap (take n) (drop-take at (p - at) found)
+    ∙ take-take n (p - at) (drop at found) (omega arith)
+
+-- and what stands behind it
+pub rest_behind_gap : (found : List ℕ) (p s at : ℕ) → p + s ≤ length found → p ≤ at → drop at (without_gap p s found) ≡ drop (at + s) found
+rest_behind_gap found p s at h k =
+    let size : length (take p found) ≡ p = length-take-le p found (omega arith) in
+    drop_past (take p found) (drop (p + s) found) p at size k ∙ drop-drop (at - p) (p + s) found ∙ ap (λ n. drop n found) (same_end p s at k)

@@ -1,5 +1,5 @@
 -- Codes read as characters.
-use Rattle.std.proofs.Common.{◌≡◌, ℕ, zero, suc, ◌+◌, ◌-◌, ◌<◌, ◌≤◌, Bool, true, false, List, [], ◌∷◌, ◌++◌, length, get_or, take, drop, map, refl, ap, subst, arith, Option, Some, None, IsSome, slice_get, filter_map, if◌then◌else◌}
+use Rattle.std.proofs.Common.{◌≡◌, ℕ, zero, suc, ◌+◌, ◌-◌, ◌<◌, ◌≤◌, Bool, true, false, List, [], ◌∷◌, ◌++◌, length, get_or, take, drop, map, refl, ap, subst, arith, Option, Some, None, IsSome, slice_get, filter_map, if◌then◌else◌, sym, ◌∙◌}
 use Rattle.std.proofs.lemmas.Bool.Decides.{nat_tests}
 use Rattle.std.specs.Char.{IsScalar}
 use Rattle.text_model.specs.Characters.{Ch, Scalar, Raw, IsCharacter, code, from_code, is_scalar_code, is_raw_code}
@@ -102,3 +102,32 @@ pub some_at : (i : ℕ) (xs : List ℕ) → AreCodes xs → i < length xs → fr
 some_at i [] h l e = absurd (omega arith)
 some_at zero (x ∷ xs) h l e = let one = read_one x h.0 in cc
 some_at (suc i) (x ∷ xs) h l e = some_at i xs h.1 (omega arith) e
+
+-- the code of a character that was read
+raw_sum : (n : ℕ) → is_raw_code n ≡ true → 0x3FFF00 + (n - 0x3FFF00) ≡ n
+raw_sum n h = let range = byte_of_range n h in omega (arith, range.0)
+
+code_by_tests : (n : ℕ) (s r : Bool) (c : Ch) → is_scalar_code n ≡ s → is_raw_code n ≡ r → (if s then Some (Scalar n) else (if r then Some (Raw (n - 0x3FFF00)) else None)) ≡ Some c → code c ≡ n
+code_by_tests n true r c is raw e =
+    let same : Scalar n ≡ c = cc in
+    subst (λ (d : Ch). code d ≡ n) same refl
+code_by_tests n false true c is raw e =
+    let same : Raw (n - 0x3FFF00) ≡ c = cc in
+    subst (λ (d : Ch). code d ≡ n) same (raw_sum n raw)
+code_by_tests n false false c is raw e = cc
+
+code_of_read : (n : ℕ) (c : Ch) → from_code n ≡ Some c → code c ≡ n
+code_of_read n c e = code_by_tests n (is_scalar_code n) (is_raw_code n) c refl refl e
+
+pub codes_of_read : (xs : List ℕ) → AreCodes xs → map code (filter_map from_code xs) ≡ xs
+codes_of_read [] h = refl
+codes_of_read (x ∷ xs) h =
+    let one = read_one x h.0 in
+    rw (one.1, code_of_read x one.0 one.1, codes_of_read xs h.1) refl
+
+-- some of the codes are those of some of the characters
+pub part_of_read : (at n : ℕ) (xs : List ℕ) → AreCodes xs → take n (drop at xs) ≡ map code (take n (drop at (filter_map from_code xs)))
+part_of_read at n xs h =
+    let behind : AreCodes (drop at xs) = are_codes_back at xs h in
+    sym (codes_of_read (take n (drop at xs)) (are_codes_front n (drop at xs) behind))
+    ∙ ap (map code) (take-read n (drop at xs) behind ∙ ap (take n) (drop-read at xs h))

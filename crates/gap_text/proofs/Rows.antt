@@ -1,7 +1,7 @@
 -- The cells of a list of blocks as one row.
 use Rattle.std.proofs.Common.{◌/◌, ◌%◌, ⊎_elim, ◌≡◌, ◌≢◌, ℕ, zero, suc, ◌+◌, ◌-◌, ◌*◌, ◌<◌, ◌≤◌, List, [], ◌∷◌, ◌++◌, length, get_or, set, take, drop, flat_map, refl, sym, ap, ◌∙◌, subst, arith, append_assoc, unwrap_or, IsSomeAnd, Option, Some, None}
 use lib.Seq.{paste}
-use Rattle.std.proofs.lemmas.List.{length-append, length-drop, get_or_append_left, get_or-append_right, set-append_left, set-append_right, take-append-le, drop-append-le}
+use Rattle.std.proofs.lemmas.List.{length-append, length-drop, length-take-le, get_or_append_left, get_or-append_right, set-append_left, set-append_right, take-append-le, drop-append-le}
 use Rattle.gap_text.proofs.Gaps.{drop_past, take_past}
 use Rattle.text_pool.specs.Pool.{Pooled, cells_at, cells, IsLive, live, SameOthers}
 use Rattle.std.proofs.lemmas.Bool.{cases_eq}
@@ -125,6 +125,21 @@ read_row pool blocks place block h live =
     let range : place < 256 * length blocks = h.range in
     get_or-row pool blocks (place / 256) (place % 256) place block live (omega arith) (omega arith) (omega arith)
     ∙ ap (λ b. get_or (cells pool b) (place % 256) 0) (sym h.is)
+
+-- a part of the block that has a place, from there on
+pub lent_row : (pool : Pooled) (blocks found : List ℕ) (place block n : ℕ) → Holds blocks place block → AllLive pool blocks → place % 256 + n ≤ 256
+    → found ≡ cells pool block
+    → take n (drop (place % 256) found) ≡ take (length (take n (drop (place % 256) found))) (drop place (cells_of pool blocks))
+lent_row pool blocks found place block n h live fits is =
+    let range : place < 256 * length blocks = h.range in
+    let full : length (cells pool block) ≡ 256 = length_live pool block (block_live pool blocks place block h live) in
+    let same : length found ≡ 256 = ap length is ∙ full in
+    let left : length (drop (place % 256) found) ≡ length found - place % 256 = length-drop (place % 256) found in
+    let size : length (take n (drop (place % 256) found)) ≡ n = length-take-le n (drop (place % 256) found) (omega arith) in
+    rw size
+    (sym (part-row pool blocks (place / 256) (place % 256) place n block live (omega arith) (omega arith) (omega arith)
+    ∙ ap (λ b. take n (drop (place % 256) (cells pool b))) (sym h.is)
+    ∙ ap (λ xs. take n (drop (place % 256) xs)) (sym is)))
 
 pub absent_differs : (blocks : List ℕ) (place block number : ℕ) → Holds blocks place block → Absent number blocks → number ≢ block
 absent_differs blocks place block number h a e =

@@ -10,8 +10,8 @@ use Rattle.text_pool.specs.Pool.{Pooled}
 use Rattle.gap_text.specs.Blocks.{cells_of, IsRow}
 use Rattle.gap_text.specs.Text.{Gapped, without_gap, codes, characters, AreCodes, LiesIn, IsGapped}
 use Rattle.gap_text.proofs.Rows.{length_row}
-use Rattle.gap_text.proofs.Gaps.{gap_widens}
-use Rattle.gap_text.proofs.Readings.{length-read, take-read, drop-read, filter_map-code, are_codes_then, are_codes_front, are_codes_back, are_codes_of}
+use Rattle.gap_text.proofs.Gaps.{gap_widens, part_before_gap, rest_behind_gap}
+use Rattle.gap_text.proofs.Readings.{length-read, take-read, drop-read, filter_map-code, are_codes_then, are_codes_front, are_codes_back, are_codes_of, part_of_read}
 
 length-without_gap : (found : List ℕ) (p s : ℕ) → p + s ≤ length found → length (without_gap p s found) + s ≡ length found
 length-without_gap found p s h =
@@ -135,3 +135,20 @@ numbers pool now t is lies gapped = record {
   total = subst (λ (x : Gapped). length (characters pool now) + x.spare ≡ 256 * length x.blocks) (sym is) (length_characters pool now lies);
   row = record { live = (subst (LiesIn pool) (sym is) lies).blocks; distinct = gapped.distinct; countable = gapped.countable };
 }
+
+-- cells that are lent, in front of the gap and behind it
+pub lent_before : (pool : Pooled) (text : Gapped) (at : ℕ) (found : List ℕ) → LiesIn pool text → at + length found ≤ text.gap
+    → found ≡ take (length found) (drop at (cells_of pool text.blocks)) → found ≡ map code (take (length found) (drop at (characters pool text)))
+lent_before pool text at found lies k is =
+    let row : length (cells_of pool text.blocks) ≡ 256 * length text.blocks = length_row pool text.blocks lies.blocks in
+    let fits : text.gap + text.spare ≤ 256 * length text.blocks = lies.gap in
+    is ∙ sym (part_before_gap (cells_of pool text.blocks) text.gap text.spare at (length found) (omega arith) k)
+    ∙ part_of_read at (length found) (codes pool text) lies.codes
+
+pub lent_behind : (pool : Pooled) (text : Gapped) (at : ℕ) (found : List ℕ) → LiesIn pool text → text.gap ≤ at
+    → found ≡ take (length found) (drop (at + text.spare) (cells_of pool text.blocks)) → found ≡ map code (take (length found) (drop at (characters pool text)))
+lent_behind pool text at found lies k is =
+    let row : length (cells_of pool text.blocks) ≡ 256 * length text.blocks = length_row pool text.blocks lies.blocks in
+    let fits : text.gap + text.spare ≤ 256 * length text.blocks = lies.gap in
+    is ∙ ap (take (length found)) (sym (rest_behind_gap (cells_of pool text.blocks) text.gap text.spare at (omega arith) k))
+    ∙ part_of_read at (length found) (codes pool text) lies.codes

@@ -19,6 +19,25 @@ pub(crate) fn cell_at(blocks: &[Block], pool: &Pool, place: usize) -> u32
     pool.cell(&blocks[place / CELLS], place % CELLS)
 }
 
+/// The cells from a place on, at most `most`, up to the end of their block.
+pub(crate) fn cells_from<'a>(
+    blocks: &[Block],
+    pool: &'a Pool,
+    place: usize,
+    most: usize,
+) -> &'a [u32]
+    requires live { AllLive pool.now blocks.now }
+    requires range { place < 256 * length blocks.now }
+    ensures within { length result.now ≤ most }
+    ensures some { 0 < most → 0 < length result.now }
+    ensures cells { result.now ≡
+        take (length result.now) (drop place (cells_of pool.now blocks.now)) }
+{
+    let first = place % CELLS;
+    let end = CELLS.min(first.saturating_add(most));
+    &pool.cells(&blocks[place / CELLS])[first..end]
+}
+
 /// Sets the cell at a place, and no other.
 pub(crate) fn set_cell_at(blocks: &[Block], pool: &mut Pool, place: usize, value: u32)
     requires row { IsRow pool.old blocks.now }

@@ -1,6 +1,6 @@
 //! A text, and its calls.
 ghost use Rattle.std.specs.Prelude.{◌≡◌, ◌+◌, ◌*◌, ◌<◌, ◌≤◌, [], ◌++◌, length, take, drop, IfOk};
-ghost use Rattle.std.specs.Prelude.{OnOk, OnErr, IsOk, slice_index, slice_get, Some, None};
+ghost use Rattle.std.specs.Prelude.{OnOk, OnErr, IsOk, slice_index, slice_get, Some, None, map};
 ghost use Rattle.text_model.specs.Characters.{IsCharacter, code};
 ghost use Rattle.ek_types.specs.Seen.{ch_of};
 ghost use Rattle.text_pool.specs.Pool.{Pooled, live};
@@ -9,7 +9,7 @@ ghost use Rattle.gap_text.specs.Blocks.{ChangesCellsOf};
 ghost use Rattle.gap_text.specs.Text.{Gapped, codes, characters, LiesIn};
 
 use crate::growth::{blocks_wanted, insert_blocks, make_room};
-use crate::row::{cell_at, move_gap, set_cell_at, write};
+use crate::row::{cell_at, cells_from, move_gap, set_cell_at, write};
 use ek_types::{Ch, Chars, Mem};
 use std::alloc::Global;
 use std::marker::Model;
@@ -94,6 +94,23 @@ impl Text {
         match Ch::from_code(self.code_at(pool, i)) {
             Some(c) => c,
             None => unreachable!(),
+        }
+    }
+
+    /// The codes of some characters from character `at` on, counted from 0: of one at least, and of no more than stand side
+    /// by side in one block. They are lent.
+    pub fn stretch<'a>(&self, pool: &'a Pool, at: usize) -> &'a [u32]
+        requires lies { LiesIn pool.now self.now }
+        requires range { at < length (characters pool.now self.now) }
+        ensures some { 0 < length result.now }
+        ensures codes { result.now ≡
+            map code (take (length result.now) (drop at (characters pool.now self.now))) }
+    {
+        if at < self.gap {
+            cells_from(&self.blocks, pool, at, self.gap - at)
+        } else {
+            let behind = self.len() - at;
+            cells_from(&self.blocks, pool, at + self.spare, behind)
         }
     }
 

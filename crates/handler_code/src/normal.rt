@@ -33,7 +33,7 @@ fn normal_value(value: &Value) -> Mem<Value>
 pub(crate) fn normal_values(values: &Values) -> Mem<Values>
     ensures { IfOk result (λ vs. map view (items_of vs) ≡ map normal (map view (items_of values.now))) }
 {
-    let mut copies = ListOf::new(values.allocator());
+    let mut copies = ListOf::with_room(values.allocator(), values.len())?;
     for i in 0..values.len() {
         copies.push(normal_value(values.at(i))?)?;
     }

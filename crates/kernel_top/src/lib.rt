@@ -16,6 +16,3 @@ pub use drilling::drill;
 pub use status::Status;
 pub use top::run;
 pub use words::drill_of;
-
-#[cfg(test)]
-mod tests;

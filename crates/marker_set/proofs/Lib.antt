@@ -3,6 +3,7 @@ pub mod BlockLemmas
 pub mod HomeLemmas
 pub mod LooseLemmas
 pub mod MoveLemmas
+pub mod PushLemmas
 pub mod StepLemmas
 pub mod LeftLemmas
 pub mod Counting

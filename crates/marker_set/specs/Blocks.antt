@@ -1,5 +1,6 @@
 -- What is seen of a part: its markers, each in a cell, at their places.
 use Rattle.std.specs.Prelude.{◌≡◌, ℕ, ◌+◌, ◌-◌, ◌≤◌, ◌<◌, Bool, ◌==◌, ◌||◌, if◌then◌else◌, List, length, map, All, Option, Some, None, option_map, slice_index_or, slice_set}
+use Rattle.text_model.specs.Places.{after_insert}
 use Rattle.text_model.specs.Marks.{Spot}
 use Rattle.marker_set.specs.Changes.{move_of, all_of, CanMove}
 use Rattle.marker_set.specs.declared.cell.Cell.{Cell}
@@ -44,6 +45,14 @@ moved_cell change advances c = record { number = c.number; place = move_of chang
 -- the same, its place counted from one offset before and from another behind that
 abbrev pub rebased : (from to : ℕ) → (advances : Bool) → Change → Cell → Cell
 rebased from to advances change c = record { number = c.number; place = move_of change (advances || all_of change) (from + c.place) - to }
+
+-- the same, among cells whose offset stays as text is put in
+abbrev pub pushed : (at n : ℕ) → (advances : Bool) → Cell → Cell
+pushed at n advances c = record { number = c.number; place = after_insert at n advances c.place }
+
+abbrev pub CanPush : (n : ℕ) → Option Cell → Type 0
+CanPush n None = Unit {0}
+CanPush n (Some c) = n + c.place ≤ 0xffff_ffff_ffff_ffff
 
 abbrev pub moved_block : (buffer : ℕ) → Change → Block → Block
 moved_block buffer change b = if b.buffer == buffer then record b { cells = map (option_map (moved_cell change b.advances)) b.cells } else b

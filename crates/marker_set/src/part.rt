@@ -5,14 +5,14 @@ ghost use Rattle.std.specs.Prelude.{OnOk, IfSome, MatchOption, [], ◌++◌};
 ghost use Rattle.marker_set.specs.Changes.{move_of, CanMove};
 ghost use Rattle.marker_set.specs.Blocks.{IsFree, cell_at, owner_of, spot_in, moved_cell};
 ghost use Rattle.marker_set.specs.Blocks.{moved_block, placed, rebased, CanMoveCell, Lies};
-ghost use Rattle.marker_set.specs.Blocks.{LiesFrom, Taken};
+ghost use Rattle.marker_set.specs.Blocks.{LiesFrom, Taken, pushed, CanPush};
 ghost use Rattle.marker_set.specs.Numbered.{spot_of};
 ghost use Rattle.marker_set.specs.Search.{found_in};
 
 use crate::cell::Cell;
 use crate::change::Change;
 use crate::search::found_cells;
-use ek_types::Mem;
+use ek_types::{Mem, place_after_insert};
 use std::alloc::Global;
 use std::marker::Model;
 
@@ -419,8 +419,56 @@ fn move_cells(
         to ≤ move_of change advances place }
     ensures { cells.new ≡ map (option_map (rebased from to advances change)) cells.old }
 {
+    match change {
+        Change::Insertion { at, n, all } if to == from && from <= at => {
+            push_cells(cells, at - from, n, advances || all);
+        }
+        _ => move_each(cells, from, to, least, most, advances, change),
+    }
+}
+
+/// The same for any change, one marker after the other.
+fn move_each(
+    cells: &mut [Option<Cell>],
+    from: usize,
+    to: usize,
+    least: usize,
+    most: usize,
+    advances: bool,
+    change: Change,
+)
+    requires lie { All (Lies from least most) cells.old }
+    requires can { All (CanMoveCell change) (map (option_map (placed from)) cells.old) }
+    requires to { (advances : Bool) (place : ℕ) → least ≤ place → CanMove change place →
+        to ≤ move_of change advances place }
+    ensures { cells.new ≡ map (option_map (rebased from to advances change)) cells.old }
+{
     for cell in cells.iter_mut() {
         *cell = moved(*cell, from, to, least, most, advances, change);
+    }
+}
+
+/// Text is put in among the markers of cells, which keep their offset.
+fn push_cells(cells: &mut [Option<Cell>], at: usize, n: usize, advances: bool)
+    requires { All (CanPush n) cells.old }
+    ensures { cells.new ≡ map (option_map (pushed at n advances)) cells.old }
+{
+    for cell in cells.iter_mut() {
+        *cell = pushed(*cell, at, n, advances);
+    }
+}
+
+/// A marker among which text is put in.
+fn pushed(cell: Option<Cell>, at: usize, n: usize, advances: bool) -> Option<Cell>
+    requires { CanPush n cell }
+    ensures { result ≡ option_map (pushed at n advances) cell }
+{
+    match cell {
+        Some(kept) => Some(Cell {
+            number: kept.number,
+            place: place_after_insert(at, n, advances, kept.place),
+        }),
+        None => None,
     }
 }
 

@@ -1,5 +1,7 @@
 -- Bytes of ASCII are characters by themselves.
-use Rattle.std.proofs.Common.{◌≡◌, ℕ, ◌<◌, List, [], ◌∷◌, ◌++◌, true, map, refl, ap, ◌∙◌, append-nil, arith}
+use Rattle.std.proofs.Common.{◌≡◌, ℕ, zero, suc, ◌<◌, List, [], ◌∷◌, ◌++◌, Bool, true, false, map, refl, sym, ap, ◌∙◌, append-nil, arith}
+use Rattle.std.specs.Prelude.{MatchBool}
+use Rattle.std.specs.Str.{IsAscii, IsNotAscii}
 use Rattle.std.specs.List.{list_all}
 use Rattle.std.proofs.lemmas.Bool.{and_parts}
 use Rattle.std.proofs.lemmas.Bool.Decides.{nat_tests}
@@ -27,5 +29,25 @@ ascii_tail (b ∷ x) all =
 pub ascii_all : (x : List ℕ) → list_all is_ascii x ≡ true → all_characters x ≡ map Scalar x
 ascii_all x all = rw (ascii_characters x all, ascii_tail x all) (append-nil (map Scalar x))
 
-pub ascii_put : (old ready new : List Ch) (run : List ℕ) → list_all is_ascii run ≡ true → ready ≡ old → new ≡ ready ++ map Scalar run → new ≡ old ++ all_characters run
-ascii_put old ready new run all r e = rw (e, r, ascii_all run all) refl
+pub ascii_put : (old new : List Ch) (run : List ℕ) → list_all is_ascii run ≡ true → new ≡ old ++ map Scalar run → new ≡ old ++ all_characters run
+ascii_put old new run all e = rw (e, ascii_all run all) refl
+
+-- A TEST OF ALL BYTES AT ONCE
+all_low : (x : List ℕ) → IsAscii x → list_all is_ascii x ≡ true
+all_low [] low = refl
+all_low (b ∷ x) low =
+    let first : is_ascii b ≡ true = grind (arith, nat_tests, low 0) in
+    rw (first, all_low x (λ i. low (suc i))) refl
+
+none_high : (x : List ℕ) → list_all is_ascii x ≡ true → IsAscii x
+none_high [] all i = omega arith
+none_high (b ∷ x) all zero = low b (and_parts (is_ascii b) (list_all is_ascii x) all).0
+none_high (b ∷ x) all (suc i) = none_high x (and_parts (is_ascii b) (list_all is_ascii x) all).1 i
+
+pub ascii_test : (x : List ℕ) (t : Bool) → MatchBool t (IsAscii x) (IsNotAscii x) → t ≡ list_all is_ascii x
+ascii_test x true low = sym (all_low x low)
+ascii_test x false (i, high) = by_test (list_all is_ascii x) refl
+  where
+    by_test : (t : Bool) → list_all is_ascii x ≡ t → false ≡ list_all is_ascii x
+    by_test true e = let low = none_high x e i in absurd (omega (arith, high, low))
+    by_test false e = sym e

@@ -1,12 +1,26 @@
 -- The quote that ends a string in which nothing is escaped.
 use Rattle.std.proofs.Common.{◌≡◌, ℕ, ◌+◌, ◌≤◌, ◌==◌, List, [], ◌∷◌, Bool, true, false, cond, length, drop, refl, sym, ap, ◌∙◌, Some, arith}
 use Rattle.std.specs.List.{prefix_len}
+use Rattle.std.specs.Prelude.{Option, None, unwrap_or, not}
+use Rattle.std.proofs.lemmas.List.Sums.{prefix_len_is}
+use Rattle.memchr.specs.Find.{IsFirstByte, is_byte2}
 use Rattle.std.proofs.Math.Numerals.{one-add}
 use Rattle.std.proofs.lemmas.Bool.{false≢true}
 use Rattle.plain_machine.specs.Words.{begins_with, is_plain_byte}
 use Rattle.script_read.specs.Lexing.{closing_from}
 use Rattle.script_read.proofs.Fronts.{begins_within}
 use Rattle.script_read.proofs.Insides.{plain_byte}
+
+-- A SEARCH FOR A QUOTE OR A BACKSLASH
+not_where : (t : Bool) → (t ≡ true → ⊥) → not t ≡ true
+not_where true never = absurd (never refl)
+not_where false never = refl
+
+pub plain_front : (bytes : List ℕ) (found : Option ℕ) → IsFirstByte (is_byte2 34 92) bytes found → unwrap_or found (length bytes) ≡ prefix_len is_plain_byte bytes
+plain_front bytes None h = sym (prefix_len_is is_plain_byte bytes (length bytes) 0 (omega arith) (λ k less. not_where _ (h k (omega arith) less)) (λ less. absurd (omega (arith, less))))
+plain_front bytes (Some n) h =
+    let first = h.0 in
+    sym (prefix_len_is is_plain_byte bytes n 0 (omega (arith, first.high)) (λ k less. not_where _ (first.before k (omega arith) less)) (λ less. ap not h.1))
 
 one_behind : (m c : ℕ) (bytes : List ℕ) → begins_with (λ c. c == 34) (drop m bytes) ≡ begins_with (λ c. c == 34) (drop (1 + m) (c ∷ bytes))
 one_behind m c bytes = rw one-add refl

@@ -132,6 +132,14 @@ impl Pool {
         self.blocks[block.number][i]
     }
 
+    /// The cells of a block that is live in this pool.
+    pub fn cells(&self, block: &Block) -> &[u32; CELLS]
+        requires { IsLive self.now block.now }
+        ensures { result.now ≡ cells self.now block.now }
+    {
+        &self.blocks[block.number]
+    }
+
     /// Sets cell `i` of a block that is live in this pool, counted from 0 and below 256, and no other cell.
     pub fn set_cell(&mut self, block: &Block, i: usize, value: u32)
         requires live { IsLive self.old block.now }

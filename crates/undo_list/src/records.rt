@@ -22,6 +22,9 @@ const MAX_RECORDS: usize = 65_536;
 /// The most characters of deleted text that are kept.
 const MAX_CHARACTERS: u128 = 1_048_576;
 
+/// How many records a change of a text adds where it moves no markers.
+const ADDED: usize = 3;
+
 /// A record with its serial number.
 #[derive(Drop)]
 pub struct Entry {
@@ -219,7 +222,8 @@ impl Records {
         ensures { IfOk result (λ copy. copy.entries ≡ self.now.entries) }
     {
         let mut entries = VecDeque::new(*self.entries.allocator());
-        entries.reserve(self.entries.len())?;
+        // A copy is made to be added to, and a full list that grows would be moved to twice the room.
+        entries.reserve(self.entries.len().saturating_add(ADDED))?;
         for i in 0..self.entries.len() {
             let entry = &self.entries[i];
             entries.push_back(Entry {

@@ -139,8 +139,8 @@ fn at(alloc: Global, words: &[Word], position: i64) -> Mem<Vec<Word>> {
 fn last_said(editor: &mut Editor, calls: &[(Prim, &[Word])], position: i64) -> Mem<String> {
     let alloc = editor.allocator();
     let mut last = String::new(alloc);
-    for (prim, words) in calls {
-        last = said(editor, *prim, at(alloc, words, position)?.as_slice())?;
+    for call in calls {
+        last = said_at(editor, call.0, call.1, position)?;
         if last.starts_with('!') {
             return Ok(String::from_str(alloc, "!")?);
         }
@@ -148,25 +148,44 @@ fn last_said(editor: &mut Editor, calls: &[(Prim, &[Word])], position: i64) -> M
     Ok(last)
 }
 
-fn tried(rt: &impl Abort, alloc: Global, calls: &[(Prim, &[Word])], position: i64) -> String {
+fn said_at(editor: &mut Editor, prim: Prim, words: &[Word], position: i64) -> Mem<String> {
+    let words = at(editor.allocator(), words, position)?;
+    said(editor, prim, words.as_slice())
+}
+
+fn set_up(rt: &impl Abort, alloc: Global) -> Editor {
     let mut editor = Editor::new(alloc).expect(rt, "an editor");
-    for (prim, words) in &SETTING {
-        said(&mut editor, *prim, words).expect(rt, "a setting");
+    for call in &SETTING {
+        said(&mut editor, call.0, call.1).expect(rt, "a setting");
     }
+    editor
+}
+
+fn tried(rt: &impl Abort, alloc: Global, calls: &[(Prim, &[Word])], position: i64) -> String {
+    let mut editor = set_up(rt, alloc);
     let found = last_said(&mut editor, calls, position).expect(rt, "memory");
     editor.close();
     found
 }
 
+/// What these calls reply at each position, one behind the other.
+fn replies(rt: &impl Abort, alloc: Global, calls: &[(Prim, &[Word])]) -> String {
+    let mut found = String::new(alloc);
+    for position in 0..9 {
+        let reply = tried(rt, alloc, calls, position);
+        found.push_str(reply.as_str()).expect(rt, "room");
+        found.push_str("|").expect(rt, "room");
+    }
+    found
+}
+
+fn check_trial(rt: &impl Abort, alloc: Global, trial: &Trial) {
+    assert_eq!(rt; replies(rt, alloc, trial.0).as_str(), trial.1);
+}
+
 #[test]
 fn positions_around_each_bound(rt: HostRuntime) {
-    for (calls, expected) in &TRIALS {
-        let mut found = String::new(rt.alloc());
-        for position in 0..9 {
-            let reply = tried(&rt, rt.alloc(), calls, position);
-            found.push_str(reply.as_str()).expect(&rt, "room");
-            found.push_str("|").expect(&rt, "room");
-        }
-        assert_eq!(&rt; found.as_str(), *expected);
+    for trial in &TRIALS {
+        check_trial(&rt, rt.alloc(), trial);
     }
 }

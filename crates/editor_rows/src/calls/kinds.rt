@@ -161,6 +161,22 @@ fn arguments(alloc: Global, places: &[Place], tried: usize, sample: usize) -> Me
     Ok(args)
 }
 
+/// An editor with the objects among the samples.
+fn set_up(rt: &impl Abort, alloc: Global) -> Editor {
+    let mut editor = Editor::new(alloc).expect(rt, "an editor");
+    for call in &SETTING {
+        said(&mut editor, call.0, call.1).expect(rt, "an object");
+    }
+    editor
+}
+
+fn fault_of(reply: Reply) -> Option<Fault> {
+    match reply {
+        Reply::Fault(fault) => Some(fault),
+        Reply::Value(_) => None,
+    }
+}
+
 /// Why a call is refused where a sample stands in one of its places.
 fn refused(
     rt: &impl Abort,
@@ -170,33 +186,33 @@ fn refused(
     i: usize,
     sample: usize,
 ) -> Option<Fault> {
-    let mut editor = Editor::new(alloc).expect(rt, "an editor");
-    for (made, words) in &SETTING {
-        said(&mut editor, *made, words).expect(rt, "an object");
-    }
     let args = arguments(alloc, places, i, sample).expect(rt, "arguments");
+    let mut editor = set_up(rt, alloc);
     let reply = reply(&mut editor, prim, &args).expect(rt, "a reply");
     editor.close();
-    match reply {
-        Reply::Fault(fault) => Some(fault),
-        Reply::Value(_) => None,
+    fault_of(reply)
+}
+
+/// A place of a call takes the samples of its kinds, and refuses the others as of a wrong type.
+fn check_kinds(rt: &impl Abort, alloc: Global, prim: Prim, places: &[Place], i: usize) {
+    let place = places.get(i).copied().unwrap_or(ANY);
+    for sample in 0..KINDS {
+        let fault = refused(rt, alloc, prim, places, i, sample);
+        let wrong = fault == Some(Fault::WrongType);
+        assert_eq!(rt;
+            wrong,
+            !place.contains(&sample),
+            "{prim:?}, {sample} in place {i}"
+        );
     }
 }
 
 /// Each call, with a sample of each kind in each of its places.
 #[test]
 fn kinds_of_arguments(rt: HostRuntime) {
-    for (prim, places) in &CALLS {
-        for (i, place) in places.iter().enumerate() {
-            for sample in 0..KINDS {
-                let fault = refused(&rt, rt.alloc(), *prim, places, i, sample);
-                let wrong = fault == Some(Fault::WrongType);
-                assert_eq!(&rt;
-                    wrong,
-                    !place.contains(&sample),
-                    "{prim:?}, {sample} in place {i}"
-                );
-            }
+    for call in &CALLS {
+        for i in 0..call.1.len() {
+            check_kinds(&rt, rt.alloc(), call.0, call.1, i);
         }
     }
 }
@@ -223,15 +239,21 @@ fn dead(prim: Prim, place: Place) -> &'static [(usize, Fault)] {
     }
 }
 
+/// A place of a call refuses what isn't there any more by its fault.
+fn check_dead(rt: &impl Abort, alloc: Global, prim: Prim, places: &[Place], i: usize) {
+    let place = places.get(i).copied().unwrap_or(ANY);
+    for gone in dead(prim, place) {
+        let found = refused(rt, alloc, prim, places, i, gone.0);
+        assert_eq!(rt; found, Some(gone.1), "{prim:?}, place {i}");
+    }
+}
+
 /// Each call, with a marker that points nowhere as a position, and with a buffer that isn't there.
 #[test]
 fn objects_that_are_not_there(rt: HostRuntime) {
-    for (prim, places) in &CALLS {
-        for (i, place) in places.iter().enumerate() {
-            for (sample, fault) in dead(*prim, place) {
-                let found = refused(&rt, rt.alloc(), *prim, places, i, *sample);
-                assert_eq!(&rt; found, Some(*fault), "{prim:?}, place {i}");
-            }
+    for call in &CALLS {
+        for i in 0..call.1.len() {
+            check_dead(&rt, rt.alloc(), call.0, call.1, i);
         }
     }
 }

@@ -3,12 +3,12 @@
 use super::playing::{make, reply};
 use super::words::Word::*;
 use super::words::{Word, arguments, chars};
+use crate::checking::is;
 use buffer_table::Editor;
 use editor_prims::prepare;
 use ek_call::Prim::*;
 use ek_call::{Fault, Prim, Reply, Value, Values};
 use ek_types::Piece;
-use std::alloc::Global;
 use std::process::Abort;
 
 /// The longest string that is made from a buffer.
@@ -47,16 +47,30 @@ fn refused_name(rt: &impl Abort, editor: &mut Editor, prim: Prim, length: usize)
     fault_of(reply(editor, prim, &args).expect(rt, "a reply"))
 }
 
+/// A name of 256 letters is taken, and a longer one isn't.
+fn check_name(rt: &impl Abort, editor: &mut Editor, prim: Prim) {
+    assert_eq!(rt; refused_name(rt, editor, prim, 256), None, "{prim:?}");
+    let longer = refused_name(rt, editor, prim, 257);
+    assert_eq!(rt; longer, Some(Fault::TooMany), "{prim:?}");
+}
+
+/// A call is one too many.
+fn too_many(rt: &impl Abort, editor: &mut Editor, prim: Prim, words: &[Word]) {
+    assert_eq!(rt;
+        refused(rt, editor, prim, words),
+        Some(Fault::TooMany),
+        "{prim:?}"
+    );
+}
+
 /// The second name of 256 letters gets a number and is longer than that.
 #[test]
 fn names(rt: HostRuntime) {
     let mut editor = Editor::new(rt.alloc()).expect(&rt, "an editor");
-    for prim in [GetBufferCreate, GenerateNewBuffer, RenameBuffer] {
-        assert_eq!(&rt; refused_name(&rt, &mut editor, prim, 256), None, "{prim:?}");
-        let longer = refused_name(&rt, &mut editor, prim, 257);
-        assert_eq!(&rt; longer, Some(Fault::TooMany), "{prim:?}");
-    }
-    assert_eq!(&rt; refused_name(&rt, &mut editor, GetBuffer, 257), None);
+    check_name(&rt, &mut editor, GetBufferCreate);
+    check_name(&rt, &mut editor, GenerateNewBuffer);
+    check_name(&rt, &mut editor, RenameBuffer);
+    is(&rt, refused_name(&rt, &mut editor, GetBuffer, 257), None);
     editor.close();
 }
 
@@ -67,10 +81,8 @@ fn buffers(rt: HostRuntime) {
     repeat(&rt, &mut editor, 254, GenerateNewBuffer, &[Str("w")]);
     repeat(&rt, &mut editor, 1, KillBuffer, &[Buffer(9)]);
     repeat(&rt, &mut editor, 1, GenerateNewBuffer, &[Str("v")]);
-    for prim in [GenerateNewBuffer, GetBufferCreate] {
-        let more = refused(&rt, &mut editor, prim, &[Str("new")]);
-        assert_eq!(&rt; more, Some(Fault::TooMany), "{prim:?}");
-    }
+    too_many(&rt, &mut editor, GenerateNewBuffer, &[Str("new")]);
+    too_many(&rt, &mut editor, GetBufferCreate, &[Str("new")]);
     repeat(&rt, &mut editor, 1, GetBufferCreate, &[Str("w<254>")]);
     editor.close();
 }
@@ -79,14 +91,12 @@ fn buffers(rt: HostRuntime) {
 fn markers_and_overlays(rt: HostRuntime) {
     let mut editor = Editor::new(rt.alloc()).expect(&rt, "an editor");
     repeat(&rt, &mut editor, 65_536, MakeMarker, &[]);
-    for prim in [MakeMarker, PointMarker, CopyMarker] {
-        let more = refused(&rt, &mut editor, prim, &[]);
-        assert_eq!(&rt; more, Some(Fault::TooMany), "{prim:?}");
-    }
+    too_many(&rt, &mut editor, MakeMarker, &[]);
+    too_many(&rt, &mut editor, PointMarker, &[]);
+    too_many(&rt, &mut editor, CopyMarker, &[]);
     let places = [Int(1), Int(1)];
     repeat(&rt, &mut editor, 65_536, MakeOverlay, &places);
-    let more = refused(&rt, &mut editor, MakeOverlay, &places);
-    assert_eq!(&rt; more, Some(Fault::TooMany));
+    too_many(&rt, &mut editor, MakeOverlay, &places);
     repeat(&rt, &mut editor, 1, DeleteOverlay, &[Overlay(65_535)]);
     repeat(&rt, &mut editor, 1, SetMarker, &[Marker(65_535), Int(1)]);
     editor.close();
@@ -108,39 +118,47 @@ fn strings_made_from_a_buffer(rt: HostRuntime) {
     let exact = [Int(2), Int(STRING + 2)];
     let beyond = [Int(1), Int(STRING + 2)];
     repeat(&rt, &mut editor, 1, BufferSubstring, &exact);
-    for prim in [
-        BufferSubstring,
-        BufferSubstringNoProperties,
-        DeleteAndExtractRegion,
-    ] {
-        let longer = refused(&rt, &mut editor, prim, &beyond);
-        assert_eq!(&rt; longer, Some(Fault::TooMany), "{prim:?}");
-    }
-    assert_eq!(&rt;
-        refused(&rt, &mut editor, BufferString, &[]),
-        Some(Fault::TooMany)
-    );
-    let whole = refused(&rt, &mut editor, InsertBufferSubstring, &[Str("*scratch*")]);
-    assert_eq!(&rt; whole, Some(Fault::TooMany));
+    too_many(&rt, &mut editor, BufferSubstring, &beyond);
+    too_many(&rt, &mut editor, BufferSubstringNoProperties, &beyond);
+    too_many(&rt, &mut editor, DeleteAndExtractRegion, &beyond);
+    too_many(&rt, &mut editor, BufferString, &[]);
+    too_many(&rt, &mut editor, InsertBufferSubstring, &[Str("*scratch*")]);
     repeat(&rt, &mut editor, 1, DeleteAndExtractRegion, &exact);
     repeat(&rt, &mut editor, 1, DeleteRegion, &[Int(1), Int(2)]);
-    assert!(&rt; editor.size(0) == 0);
+    is(&rt, editor.size(0), 0);
     editor.close();
 }
 
-/// A buffer is filled to its limit, and five buffers to theirs. An insertion that no longer has room when it is committed is
-/// refused then.
+/// There is no room for one more letter.
+fn is_full(rt: &impl Abort, editor: &mut Editor) {
+    let fault = refused(rt, editor, Insert, &[Str("x")]);
+    assert_eq!(rt; fault, Some(Fault::BufferFull));
+}
+
+/// An insertion that no longer has room when it is committed is refused then.
+fn fill_meanwhile(rt: &impl Abort, editor: &mut Editor) {
+    let args = arguments(editor.allocator(), &[Str("x")]).expect(rt, "a string");
+    let prepared = prepare(editor, Insert, &args).expect(rt, "a change");
+    repeat(rt, editor, 1, Insert, &[Str("x")]);
+    let late = make(editor, prepared).expect(rt, "a reply");
+    is(rt, fault_of(late), Some(Fault::BufferFull));
+}
+
+/// A new buffer becomes current, and is filled with a part four times.
+fn fill_another(rt: &impl Abort, editor: &mut Editor, name: &'static str, part: &[Word]) {
+    repeat(rt, editor, 1, GetBufferCreate, &[Str(name)]);
+    repeat(rt, editor, 1, SetBuffer, &[Str(name)]);
+    repeat(rt, editor, 4, InsertBufferSubstring, part);
+}
+
+/// A buffer is filled to its limit, and five buffers to theirs.
 #[test]
 fn texts(rt: HostRuntime) {
-    let alloc = rt.alloc();
-    let mut editor = Editor::new(alloc).expect(&rt, "an editor");
+    let mut editor = Editor::new(rt.alloc()).expect(&rt, "an editor");
     fill(&rt, &mut editor);
     let part = [Buffer(0), Int(1), Int(STRING + 1)];
     repeat(&rt, &mut editor, 3, InsertBufferSubstring, &part);
-    assert_eq!(&rt;
-        refused(&rt, &mut editor, Insert, &[Str("x")]),
-        Some(Fault::BufferFull)
-    );
+    is_full(&rt, &mut editor);
     repeat(
         &rt,
         &mut editor,
@@ -148,24 +166,15 @@ fn texts(rt: HostRuntime) {
         DeleteRegion,
         &[Int(TEXT), Int(TEXT + 1)],
     );
-    let args = arguments(alloc, &[Str("x")]).expect(&rt, "a string");
-    let prepared = prepare(&editor, Insert, &args).expect(&rt, "a change");
-    repeat(&rt, &mut editor, 1, Insert, &[Str("x")]);
-    let late = make(&mut editor, prepared).expect(&rt, "a reply");
-    assert_eq!(&rt; fault_of(late), Some(Fault::BufferFull));
-    for name in ["b", "c", "d"] {
-        repeat(&rt, &mut editor, 1, GetBufferCreate, &[Str(name)]);
-        repeat(&rt, &mut editor, 1, SetBuffer, &[Str(name)]);
-        repeat(&rt, &mut editor, 4, InsertBufferSubstring, &part);
-    }
+    fill_meanwhile(&rt, &mut editor);
+    fill_another(&rt, &mut editor, "b", &part);
+    fill_another(&rt, &mut editor, "c", &part);
+    fill_another(&rt, &mut editor, "d", &part);
     repeat(&rt, &mut editor, 1, SetBuffer, &[Buffer(1)]);
     repeat(&rt, &mut editor, 1, DeleteRegion, &[Int(1), Int(2)]);
     repeat(&rt, &mut editor, 1, GetBufferCreate, &[Str("e")]);
     repeat(&rt, &mut editor, 1, SetBuffer, &[Str("e")]);
     repeat(&rt, &mut editor, 1, Insert, &[Str("x")]);
-    assert_eq!(&rt;
-        refused(&rt, &mut editor, Insert, &[Str("x")]),
-        Some(Fault::BufferFull)
-    );
+    is_full(&rt, &mut editor);
     editor.close();
 }

@@ -1,6 +1,6 @@
 //! The insertion of a process's output at its mark, and changes between whose preparation and commit something happens.
 
-use super::playing::{Call, check_calls, make};
+use super::playing::{Call, check_calls, is_said, make};
 use super::shown::shown;
 use super::words::Word::*;
 use super::words::{Word, arguments, chars};
@@ -9,6 +9,7 @@ use editor_prims::{prepare, prepare_output};
 use ek_call::Prim;
 use ek_call::Prim::*;
 use ek_types::Piece;
+use std::alloc::Global;
 use std::process::Abort;
 
 /// Calls in front of an output of two letters in buffer 0 with marker 0 as its mark, and calls behind it.
@@ -108,17 +109,26 @@ const OUTPUTS: [Output; 6] = [
     },
 ];
 
+/// The two letters are put in at the mark.
+fn put_out(rt: &impl Abort, editor: &mut Editor) {
+    let alloc = editor.allocator();
+    let text = Piece::plain(alloc, chars(alloc, "xy").expect(rt, "letters"));
+    let prepared = prepare_output(editor, 0, 0, text);
+    make(editor, prepared).expect(rt, "a commit");
+}
+
+fn check_output(rt: &impl Abort, alloc: Global, row: &Output) {
+    let mut editor = Editor::new(alloc).expect(rt, "an editor");
+    check_calls(rt, &mut editor, row.shows, row.before);
+    put_out(rt, &mut editor);
+    check_calls(rt, &mut editor, row.shows, row.behind);
+    editor.close();
+}
+
 #[test]
 fn outputs(rt: HostRuntime) {
-    let alloc = rt.alloc();
     for row in &OUTPUTS {
-        let mut editor = Editor::new(alloc).expect(&rt, "an editor");
-        check_calls(&rt, &mut editor, row.shows, row.before);
-        let text = Piece::plain(alloc, chars(alloc, "xy").expect(&rt, "letters"));
-        let prepared = prepare_output(&editor, 0, 0, text);
-        make(&mut editor, prepared).expect(&rt, "a commit");
-        check_calls(&rt, &mut editor, row.shows, row.behind);
-        editor.close();
+        check_output(&rt, rt.alloc(), row);
     }
 }
 
@@ -182,20 +192,27 @@ const LATE: [Late; 5] = [
     },
 ];
 
+/// The call is prepared, then the others are made, and then it is committed. Its reply is compared.
+fn commit_late(rt: &impl Abort, editor: &mut Editor, row: &Late) {
+    let args = arguments(editor.allocator(), row.call.1).expect(rt, "arguments");
+    let prepared = prepare(editor, row.call.0, &args).expect(rt, "a change");
+    check_calls(rt, editor, row.shows, row.meanwhile);
+    let reply = make(editor, prepared).expect(rt, "a reply");
+    let found = shown(editor, &reply).expect(rt, "a text");
+    is_said(rt, row.shows, row.call.0, found.as_str(), row.reply);
+}
+
+fn check_late(rt: &impl Abort, alloc: Global, row: &Late) {
+    let mut editor = Editor::new(alloc).expect(rt, "an editor");
+    check_calls(rt, &mut editor, row.shows, row.before);
+    commit_late(rt, &mut editor, row);
+    check_calls(rt, &mut editor, row.shows, row.behind);
+    editor.close();
+}
+
 #[test]
 fn late_commits(rt: HostRuntime) {
-    let alloc = rt.alloc();
     for row in &LATE {
-        let mut editor = Editor::new(alloc).expect(&rt, "an editor");
-        check_calls(&rt, &mut editor, row.shows, row.before);
-        let (prim, words) = row.call;
-        let args = arguments(alloc, words).expect(&rt, "arguments");
-        let prepared = prepare(&editor, prim, &args).expect(&rt, "a change");
-        check_calls(&rt, &mut editor, row.shows, row.meanwhile);
-        let reply = make(&mut editor, prepared).expect(&rt, "a reply");
-        let found = shown(&editor, &reply).expect(&rt, "a text");
-        assert_eq!(&rt; found.as_str(), row.reply, "{}", row.shows);
-        check_calls(&rt, &mut editor, row.shows, row.behind);
-        editor.close();
+        check_late(&rt, rt.alloc(), row);
     }
 }

@@ -71,19 +71,32 @@ pub fn said(editor: &mut Editor, prim: Prim, words: &[Word]) -> Mem<String> {
     shown(editor, &reply)
 }
 
+fn check_call(rt: &impl Abort, editor: &mut Editor, shows: &str, call: &Call) {
+    let found = said(editor, call.0, call.1).expect(rt, "memory");
+    is_said(rt, shows, call.0, found.as_str(), call.2);
+}
+
+/// Compares a reply with that which is expected.
+pub fn is_said(rt: &impl Abort, shows: &str, prim: Prim, found: &str, expected: &str) {
+    assert_eq!(rt; found, expected, "{shows}: {prim:?}");
+}
+
 /// Compares the replies of calls with those that are expected.
 pub fn check_calls(rt: &impl Abort, editor: &mut Editor, shows: &str, calls: &[Call]) {
-    for (prim, words, expected) in calls {
-        let found = said(editor, *prim, words).expect(rt, "memory");
-        assert_eq!(rt; found.as_str(), *expected, "{shows}: {prim:?}");
+    for call in calls {
+        check_call(rt, editor, shows, call);
     }
+}
+
+fn check_row(rt: &impl Abort, alloc: Global, row: &Row) {
+    let mut editor = Editor::new(alloc).expect(rt, "an editor");
+    check_calls(rt, &mut editor, row.shows, row.calls);
+    editor.close();
 }
 
 /// Makes the calls of each row on an editor of its own.
 pub fn check_rows(rt: &impl Abort, alloc: Global, rows: &[Row]) {
     for row in rows {
-        let mut editor = Editor::new(alloc).expect(rt, "an editor");
-        check_calls(rt, &mut editor, row.shows, row.calls);
-        editor.close();
+        check_row(rt, alloc, row);
     }
 }

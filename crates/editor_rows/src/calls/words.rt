@@ -109,12 +109,18 @@ fn set(alloc: Global, words: &[Word]) -> Mem<PropSet> {
     Ok(set)
 }
 
+/// Gives a part of a string the properties of these words, if it is one.
+fn style(alloc: Global, piece: &mut Piece, from: usize, to: usize, words: &[Word]) -> Mem<()> {
+    if from <= to && to <= piece.len() {
+        piece.put(from, to, &set(alloc, words)?)?;
+    }
+    Ok(())
+}
+
 fn styled(alloc: Global, text: &str, runs: &[(usize, usize, &[Word])]) -> Mem<Piece> {
     let mut piece = plain(alloc, text)?;
-    for (from, to, words) in runs {
-        if *from <= *to && *to <= piece.len() {
-            piece.put(*from, *to, &set(alloc, words)?)?;
-        }
+    for run in runs {
+        style(alloc, &mut piece, run.0, run.1, run.2)?;
     }
     Ok(piece)
 }

@@ -1,6 +1,9 @@
 //! Undo records at their limits: 65,536 records, and 1,048,576 deleted characters.
 
 use super::scene::{Scene, letters};
+use crate::checking::is;
+use std::alloc::Global;
+use std::process::Abort;
 
 /// The most records.
 const RECORDS: usize = 65_536;
@@ -16,12 +19,12 @@ fn one_record_beyond_the_limit_empties_a_single_group(rt: HostRuntime) {
     for _ in 1..RECORDS {
         scene.put(&rt, 0, &letter);
     }
-    assert_eq!(&rt; scene.records(), RECORDS);
+    is(&rt, scene.records(), RECORDS);
     scene.put(&rt, 0, &letter);
-    assert_eq!(&rt; scene.records(), 0);
-    assert_eq!(&rt; (scene.is_modified(), scene.size()), (true, RECORDS));
+    is(&rt, scene.records(), 0);
+    is(&rt, (scene.is_modified(), scene.size()), (true, RECORDS));
     scene.start(&rt);
-    assert_eq!(&rt; scene.undo(&rt, 1), false);
+    is(&rt, scene.undo(&rt, 1), false);
     scene.release();
 }
 
@@ -35,37 +38,64 @@ fn one_record_beyond_the_limit_drops_the_oldest_group(rt: HostRuntime) {
     for _ in 3..RECORDS {
         scene.put(&rt, 0, &letter);
     }
-    assert_eq!(&rt; scene.records(), RECORDS);
+    is(&rt, scene.records(), RECORDS);
     scene.put(&rt, 0, &letter);
-    assert_eq!(&rt; scene.records(), RECORDS - 2);
+    is(&rt, scene.records(), RECORDS - 2);
     scene.start(&rt);
-    assert_eq!(&rt; scene.undo(&rt, 1), true);
-    assert_eq!(&rt; (scene.is_modified(), scene.size()), (true, 1));
+    is(&rt, scene.undo(&rt, 1), true);
+    is(&rt, (scene.is_modified(), scene.size()), (true, 1));
     scene.release();
 }
 
 /// Deletions of so many characters each, a boundary between any two, and how many records are left at the end: there are two
 /// for the insertion, a boundary and one for each deletion at the start of the text, with point there.
-const DELETIONS: [(&[usize], usize); 6] = [
-    (&[KEPT], 4),
-    (&[KEPT + 1], 0),
-    (&[KEPT, 1], 1),
-    (&[KEPT / 2, KEPT / 2], 6),
-    (&[KEPT / 2, KEPT / 2, 1], 3),
-    (&[1, KEPT / 2, KEPT / 2], 3),
+struct Deletions {
+    counts: &'static [usize],
+    left: usize,
+}
+
+const DELETIONS: [Deletions; 6] = [
+    Deletions {
+        counts: &[KEPT],
+        left: 4,
+    },
+    Deletions {
+        counts: &[KEPT + 1],
+        left: 0,
+    },
+    Deletions {
+        counts: &[KEPT, 1],
+        left: 1,
+    },
+    Deletions {
+        counts: &[KEPT / 2, KEPT / 2],
+        left: 6,
+    },
+    Deletions {
+        counts: &[KEPT / 2, KEPT / 2, 1],
+        left: 3,
+    },
+    Deletions {
+        counts: &[1, KEPT / 2, KEPT / 2],
+        left: 3,
+    },
 ];
+
+fn check_deletions(rt: &impl Abort, alloc: Global, counts: &[usize], left: usize) {
+    let mut scene = Scene::new(alloc);
+    scene.put(rt, 0, &letters(rt, alloc, KEPT + 1));
+    scene.go(0);
+    for count in counts {
+        scene.boundary(rt);
+        scene.delete(rt, 0, *count);
+    }
+    is(rt, scene.records(), left);
+    scene.release();
+}
 
 #[test]
 fn deleted_characters_at_the_limit(rt: HostRuntime) {
-    for (counts, expected) in &DELETIONS {
-        let mut scene = Scene::new(rt.alloc());
-        scene.put(&rt, 0, &letters(&rt, rt.alloc(), KEPT + 1));
-        scene.go(0);
-        for count in counts.iter() {
-            scene.boundary(&rt);
-            scene.delete(&rt, 0, *count);
-        }
-        assert_eq!(&rt; scene.records(), *expected);
-        scene.release();
+    for deletions in &DELETIONS {
+        check_deletions(&rt, rt.alloc(), deletions.counts, deletions.left);
     }
 }

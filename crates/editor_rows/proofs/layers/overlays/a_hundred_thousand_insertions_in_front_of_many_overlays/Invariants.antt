@@ -1,6 +1,0 @@
-use Rattle.std.proofs.Common.{All, ◌+◌}
-use Rattle.editor_rows.specs.Upto.{EndsUpto}
-use Rattle.editor_rows.proofs.layers.overlays.a_hundred_thousand_insertions_in_front_of_many_overlays.Given as goal
-
-abbrev pub invariant-loop-i : goal.invariant-loop-i
-invariant-loop-i g l = All (EndsUpto (65_536 + l.i)) l.overlays

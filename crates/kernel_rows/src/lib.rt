@@ -1,0 +1,37 @@
+//! Tests alone: whole runs in memory, with their lines and exchanges. All were worked out by hand.
+#![tactic(auto)]
+
+#[cfg(test)]
+mod acting;
+#[cfg(test)]
+mod cuts;
+#[cfg(test)]
+mod drills;
+#[cfg(test)]
+mod edits;
+#[cfg(test)]
+mod filters;
+#[cfg(test)]
+mod hooks;
+#[cfg(test)]
+mod hostile;
+#[cfg(test)]
+mod limits;
+#[cfg(test)]
+mod natives;
+#[cfg(test)]
+mod nesting;
+#[cfg(test)]
+mod playing;
+#[cfg(test)]
+mod reentry;
+#[cfg(test)]
+mod shown;
+#[cfg(test)]
+mod stops;
+#[cfg(test)]
+mod undos;
+#[cfg(test)]
+mod waits;
+#[cfg(test)]
+mod words;

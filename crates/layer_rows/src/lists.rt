@@ -1,0 +1,139 @@
+//! Characters, lists and property sets: each call that takes memory, once with ample memory.
+
+use crate::checking::{holds, is};
+use ek_types::{Ch, Chars, Copied, ListOf, Mem, PropSet, PropVal, Sym};
+use std::alloc::Global;
+use std::process::Abort;
+
+#[test]
+fn a_list_and_its_copy(rt: HostRuntime) {
+    let mut list = ListOf::new(rt.alloc());
+    list.reserve(1).expect(&rt, "memory");
+    list.push_spare(7u32);
+    list.push(9u32).expect(&rt, "memory");
+    let copy = list.copy().expect(&rt, "memory");
+    is(&rt, list.as_slice(), [7u32, 9].as_slice());
+    is(&rt, copy.as_slice(), [7u32, 9].as_slice());
+    is(&rt, copy.len(), 2);
+}
+
+#[test]
+fn characters_behind_others(rt: HostRuntime) {
+    let mut text = Chars::new(rt.alloc());
+    text.extend_bytes(b"a\xe9").expect(&rt, "memory");
+    let mut whole = Chars::new(rt.alloc());
+    whole.extend(&text).expect(&rt, "memory");
+    whole.extend(&text).expect(&rt, "memory");
+    assert_eq!(rt; whole.len(), 4);
+    is(&rt, whole.at(2), Ch::Scalar('a'));
+    is(&rt, whole.at(3), Ch::Scalar('é'));
+}
+
+#[test]
+fn characters_and_their_copy(rt: HostRuntime) {
+    let mut text = Chars::new(rt.alloc());
+    text.reserve(1).expect(&rt, "memory");
+    text.push_spare(Ch::Scalar('€'));
+    text.push(Ch::Raw(0x82)).expect(&rt, "memory");
+    let copy = text.copy().expect(&rt, "memory");
+    assert_eq!(rt; copy.len(), 2);
+    is(&rt, copy.at(0), Ch::Scalar('€'));
+    is(&rt, copy.at(1), Ch::Raw(0x82));
+}
+
+/// The number, where the value is one.
+fn number(value: Option<&PropVal>) -> Option<i64> {
+    match value {
+        Some(PropVal::Int(i)) => Some(*i),
+        _ => None,
+    }
+}
+
+const PRIORITY: Sym = Sym(3);
+
+const FACE: Sym = Sym(14);
+
+/// A face that is given anew behind a priority, copied.
+fn copied_set(alloc: Global) -> Mem<PropSet> {
+    let set = PropSet::empty(alloc).with(FACE, &PropVal::Int(1))?;
+    let set = set.with(PRIORITY, &PropVal::Int(2))?;
+    set.with(FACE, &PropVal::Int(5))?.copy()
+}
+
+#[test]
+fn a_property_given_anew(rt: HostRuntime) {
+    let set = copied_set(rt.alloc()).expect(&rt, "memory");
+    is(&rt, set.len(), 2);
+    is(&rt, number(set.get(PRIORITY)), Some(2));
+    is(&rt, number(set.get(FACE)), Some(5));
+}
+
+#[test]
+fn a_property_taken_away(rt: HostRuntime) {
+    let set = copied_set(rt.alloc())
+        .expect(&rt, "memory")
+        .without(PRIORITY)
+        .expect(&rt, "memory");
+    is(&rt, set.len(), 1);
+    is(&rt, number(set.get(FACE)), Some(5));
+}
+
+#[test]
+fn nil_takes_a_property_away(rt: HostRuntime) {
+    let nil = PropVal::Syms(ListOf::new(rt.alloc()));
+    let set = copied_set(rt.alloc())
+        .expect(&rt, "memory")
+        .with(FACE, &nil)
+        .expect(&rt, "memory");
+    is(&rt, set.len(), 1);
+    is(&rt, number(set.get(PRIORITY)), Some(2));
+}
+
+/// The copy is of the same kind and word.
+fn copies_as_itself(rt: &impl Abort, value: &PropVal) {
+    let copy = value.copy().expect(rt, "memory");
+    let copied = match (value, &copy) {
+        (PropVal::Truth, PropVal::Truth) => true,
+        (PropVal::Int(one), PropVal::Int(other)) => one == other,
+        (PropVal::Sym(one), PropVal::Sym(other)) => one == other,
+        _ => false,
+    };
+    holds(rt, copied);
+}
+
+#[test]
+fn values_of_one_word_and_their_copies(rt: HostRuntime) {
+    copies_as_itself(&rt, &PropVal::Truth);
+    copies_as_itself(&rt, &PropVal::Int(-4));
+    copies_as_itself(&rt, &PropVal::Sym(Sym(8)));
+}
+
+/// The copy of a list of one name.
+fn copied_names(alloc: Global, name: Sym) -> Mem<PropVal> {
+    let mut names = ListOf::new(alloc);
+    names.push(name)?;
+    PropVal::Syms(names).copy()
+}
+
+#[test]
+fn names_and_their_copy(rt: HostRuntime) {
+    let PropVal::Syms(names) = copied_names(rt.alloc(), Sym(14)).expect(&rt, "memory") else {
+        panic!(rt; "the copy of names is of another kind");
+    };
+    is(&rt, names.as_slice(), [Sym(14)].as_slice());
+}
+
+/// The copy of a text of one character.
+fn copied_text(alloc: Global) -> Mem<PropVal> {
+    let mut text = Chars::new(alloc);
+    text.push(Ch::Scalar('a'))?;
+    PropVal::Text(text).copy()
+}
+
+#[test]
+fn a_text_and_its_copy(rt: HostRuntime) {
+    let PropVal::Text(text) = copied_text(rt.alloc()).expect(&rt, "memory") else {
+        panic!(rt; "the copy of a text is of another kind");
+    };
+    is(&rt, text.len(), 1);
+}

@@ -1,0 +1,47 @@
+//! A source and a sink in memory.
+
+use crate::checking::is;
+use ek_types::{MemorySink, MemorySource, Sink, SinkFault, Source, Took, Wrote, put, write_all};
+
+#[test]
+fn a_source_fails_at_its_second_read_and_goes_on(rt: HostRuntime) {
+    let text = b"hello".to_vec(rt.alloc()).expect(&rt, "memory");
+    let fails = vec![in rt.alloc(); 1].expect(&rt, "memory");
+    let mut source = MemorySource::new(text, 2, fails);
+    let mut room = [0u8; 4];
+    is(&rt, source.read(&mut room), Took::Bytes(2));
+    is(&rt, room.as_slice(), b"he\0\0".as_slice());
+    is(&rt, source.read(&mut room), Took::Failed);
+    is(&rt, source.read(&mut room), Took::Bytes(2));
+    is(&rt, source.read(&mut room[..1]), Took::Bytes(1));
+    is(&rt, room.as_slice(), b"ol\0\0".as_slice());
+    is(&rt, source.read(&mut room), Took::End);
+}
+
+#[test]
+fn a_sink_of_one_byte_a_call_that_fails_at_call_3_holds_buf(rt: HostRuntime) {
+    let fails = vec![in rt.alloc(); 3].expect(&rt, "memory");
+    let Ok(mut sink) = MemorySink::new(rt.alloc(), 100, 1, fails) else {
+        panic!(rt; "no memory");
+    };
+    is(
+        &rt,
+        write_all(&mut sink, b"buffer *scratch*"),
+        Err(SinkFault),
+    );
+    is(&rt, sink.bytes(), b"buf".as_slice());
+    is(&rt, put(Err(SinkFault), &mut sink, b"more"), Err(SinkFault));
+    is(&rt, sink.bytes(), b"buf".as_slice());
+    is(&rt, put(Ok(()), &mut sink, b"fer"), Ok(()));
+    is(&rt, sink.bytes(), b"buffer".as_slice());
+}
+
+#[test]
+fn a_full_sink_fails(rt: HostRuntime) {
+    let Ok(mut sink) = MemorySink::new(rt.alloc(), 2, 7, Vec::new(rt.alloc())) else {
+        panic!(rt; "no memory");
+    };
+    is(&rt, sink.write(b"abc"), Wrote::Bytes(2));
+    is(&rt, sink.write(b"c"), Wrote::Failed);
+    is(&rt, sink.bytes(), b"ab".as_slice());
+}

@@ -1,0 +1,150 @@
+//! What is entered for answers: ends of all kinds, tails that are held when the output ends, and handlers set meanwhile.
+ghost use Rattle.std.specs.Prelude.{◌≡◌, ◌<◌, ◌≤◌, [], length};
+ghost use Rattle.handler_run.specs.Answers.{IsRead};
+
+use super::processes::one;
+use crate::checking::{holds, is};
+use ek_call::{Value, Values};
+use ek_types::{Ch, Sym};
+use handler_run::{Entry, ended, enter, ready};
+use host_link::{Ended, Got};
+use process_table::{Filter, Processes, Status};
+use std::alloc::Global;
+use std::process::Abort;
+
+/// What is entered for the answer to a read.
+fn read(rt: &impl Abort, alloc: Global, table: &mut Processes, got: Got, bytes: &[u8]) -> Entry
+    requires made { 0 < length table.old }
+    requires read { IsRead got bytes.now }
+    ensures { length table.new ≡ length table.old }
+{
+    let process = table.get(0);
+    assert!(rt; !process.drained());
+    let slot = ready(alloc, process).expect(rt, "room");
+    enter(table, 0, slot, &got, bytes)
+}
+
+/// What is entered for the answer about the end.
+fn end(rt: &impl Abort, alloc: Global, table: &mut Processes, how: Ended) -> Entry
+    requires { 0 < length table.old }
+    ensures { length table.new ≡ length table.old }
+{
+    let slot = ready(alloc, table.get(0)).expect(rt, "room");
+    ended(table, 0, slot, &how)
+}
+
+/// The arguments are process 0 and these characters.
+fn are_arguments(rt: &impl Abort, args: &Values, text: &[Ch]) {
+    assert_eq!(rt; args.len(), 2);
+    match (args.at(0), args.at(1)) {
+        (Value::Process(p), Value::Str(given)) => {
+            assert_eq!(rt; *p, 0);
+            assert_eq!(rt; given.len(), text.len());
+            for i in 0..given.len() {
+                assert_eq!(rt; given.ch(i), text[i]);
+            }
+        }
+        _ => panic!(rt; "a process and a text"),
+    }
+}
+
+/// The filter of this name is entered with these characters.
+fn is_filter(rt: &impl Abort, entry: &Entry, name: Option<Sym>, text: &[Ch]) {
+    match entry {
+        Entry::Filter(handler, args) => {
+            assert_eq!(rt; *handler, name);
+            are_arguments(rt, args, text);
+        }
+        _ => panic!(rt; "a filter"),
+    }
+}
+
+fn is_none(entry: &Entry) -> bool {
+    match entry {
+        Entry::None => true,
+        _ => false,
+    }
+}
+
+/// A part of a character that is held comes out as raw bytes when the output ends in this way.
+fn held_tail(rt: &impl Abort, alloc: Global, tail: &[u8], raw: &[Ch], how: Got)
+    requires short { (1 ≤ length tail.now) × (length tail.now ≤ 3) }
+    requires over { IsRead how [] }
+{
+    let mut table = one(rt, alloc);
+    let entry = read(rt, alloc, &mut table, Got::Bytes(tail.len()), tail);
+    assert!(rt; is_none(&entry));
+    let entry = read(rt, alloc, &mut table, how, &[]);
+    is_filter(rt, &entry, None, raw);
+    assert!(rt; table.get(0).drained());
+    assert!(rt; table.get(0).held().is_empty());
+}
+
+#[test]
+fn tails_held_at_the_end_of_output(rt: HostRuntime) {
+    let alloc = rt.alloc();
+    let raw = [Ch::Raw(0xF0), Ch::Raw(0x9F), Ch::Raw(0x98)];
+    held_tail(&rt, alloc, b"\xF0\x9F\x98", &raw, Got::End);
+    held_tail(&rt, alloc, b"\xF0\x9F\x98", &raw, Got::Failed);
+    held_tail(&rt, alloc, b"\xF0\x9F", &raw[..2], Got::End);
+    held_tail(&rt, alloc, b"\xF0", &raw[..1], Got::Failed);
+}
+
+#[test]
+fn the_filter_set_now_hears_a_character_cut_in_two(rt: HostRuntime) {
+    let alloc = rt.alloc();
+    let mut table = one(&rt, alloc);
+    let entry = read(&rt, alloc, &mut table, Got::Bytes(3), b"a\xE2\x82");
+    is_filter(&rt, &entry, None, &[Ch::Scalar('a')]);
+    table.set_filter(0, Filter::Named(Sym(30)));
+    holds(
+        &rt,
+        is_none(&read(&rt, alloc, &mut table, Got::Nothing, &[])),
+    );
+    let entry = read(&rt, alloc, &mut table, Got::Bytes(1), b"\xAC");
+    is_filter(&rt, &entry, Some(Sym(30)), &[Ch::Scalar('€')]);
+}
+
+/// The sentinel is told this of an end, and the process has this status then.
+fn is_told(rt: &impl Abort, alloc: Global, how: Ended, text: &[u8], status: Status) {
+    let mut table = one(rt, alloc);
+    table.set_sentinel(0, Some(Sym(31)));
+    let mut told = Vec::new(alloc);
+    for byte in text {
+        told.push(Ch::Scalar(char::from(*byte)))
+            .expect(rt, "a character");
+    }
+    match end(rt, alloc, &mut table, how) {
+        Entry::Sentinel(handler, args) => {
+            assert_eq!(rt; handler, Some(Sym(31)));
+            are_arguments(rt, &args, told.as_slice());
+        }
+        _ => panic!(rt; "a sentinel"),
+    }
+    assert_eq!(rt; table.get(0).status(), status);
+}
+
+#[test]
+fn ends_of_all_kinds(rt: HostRuntime) {
+    let alloc = rt.alloc();
+    is_told(&rt, alloc, Ended::Code(0), b"finished\n", Status::Exit(0));
+    is_told(
+        &rt,
+        alloc,
+        Ended::Code(3),
+        b"exited abnormally with code 3\n",
+        Status::Exit(3),
+    );
+    is_told(
+        &rt,
+        alloc,
+        Ended::Code(i32::MIN),
+        b"exited abnormally with code -2147483648\n",
+        Status::Exit(i32::MIN),
+    );
+    is_told(&rt, alloc, Ended::Signal, b"killed\n", Status::Signal);
+    is_told(&rt, alloc, Ended::Failed, b"failed\n", Status::Failed);
+    let mut table = one(&rt, alloc);
+    holds(&rt, is_none(&end(&rt, alloc, &mut table, Ended::Running)));
+    is(&rt, table.get(0).status(), Status::Run);
+}

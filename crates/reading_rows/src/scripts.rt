@@ -1,0 +1,704 @@
+//! Scripts, their fault lines, and what stands in them.
+
+use crate::checking::is;
+use ek_call::{Arg, Form, Script, Value};
+use ek_types::{Ch, Piece, Sym};
+use script_read::{LONGEST_SCRIPT, ScriptFault, read};
+use std::alloc::Global;
+use std::process::Abort;
+
+/// Bytes, and the line of their fault where they are no script, as an independent reader of the same grammar told.
+struct Case {
+    bytes: &'static [u8],
+    fault: Option<u32>,
+}
+
+const CASES: [Case; 69] = [
+    Case {
+        bytes: b"",
+        fault: None,
+    },
+    Case {
+        bytes: b" ; only a comment",
+        fault: None,
+    },
+    Case {
+        bytes: b"(point)",
+        fault: None,
+    },
+    Case {
+        bytes: b"(point)\x0a(poin)\x0a",
+        fault: Some(2),
+    },
+    Case {
+        bytes: b"(point)\x0a\x0a; c\x0a(insert \"a\x0a",
+        fault: Some(4),
+    },
+    Case {
+        bytes: b"(insert \"a\\n\\t\\\\\\\"\\101\\377\xc3\xa9\xff\")",
+        fault: None,
+    },
+    Case {
+        bytes: b"(insert \"\\400\")",
+        fault: Some(1),
+    },
+    Case {
+        bytes: b"(insert \"\\q\")",
+        fault: Some(1),
+    },
+    Case {
+        bytes: b"(goto-char 1)\x0a(goto-char)\x0a",
+        fault: Some(2),
+    },
+    Case {
+        bytes: b"(setq a (point))\x0a(setq 'a (point))",
+        fault: Some(2),
+    },
+    Case {
+        bytes: b"(save-excursion (save-restriction (widen) (insert \"x\")))\x0a\x0a(",
+        fault: Some(3),
+    },
+    Case {
+        bytes: b"(when-eq a 'nil (point)) ; tail",
+        fault: None,
+    },
+    Case {
+        bytes: b"(add-hook 'before-change-functions 'f)\x0a(defhandler f (a b) (insert a))",
+        fault: None,
+    },
+    Case {
+        bytes: b"(defhandler default () (point))",
+        fault: Some(1),
+    },
+    Case {
+        bytes: b"(defhandler f ())(defhandler f ())\x0a",
+        fault: Some(1),
+    },
+    Case {
+        bytes: b"(point)\x0a(defhandler f (a a))",
+        fault: Some(2),
+    },
+    Case {
+        bytes: b"(defhandler f (a b c d e f g h))",
+        fault: None,
+    },
+    Case {
+        bytes: b"(defhandler f (a b c d e f g h i))",
+        fault: Some(1),
+    },
+    Case {
+        bytes: b"(insert '(a 1 \"s\" nil t (b c) ()))",
+        fault: None,
+    },
+    Case {
+        bytes: b"(insert '(a (1)))\x0a",
+        fault: Some(1),
+    },
+    Case {
+        bytes: b"(insert ' a)",
+        fault: Some(1),
+    },
+    Case {
+        bytes: b"(insert 't '() 'nil)",
+        fault: None,
+    },
+    Case {
+        bytes: b"(insert nil)x",
+        fault: Some(1),
+    },
+    Case {
+        bytes: b"(insert -5 -)",
+        fault: Some(1),
+    },
+    Case {
+        bytes: b"(point)(point)\x0a\x0a)",
+        fault: Some(3),
+    },
+    Case {
+        bytes: b"(save-excursion)",
+        fault: None,
+    },
+    Case {
+        bytes: b"(save-excursion (save-excursion (save-excursion (save-excursion (save-excursion (save-excursion (save-excursion (save-excursion (save-excursion (save-excursion (save-excursion (save-excursion (save-excursion (save-excursion (save-excursion (save-excursion))))))))))))))))",
+        fault: None,
+    },
+    Case {
+        bytes: b"(save-excursion (save-excursion (save-excursion (save-excursion (save-excursion (save-excursion (save-excursion (save-excursion (save-excursion (save-excursion (save-excursion (save-excursion (save-excursion (save-excursion (save-excursion (save-excursion (save-excursion)))))))))))))))))",
+        fault: Some(1),
+    },
+    Case {
+        bytes: b"(insert aaaaaaaaaaaaaaaaaaaaaaaaaaaaaaaaaaaaaaaaaaaaaaaaaaaaaaaaaaaaaaaaa)",
+        fault: Some(1),
+    },
+    Case {
+        bytes: b"(insert 1234567890123456789)",
+        fault: Some(1),
+    },
+    Case {
+        bytes: b"(get-buffer \"x\")\x0d\x0a\x09(inhibit-hooks (kill-buffer))\x0a(inhibit-hook)",
+        fault: Some(3),
+    },
+    // A fault inside a form is told by the line in which that form begins at top level.
+    Case {
+        bytes: b"(insert \"a\")\n(goto-char 1)\n(point)\n(insert \"abc)\n",
+        fault: Some(4),
+    },
+    Case {
+        bytes: b"(point)\n(save-excursion\n(poin))",
+        fault: Some(2),
+    },
+    Case {
+        bytes: b"(point)\n\n(setq a\n(point)",
+        fault: Some(3),
+    },
+    Case {
+        bytes: b"(defhandler f (a)\n(foo))",
+        fault: Some(1),
+    },
+    Case {
+        bytes: b"(point)\n(when-eq a)",
+        fault: Some(2),
+    },
+    Case {
+        bytes: b"(point)\n(insert 'a 'b '(c\n",
+        fault: Some(2),
+    },
+    Case {
+        bytes: b"(point)\n(save-restriction (poin))",
+        fault: Some(2),
+    },
+    Case {
+        bytes: b"(point)\n\n(save-current-buffer\n(poin))",
+        fault: Some(3),
+    },
+    Case {
+        bytes: b"(point)\n(inhibit-hooks (poin))",
+        fault: Some(2),
+    },
+    Case {
+        bytes: b"(point)\n(setq a (poin))\n",
+        fault: Some(2),
+    },
+    Case {
+        bytes: b"(point)\n(when-eq 1 a\n(poin))",
+        fault: Some(2),
+    },
+    Case {
+        bytes: b"(point)\n(defhandler f (a)\n(setq b (poin)))",
+        fault: Some(2),
+    },
+    Case {
+        bytes: b"(point)\n(insert #(\"a\"\n0 2 ()))",
+        fault: Some(2),
+    },
+    // Comments stand between any two words, and a carriage return doesn't end one.
+    Case {
+        bytes: b";a\n(;b\ninsert;c\n\"x\";d\n);e",
+        fault: None,
+    },
+    Case {
+        bytes: b"(setq;\na;\n(;\npoint;\n);\n)",
+        fault: None,
+    },
+    Case {
+        bytes: b"(insert '(;\na;\n) #(;\n\"a\";\n0;\n1;\n(;\na;\n1));\n)",
+        fault: None,
+    },
+    Case {
+        bytes: b"(point) ;a\x0d(foo)",
+        fault: None,
+    },
+    Case {
+        bytes: b"(insert ';\na)",
+        fault: Some(1),
+    },
+    Case {
+        bytes: b"(insert # (\"a\"))",
+        fault: Some(1),
+    },
+    // Strings with properties: places rise, each run has a character, and no name stands twice.
+    Case {
+        bytes: b"(insert #(\"ab\"))",
+        fault: None,
+    },
+    Case {
+        bytes: b"(insert #(\"ab\" 0 2 (face bold)))",
+        fault: None,
+    },
+    Case {
+        bytes: b"(insert #(\"ab\" 0 1 (a (b c) d \"x\") 1 2 (e t f nil g -1)))",
+        fault: None,
+    },
+    Case {
+        bytes: b"(insert #(\"ab\" 0 3 (face bold)))",
+        fault: Some(1),
+    },
+    Case {
+        bytes: b"(insert #(\"ab\" 1 1 ()))",
+        fault: Some(1),
+    },
+    Case {
+        bytes: b"(insert #(\"ab\" 1 2 () 0 1 ()))",
+        fault: Some(1),
+    },
+    Case {
+        bytes: b"(insert #(\"ab\" 0 1 (a 1 a 2)))",
+        fault: Some(1),
+    },
+    Case {
+        bytes: b"(insert #(\"ab\" 0 1 (a nil a 2)))",
+        fault: Some(1),
+    },
+    Case {
+        bytes: b"(insert #(\"ab\" 0 1 (a)))",
+        fault: Some(1),
+    },
+    Case {
+        bytes: b"(insert #(\"ab\" 0 1 (a (b 1))))",
+        fault: Some(1),
+    },
+    // Bytes that are no letters end a name, and octal digits are three.
+    Case {
+        bytes: b"(insert a\xff)",
+        fault: Some(1),
+    },
+    Case {
+        bytes: b"(insert \xc3\xa9)",
+        fault: Some(1),
+    },
+    Case {
+        bytes: b"(point)\n(defhandler f\xff ())",
+        fault: Some(2),
+    },
+    Case {
+        bytes: b"(setq a\x80 (point))",
+        fault: Some(1),
+    },
+    Case {
+        bytes: b"(insert 'a\xc3\xa9)",
+        fault: Some(1),
+    },
+    Case {
+        bytes: b"(point\0)",
+        fault: Some(1),
+    },
+    Case {
+        bytes: b"(insert \"\\48\")",
+        fault: Some(1),
+    },
+    Case {
+        bytes: b"(goto-char 123456789012345678)",
+        fault: None,
+    },
+    Case {
+        bytes: b"(insert aaaaaaaaaaaaaaaaaaaaaaaaaaaaaaaaaaaaaaaaaaaaaaaaaaaaaaaaaaaaaaaa)",
+        fault: None,
+    },
+];
+
+fn line(rt: &impl Abort, alloc: Global, bytes: &[u8]) -> Option<u32> {
+    match read(alloc, bytes) {
+        Ok(_) => None,
+        Err(ScriptFault::Line(line)) => Some(line),
+        Err(ScriptFault::NoMemory) => panic!(rt; "no memory"),
+    }
+}
+
+fn is_told(rt: &impl Abort, alloc: Global, bytes: &[u8], fault: Option<u32>) {
+    assert_eq!(rt; line(rt, alloc, bytes), fault, "{} bytes", bytes.len());
+}
+
+#[test]
+fn scripts_and_fault_lines(rt: HostRuntime) {
+    for case in &CASES {
+        is_told(&rt, rt.alloc(), case.bytes, case.fault);
+    }
+}
+
+/// So many numbered definitions of registers, one a line.
+fn definitions(rt: &impl Abort, alloc: Global, before: &str, count: u32, behind: &str) -> String {
+    let mut text = String::new(alloc);
+    for i in 0..count {
+        let one = format!(in alloc; "{before}{i}{behind}").expect(rt, "room");
+        text.push_str(&one).expect(rt, "room");
+    }
+    text
+}
+
+/// Numbered definitions and what stands behind them, with the line of its fault.
+struct Numbered {
+    before: &'static str,
+    count: u32,
+    behind: &'static str,
+    last: &'static str,
+    fault: Option<u32>,
+}
+
+/// Parameters are no registers.
+const NUMBERED: [Numbered; 6] = [
+    Numbered {
+        before: "(setq r",
+        count: 256,
+        behind: " (point))\n",
+        last: "",
+        fault: None,
+    },
+    Numbered {
+        before: "(setq r",
+        count: 257,
+        behind: " (point))\n",
+        last: "",
+        fault: Some(257),
+    },
+    Numbered {
+        before: "(setq r",
+        count: 256,
+        behind: " (point))\n",
+        last: "(defhandler f (p) (setq p (insert p r0)))",
+        fault: None,
+    },
+    Numbered {
+        before: "(setq r",
+        count: 256,
+        behind: " (point))\n",
+        last: "(defhandler f (p) (insert p q))",
+        fault: Some(257),
+    },
+    Numbered {
+        before: "(defhandler h",
+        count: 256,
+        behind: " ())\n",
+        last: "",
+        fault: None,
+    },
+    Numbered {
+        before: "(defhandler h",
+        count: 257,
+        behind: " ())\n",
+        last: "",
+        fault: Some(257),
+    },
+];
+
+fn check_numbered(rt: &impl Abort, alloc: Global, row: &Numbered) {
+    let mut text = definitions(rt, alloc, row.before, row.count, row.behind);
+    text.push_str(row.last).expect(rt, "room");
+    is_told(rt, alloc, text.as_bytes(), row.fault);
+}
+
+#[test]
+fn limits_of_handlers_and_registers(rt: HostRuntime) {
+    for row in &NUMBERED {
+        check_numbered(&rt, rt.alloc(), row);
+    }
+}
+
+/// So many pieces between a front and an end.
+fn repeated(
+    rt: &impl Abort,
+    alloc: Global,
+    front: &str,
+    piece: &str,
+    count: usize,
+    end: &str,
+) -> String {
+    let pieces = piece.repeat(alloc, count).expect(rt, "room");
+    format!(in alloc; "{front}{pieces}{end}").expect(rt, "room")
+}
+
+fn takes_arguments(rt: &impl Abort, alloc: Global, count: usize, fault: Option<u32>) {
+    let call = repeated(rt, alloc, "(insert", " 1", count, ")");
+    is_told(rt, alloc, call.as_bytes(), fault);
+}
+
+/// A handler whose body has a form so often, and its end, with the line of its fault.
+struct Body {
+    form: &'static str,
+    count: usize,
+    end: &'static str,
+    fault: Option<u32>,
+}
+
+const BODIES: [Body; 6] = [
+    Body {
+        form: "(point)",
+        count: 256,
+        end: ")",
+        fault: None,
+    },
+    Body {
+        form: "(point)",
+        count: 257,
+        end: ")",
+        fault: Some(3),
+    },
+    Body {
+        form: "(setq a (point))",
+        count: 256,
+        end: ")",
+        fault: None,
+    },
+    Body {
+        form: "(setq a (point))",
+        count: 257,
+        end: ")",
+        fault: Some(3),
+    },
+    Body {
+        form: "(save-excursion (point))",
+        count: 128,
+        end: ")",
+        fault: None,
+    },
+    Body {
+        form: "(save-excursion (point))",
+        count: 128,
+        end: "(point))",
+        fault: Some(3),
+    },
+];
+
+fn check_body(rt: &impl Abort, alloc: Global, row: &Body) {
+    let front = "(point)\n\n(defhandler f ()\n";
+    let body = repeated(rt, alloc, front, row.form, row.count, row.end);
+    is_told(rt, alloc, body.as_bytes(), row.fault);
+}
+
+#[test]
+fn arguments_and_forms_of_a_body(rt: HostRuntime) {
+    takes_arguments(&rt, rt.alloc(), 64, None);
+    takes_arguments(&rt, rt.alloc(), 65, Some(1));
+    for row in &BODIES {
+        check_body(&rt, rt.alloc(), row);
+    }
+}
+
+fn are_blanks(rt: &impl Abort, alloc: Global, count: usize, fault: Option<u32>) {
+    let blanks = " ".repeat(alloc, count).expect(rt, "room");
+    is_told(rt, alloc, blanks.as_bytes(), fault);
+}
+
+#[test]
+fn the_longest_script(rt: HostRuntime) {
+    are_blanks(&rt, rt.alloc(), LONGEST_SCRIPT, None);
+    are_blanks(&rt, rt.alloc(), LONGEST_SCRIPT + 1, Some(0));
+}
+
+fn script(rt: &impl Abort, alloc: Global, bytes: &[u8]) -> Script {
+    match read(alloc, bytes) {
+        Ok(script) => script,
+        Err(_) => panic!(rt; "no script"),
+    }
+}
+
+/// The fixed names come first, and then all names in the order of their first places.
+#[test]
+fn names_are_numbered(rt: HostRuntime) {
+    let script = script(
+        &rt,
+        rt.alloc(),
+        b"(setq zeta (insert alpha 'run zeta 'face))",
+    );
+    is(&rt, script.symbols.count(), 17);
+    is(&rt, script.symbols.find("run"), Some(Sym(6)));
+    is(&rt, script.symbols.find("zeta"), Some(Sym(14)));
+    is(&rt, script.symbols.find("alpha"), Some(Sym(15)));
+    is(&rt, script.symbols.find("face"), Some(Sym(16)));
+    is(&rt, script.symbols.find("insert"), None);
+}
+
+/// The string that a script of one call has for its argument.
+fn string<'a>(rt: &impl Abort, script: &'a Script) -> &'a Piece {
+    if script.forms.len() == 1 {
+        if let Form::Do(call) = script.forms.at(0) {
+            if call.args.len() == 1 {
+                if let Arg::Const(Value::Str(text)) = call.args.at(0) {
+                    return text;
+                }
+            }
+        }
+    }
+    panic!(rt; "no string")
+}
+
+const ESCAPED: &[u8] = b"(insert \"\\\"\\\\\\n\\t\\101\\200\\377\xc3\xa9\xff\xc3\\251\")";
+
+const CHARACTERS: [Ch; 11] = [
+    Ch::Scalar('"'),
+    Ch::Scalar('\\'),
+    Ch::Scalar('\n'),
+    Ch::Scalar('\t'),
+    Ch::Scalar('A'),
+    Ch::Raw(0x80),
+    Ch::Raw(0xFF),
+    Ch::Scalar('é'),
+    Ch::Raw(0xFF),
+    Ch::Raw(0xC3),
+    Ch::Raw(0xA9),
+];
+
+fn has_characters(rt: &impl Abort, text: &Piece, expected: &[Ch]) {
+    assert_eq!(rt; text.len(), expected.len());
+    for (i, c) in expected.iter().enumerate() {
+        if i < text.len() {
+            assert_eq!(rt; text.ch(i), *c);
+        }
+    }
+}
+
+/// Escapes, a character of two bytes, and bytes that are part of none: each run of plain bytes is decoded by itself.
+#[test]
+fn characters_of_a_string(rt: HostRuntime) {
+    let script = script(&rt, rt.alloc(), ESCAPED);
+    has_characters(&rt, string(&rt, &script), CHARACTERS.as_slice());
+}
+
+/// Bytes of a string, and the codes of its characters. The code of a raw byte is 0x3FFF00 more than the byte.
+struct Decoded {
+    written: &'static [u8],
+    codes: &'static [u32],
+}
+
+const DECODED: [Decoded; 20] = [
+    Decoded {
+        written: b"\\000\\177\x01\x7f",
+        codes: &[0, 0x7F, 1, 0x7F],
+    },
+    Decoded {
+        written: b"\xc2\x80\xdf\xbf",
+        codes: &[0x80, 0x7FF],
+    },
+    Decoded {
+        written: b"\xe0\xa0\x80\xed\x9f\xbf",
+        codes: &[0x800, 0xD7FF],
+    },
+    Decoded {
+        written: b"\xee\x80\x80\xef\xbf\xbf",
+        codes: &[0xE000, 0xFFFF],
+    },
+    Decoded {
+        written: b"\xf0\x90\x80\x80\xf4\x8f\xbf\xbf",
+        codes: &[0x1_0000, 0x10_FFFF],
+    },
+    Decoded {
+        written: b"\x80a",
+        codes: &[0x3F_FF80, 0x61],
+    },
+    Decoded {
+        written: b"\xbf\xc3",
+        codes: &[0x3F_FFBF, 0x3F_FFC3],
+    },
+    Decoded {
+        written: b"\xc0\x80",
+        codes: &[0x3F_FFC0, 0x3F_FF80],
+    },
+    Decoded {
+        written: b"\xc1\xbf",
+        codes: &[0x3F_FFC1, 0x3F_FFBF],
+    },
+    Decoded {
+        written: b"\xe0\x9f\xbf",
+        codes: &[0x3F_FFE0, 0x3F_FF9F, 0x3F_FFBF],
+    },
+    Decoded {
+        written: b"\xed\xa0\x80",
+        codes: &[0x3F_FFED, 0x3F_FFA0, 0x3F_FF80],
+    },
+    Decoded {
+        written: b"\xf0\x8f\xbf\xbf",
+        codes: &[0x3F_FFF0, 0x3F_FF8F, 0x3F_FFBF, 0x3F_FFBF],
+    },
+    Decoded {
+        written: b"\xf4\x90\x80\x80",
+        codes: &[0x3F_FFF4, 0x3F_FF90, 0x3F_FF80, 0x3F_FF80],
+    },
+    Decoded {
+        written: b"\xf5\x80",
+        codes: &[0x3F_FFF5, 0x3F_FF80],
+    },
+    Decoded {
+        written: b"\xfe\xff",
+        codes: &[0x3F_FFFE, 0x3F_FFFF],
+    },
+    Decoded {
+        written: b"\xe2A",
+        codes: &[0x3F_FFE2, 0x41],
+    },
+    Decoded {
+        written: b"\xe2\x82",
+        codes: &[0x3F_FFE2, 0x3F_FF82],
+    },
+    Decoded {
+        written: b"\xf0\x9f\x98\xe2\x82\xac",
+        codes: &[0x3F_FFF0, 0x3F_FF9F, 0x3F_FF98, 0x20AC],
+    },
+    Decoded {
+        written: b"\xe2\x82\\n\xac",
+        codes: &[0x3F_FFE2, 0x3F_FF82, 10, 0x3F_FFAC],
+    },
+    Decoded {
+        written: b"\xe2\\202\xac",
+        codes: &[0x3F_FFE2, 0x3F_FF82, 0x3F_FFAC],
+    },
+];
+
+/// The codes of the characters of a string.
+fn codes(rt: &impl Abort, alloc: Global, text: &Piece) -> Vec<u32> {
+    let mut codes = Vec::new(alloc);
+    for i in 0..text.len() {
+        codes.push(text.ch(i).code()).expect(rt, "room");
+    }
+    codes
+}
+
+/// A script that inserts the string of these bytes.
+fn inserts(rt: &impl Abort, alloc: Global, written: &[u8]) -> Script {
+    let mut bytes = b"(insert \"".to_vec(alloc).expect(rt, "room");
+    bytes.extend_from_slice(written).expect(rt, "room");
+    bytes.extend_from_slice(b"\")").expect(rt, "room");
+    script(rt, alloc, bytes.as_slice())
+}
+
+fn check_decoded(rt: &impl Abort, alloc: Global, row: &Decoded) {
+    let script = inserts(rt, alloc, row.written);
+    let found = codes(rt, alloc, string(rt, &script));
+    assert_eq!(rt; found.as_slice(), row.codes);
+}
+
+/// Bytes that are no well-formed UTF-8, each kind of them, are raw bytes, and so is a tail that an escape cuts off.
+#[test]
+fn well_formed_sequences_and_raw_bytes(rt: HostRuntime) {
+    for row in &DECODED {
+        check_decoded(&rt, rt.alloc(), row);
+    }
+}
+
+/// How many properties a character has; the second has a face and is the only one with any.
+fn has_properties(rt: &impl Abort, text: &Piece, i: usize, count: usize) {
+    assert!(rt; i < text.len());
+    let set = text.props(i);
+    assert_eq!(rt; set.len(), count);
+    assert_eq!(rt; set.get(Sym(14)).is_some(), i == 1);
+}
+
+/// Properties stand by the number of the name; nil takes no place.
+#[test]
+fn properties_of_a_string(rt: HostRuntime) {
+    let bytes = b"(insert #(\"abc\" 1 2 (face bold gone nil run t)))";
+    let script = script(&rt, rt.alloc(), bytes.as_slice());
+    let text = string(&rt, &script);
+    is(&rt, text.len(), 3);
+    has_properties(&rt, text, 0, 0);
+    has_properties(&rt, text, 1, 2);
+    has_properties(&rt, text, 2, 0);
+}
+
+/// A long script is read in time that grows with its length, and the fault of its last line is told.
+#[test]
+fn long_script(rt: HostRuntime) {
+    let alloc = rt.alloc();
+    let mut text = definitions(&rt, alloc, "(when-eq a ", 30_000, " (goto-char 7))\n");
+    is(&rt, line(&rt, alloc, text.as_bytes()), None);
+    text.push_str("(when-eq a").expect(&rt, "room");
+    is(&rt, line(&rt, alloc, text.as_bytes()), Some(30_001));
+}
