@@ -150,8 +150,8 @@ module _ (os : List Overlay) where
     hidden_is first last q set =
         won (filter (λ o. has o.1) (filter (λ o. there buffer q o.1) (enumerate_from 0 os))) set (all_have (filter (λ o. there buffer q o.1) (enumerate_from 0 os)))
         ∙ ap (λ b. b || is_some (get set invisible)) (
-          some_there buffer q 0 os ∙ sym (rising_any (hit q) (in_buffer buffer os)) ∙ ap (list_any (hit q)) (sym ranked.exact) ∙ hit_any q marks are
-          ∙ list_any-IsPermutation (hides_at os q) marks openers by_start.moved
+        some_there buffer q 0 os ∙ sym (rising_any (hit q) (in_buffer buffer os)) ∙ ap (list_any (hit q)) (sym ranked.exact) ∙ hit_any q marks are
+        ∙ list_any-IsPermutation (hides_at os q) marks openers by_start.moved
         )
 
     fits : (first last : ℕ) → Fits os openers closers first last (scene_in buffer first last os)

@@ -42,6 +42,7 @@ module _ (os : List Overlay) where
     where
       not_yet : (s q : ℕ) → q < s → nat_le s q ≡ false
       not_yet s q h = grind (arith, nat_tests)
+
       never : (b : Bool) → b && false ≡ false
       never true = refl
       never false = refl

@@ -63,11 +63,11 @@ same_by : (set : PropSet) (place n j : ℕ) (d : Cell) (more : List Cell) → pl
     → (b : Bool) → same_set set d.1 ≡ b → AreOf set (d ∷ take j more)
 same_by set place n j d more h rest true k =
     let on : other_from set place (map (λ c. c.1) (d ∷ more)) n ≡ other_from set (place + 1) (map (λ c. c.1) more) n =
-            ap (λ b. unwrap_or (elim (not b) [ true ↦ Some place | false ↦ first_where (λ s. not (same_set set s)) (place + 1) (map (λ c. c.1) more) ]) n) k in
+    ap (λ b. unwrap_or (elim (not b) [ true ↦ Some place | false ↦ first_where (λ s. not (same_set set s)) (place + 1) (map (λ c. c.1) more) ]) n) k in
     (sym (same_set-sound set d.1 k), rest (omega (arith, h, on)))
 same_by set place n j d more h rest false k =
     let here : other_from set place (map (λ c. c.1) (d ∷ more)) n ≡ place =
-            ap (λ b. unwrap_or (elim (not b) [ true ↦ Some place | false ↦ first_where (λ s. not (same_set set s)) (place + 1) (map (λ c. c.1) more) ]) n) k in
+    ap (λ b. unwrap_or (elim (not b) [ true ↦ Some place | false ↦ first_where (λ s. not (same_set set s)) (place + 1) (map (λ c. c.1) more) ]) n) k in
     absurd (omega (arith, h, here))
 
 same_front : (set : PropSet) (place n k : ℕ) (more : List Cell) → place + k ≤ other_from set place (map (λ c. c.1) more) n → AreOf set (take k more)
@@ -117,12 +117,12 @@ run_visible_by : (until at end : ℕ) (cells : List Cell) (c : Option Cell) → 
 run_visible_by until at end cells None e h l k m = let there = sym e ∙ slice_get-get_or cells at (Scalar 0, []) (omega (arith, h, l)) in absurd (let k = there in cc)
 run_visible_by until at end cells (Some c) e h l k m =
     let front : part at end cells ≡ c ∷ take (end - (at + 1)) (drop (at + 1) cells) =
-            (let n : end - at ≡ suc (end - (at + 1)) = omega arith in part_is at end cells (omega (arith, h)) ∙ ap₂ (λ n l. take n l) n (drop_at cells at c e)) in
+    (let n : end - at ≡ suc (end - (at + 1)) = omega arith in part_is at end cells (omega (arith, h)) ∙ ap₂ (λ n l. take n l) n (drop_at cells at c e)) in
     let sets : drop at (map (λ c. c.1) cells) ≡ c.1 ∷ map (λ c. c.1) (drop (at + 1) cells) = drop-map (λ c. c.1) at cells ∙ ap (map (λ c. c.1)) (drop_at cells at c e) in
     let ends : run_end at (map (λ c. c.1) cells) ≡ other_from c.1 (at + 1) (map (λ c. c.1) (drop (at + 1) cells)) (length (map (λ c. c.1) cells)) =
-            ap (λ l. elim l [ [] ↦ at | set ∷ more ↦ other_from set (at + 1) more (length (map (λ c. c.1) cells)) ]) sets in
+    ap (λ l. elim l [ [] ↦ at | set ∷ more ↦ other_from set (at + 1) more (length (map (λ c. c.1) cells)) ]) sets in
     let are : AreOf c.1 (c ∷ take (end - (at + 1)) (drop (at + 1) cells)) =
-            (refl, same_front c.1 (at + 1) (length (map (λ c. c.1) cells)) (end - (at + 1)) (drop (at + 1) cells) (omega (arith, h, k, ends))) in
+    (refl, same_front c.1 (at + 1) (length (map (λ c. c.1) cells)) (end - (at + 1)) (drop (at + 1) cells) (omega (arith, h, k, ends))) in
     sym (alike_visible until at c.1 (part at end cells) m (subst (AreOf c.1) (sym front) are) (is_some (get c.1 invisible)) refl)
 
 -- a run of one property set that is not hidden by its place

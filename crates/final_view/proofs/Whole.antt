@@ -37,7 +37,7 @@ module _ (scene : Scene) where
       ap (λ a. a ++ shown_from scene (p + 1) rest) (one_seen until p c (quiet.1 p c.1 (omega arith) (omega arith)) ∙ sym (append-nil (visible_one until p c)))
   stretch_is until p (c ∷ d ∷ more) rest h quiet =
       let next : shown_from scene (p + 1) (d ∷ more ++ rest) ≡ tail_from (p + 1) (d ∷ more ++ rest) =
-              ap (λ a. a ++ tail_from (p + 1) (d ∷ more ++ rest)) (quiet.0 (p + 1) (omega arith) (omega arith)) in
+      ap (λ a. a ++ tail_from (p + 1) (d ∷ more ++ rest)) (quiet.0 (p + 1) (omega arith) (omega arith)) in
       let on = stretch_is until (p + 1) (d ∷ more) rest (omega arith) (λ q j k. quiet.0 q (omega (arith, j)) (omega (arith, k)), λ q set j k. quiet.1 q set (omega (arith, j)) (omega (arith, k))) in
       let far : p + 1 + length (d ∷ more) ≡ p + length (c ∷ d ∷ more) = omega arith in
       ap₂ (λ a b. a ++ b) (one_seen until p c (quiet.1 p c.1 (omega arith) (omega arith))) (next ∙ on ∙ ap (λ n. visible until (p + 1) (d ∷ more) ++ shown_from scene n rest) far)
@@ -111,10 +111,10 @@ module _ (os : List Overlay) (cells : List Cell) (openers closers : List Mark) (
           let rest = shown_from scene to (part to last cells) in
           let there : at + length (part at to cells) ≡ to = omega (arith, size, more) in
           let tail : tail_from scene at (part at last cells) ≡ v ++ rest =
-                  ap (tail_from scene at) (parts at to last cells (omega (arith, more)) upto)
-                  ∙ stretch_is scene until at (part at to cells) (part to last cells) (omega (arith, size, more)) quiet ∙ ap (λ n. v ++ shown_from scene n (part to last cells)) there in
+          ap (tail_from scene at) (parts at to last cells (omega (arith, more)) upto)
+          ∙ stretch_is scene until at (part at to cells) (part to last cells) (omega (arith, size, more)) quiet ∙ ap (λ n. v ++ shown_from scene n (part to last cells)) there in
           let whole : shown_from scene at (part at last cells) ≡ (a ++ b) ++ (v ++ rest) =
-                  from_is scene at (part at last cells) ∙ ap₂ (λ x y. x ++ y) (sym (strings_are scene f at old_ended old_started (s.closing at (omega arith)) (s.opening at (omega arith)))) tail in
+          from_is scene at (part at last cells) ∙ ap₂ (λ x y. x ++ y) (sym (strings_are scene f at old_ended old_started (s.closing at (omega arith)) (s.opening at (omega arith)))) tail in
           append_assoc ((printed ++ a) ++ b) v rest ∙ ap (λ l. l ++ (v ++ rest)) (append_assoc printed a b) ∙ append_assoc printed (a ++ b) (v ++ rest) ∙ ap (λ l. printed ++ l) (sym whole) ∙ s.shown scene f
 
     pub swept_on : Swept to until ended started (((printed ++ closed_at at old_ended) ++ opened_at at old_started) ++ visible until at (part at to cells))

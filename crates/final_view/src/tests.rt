@@ -49,14 +49,7 @@ fn put(rt: &impl Abort, editor: &mut Editor, k: u32, name: Sym, value: &PropVal)
     editor.put_overlay(k, name, Some(value)).expect(rt, "room");
 }
 
-fn put_string(
-    rt: &impl Abort,
-    alloc: Global,
-    editor: &mut Editor,
-    k: u32,
-    name: Sym,
-    text: &str,
-) {
+fn put_string(rt: &impl Abort, alloc: Global, editor: &mut Editor, k: u32, name: Sym, text: &str) {
     if !text.is_empty() {
         let text = chars(alloc, text).expect(rt, "a string");
         put(rt, editor, k, name, &PropVal::Text(text));
@@ -119,7 +112,14 @@ const HIDDEN_LETTERS: Row = Row {
     text: "abcdef",
     invisible: (1, 3),
     accessible: (0, 6),
-    overlays: &[Laid { start: 4, end: 6, priority: 0, before: "[", after: "]", hides: false }],
+    overlays: &[Laid {
+        start: 4,
+        end: 6,
+        priority: 0,
+        before: "[",
+        after: "]",
+        hides: false,
+    }],
     seen: "ad[ef]",
 };
 
@@ -128,7 +128,24 @@ fn hidden_letters_and_an_overlay_at_the_end(rt: HostRuntime) {
     check(&rt, rt.alloc(), &HIDDEN_LETTERS);
 }
 
-const TWO: [Laid; 2] = [Laid { start: 0, end: 2, priority: 5, before: "A", after: "a", hides: false }, Laid { start: 0, end: 2, priority: 0, before: "B", after: "b", hides: false }];
+const TWO: [Laid; 2] = [
+    Laid {
+        start: 0,
+        end: 2,
+        priority: 5,
+        before: "A",
+        after: "a",
+        hides: false,
+    },
+    Laid {
+        start: 0,
+        end: 2,
+        priority: 0,
+        before: "B",
+        after: "b",
+        hides: false,
+    },
+];
 
 const TWO_WHOLE: Row = Row {
     text: "xy",
@@ -159,10 +176,38 @@ const NESTED: Row = Row {
     invisible: (0, 0),
     accessible: (0, 4),
     overlays: &[
-        Laid { start: 0, end: 4, priority: 0, before: "(", after: ")", hides: false },
-        Laid { start: 0, end: 2, priority: 0, before: "[", after: "]", hides: false },
-        Laid { start: 2, end: 4, priority: 0, before: "{", after: "}", hides: false },
-        Laid { start: 2, end: 4, priority: -1, before: "<", after: ">", hides: false },
+        Laid {
+            start: 0,
+            end: 4,
+            priority: 0,
+            before: "(",
+            after: ")",
+            hides: false,
+        },
+        Laid {
+            start: 0,
+            end: 2,
+            priority: 0,
+            before: "[",
+            after: "]",
+            hides: false,
+        },
+        Laid {
+            start: 2,
+            end: 4,
+            priority: 0,
+            before: "{",
+            after: "}",
+            hides: false,
+        },
+        Laid {
+            start: 2,
+            end: 4,
+            priority: -1,
+            before: "<",
+            after: ">",
+            hides: false,
+        },
     ],
     seen: "([wx]<{yz})>",
 };
@@ -179,9 +224,30 @@ const EMPTY_BETWEEN: Row = Row {
     invisible: (0, 0),
     accessible: (0, 2),
     overlays: &[
-        Laid { start: 1, end: 1, priority: 0, before: "1", after: "2", hides: false },
-        Laid { start: 0, end: 1, priority: 0, before: "", after: "!", hides: false },
-        Laid { start: 1, end: 2, priority: 0, before: "?", after: "", hides: false },
+        Laid {
+            start: 1,
+            end: 1,
+            priority: 0,
+            before: "1",
+            after: "2",
+            hides: false,
+        },
+        Laid {
+            start: 0,
+            end: 1,
+            priority: 0,
+            before: "",
+            after: "!",
+            hides: false,
+        },
+        Laid {
+            start: 1,
+            end: 2,
+            priority: 0,
+            before: "?",
+            after: "",
+            hides: false,
+        },
     ],
     seen: "a!?12b",
 };
@@ -192,12 +258,54 @@ const EMPTY_AT_BOUNDS: Row = Row {
     invisible: (0, 0),
     accessible: (1, 3),
     overlays: &[
-        Laid { start: 1, end: 1, priority: 0, before: "<", after: ",", hides: false },
-        Laid { start: 3, end: 3, priority: 0, before: ".", after: ">", hides: false },
-        Laid { start: 0, end: 1, priority: 0, before: "p", after: "q", hides: false },
-        Laid { start: 3, end: 4, priority: 0, before: "r", after: "s", hides: false },
-        Laid { start: 0, end: 0, priority: 0, before: "t", after: "u", hides: false },
-        Laid { start: 0, end: 4, priority: 0, before: "v", after: "w", hides: false },
+        Laid {
+            start: 1,
+            end: 1,
+            priority: 0,
+            before: "<",
+            after: ",",
+            hides: false,
+        },
+        Laid {
+            start: 3,
+            end: 3,
+            priority: 0,
+            before: ".",
+            after: ">",
+            hides: false,
+        },
+        Laid {
+            start: 0,
+            end: 1,
+            priority: 0,
+            before: "p",
+            after: "q",
+            hides: false,
+        },
+        Laid {
+            start: 3,
+            end: 4,
+            priority: 0,
+            before: "r",
+            after: "s",
+            hides: false,
+        },
+        Laid {
+            start: 0,
+            end: 0,
+            priority: 0,
+            before: "t",
+            after: "u",
+            hides: false,
+        },
+        Laid {
+            start: 0,
+            end: 4,
+            priority: 0,
+            before: "v",
+            after: "w",
+            hides: false,
+        },
     ],
     seen: "<,bc.>",
 };
@@ -213,7 +321,32 @@ const HIDDEN_BY_BOTH: Row = Row {
     text: "abcdefg",
     invisible: (4, 5),
     accessible: (1, 7),
-    overlays: &[Laid { start: 0, end: 2, priority: 0, before: "x", after: "1", hides: true }, Laid { start: 2, end: 4, priority: 0, before: "2", after: "3", hides: true }, Laid { start: 4, end: 5, priority: 0, before: "4", after: "5", hides: true }],
+    overlays: &[
+        Laid {
+            start: 0,
+            end: 2,
+            priority: 0,
+            before: "x",
+            after: "1",
+            hides: true,
+        },
+        Laid {
+            start: 2,
+            end: 4,
+            priority: 0,
+            before: "2",
+            after: "3",
+            hides: true,
+        },
+        Laid {
+            start: 4,
+            end: 5,
+            priority: 0,
+            before: "4",
+            after: "5",
+            hides: true,
+        },
+    ],
     seen: "12345fg",
 };
 
@@ -233,7 +366,19 @@ fn all_lengths_and_other_values(rt: HostRuntime) {
     editor
         .replace(0, 0, 0, &Piece::plain(alloc, text), false)
         .expect(&rt, "room");
-    lay(&rt, alloc, &mut editor, &Laid { start: 0, end: 1, priority: 0, before: "", after: "", hides: false });
+    lay(
+        &rt,
+        alloc,
+        &mut editor,
+        &Laid {
+            start: 0,
+            end: 1,
+            priority: 0,
+            before: "",
+            after: "",
+            hides: false,
+        },
+    );
     put(&rt, &mut editor, 0, BEFORE_STRING, &PropVal::Int(7));
     put(&rt, &mut editor, 0, AFTER_STRING, &PropVal::Truth);
     let mut sink = MemorySink::new(alloc, 99, 3, Vec::new(alloc)).expect(&rt, "a sink");
@@ -241,7 +386,10 @@ fn all_lengths_and_other_values(rt: HostRuntime) {
     let written = view(&editor, 0, &mut sink);
     editor.close();
     assert!(rt; written.is_ok());
-    assert_eq!(rt; sink.bytes(), b"a\xC3\xA9\xE2\x82\xAC\xF0\x9F\x98\x80\xFF".as_slice());
+    assert_eq!(rt;
+        sink.bytes(),
+        b"a\xC3\xA9\xE2\x82\xAC\xF0\x9F\x98\x80\xFF".as_slice()
+    );
 }
 
 #[test]

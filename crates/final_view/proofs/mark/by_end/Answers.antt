@@ -10,7 +10,7 @@ returns c =
     let turned : c.reverse.new.self.items ≡ reverse c.args.marks.now = c.reverse.ensures.items ∙ ap reverse c.in_ok-closers.ensures.items in
     subst (λ l. AreSorted end_key l c.sort_by_key.new.self.items) turned
     (
-      sorted_by_key end_key (λ q. record { number = 0; start = 0; end = q; rank = pos 0 }) (λ q. refl) c.reverse.new.self.items _
-      (IsNonDecreasingBy-from_sort_by_key end_key _ c.in_ok-sort_by_key.ensures.sorted (λ a r q k. search (rules, of_calls)))
-      (c.in_ok-sort_by_key.ensures.stable end_key (always_returns_same _ _ _ (λ a r q k. search (rules, of_calls)))) c.in_ok-sort_by_key.ensures.permutation
+    sorted_by_key end_key (λ q. record { number = 0; start = 0; end = q; rank = pos 0 }) (λ q. refl) c.reverse.new.self.items _
+    (IsNonDecreasingBy-from_sort_by_key end_key _ c.in_ok-sort_by_key.ensures.sorted (λ a r q k. search (rules, of_calls)))
+    (c.in_ok-sort_by_key.ensures.stable end_key (always_returns_same _ _ _ (λ a r q k. search (rules, of_calls)))) c.in_ok-sort_by_key.ensures.permutation
     )
