@@ -49,7 +49,7 @@ pub(crate) fn ask_with_three(
     ensures { IfOk result (λ next. asked_of next ≡
         Some (prim_of prim, view first ∷ view second ∷ view third ∷ [])) }
 {
-    let mut args = ListOf::new(alloc);
+    let mut args = ListOf::with_room(alloc, 3)?;
     args.push(first)?;
     args.push(second)?;
     args.push(third)?;

@@ -99,7 +99,7 @@ fn position(place: usize) -> Mem<Value>
 pub(crate) fn ends(alloc: Global, change: &Change) -> Mem<Values>
     ensures { IfOk result (λ args. map view (items_of args) ≡ ends_of change.now.from change.now.to) }
 {
-    let mut args = ListOf::new(alloc);
+    let mut args = ListOf::with_room(alloc, 2)?;
     args.push(position(change.from)?)?;
     args.push(position(change.to)?)?;
     Ok(args)
@@ -109,7 +109,7 @@ pub(crate) fn ends(alloc: Global, change: &Change) -> Mem<Values>
 pub(crate) fn ends_behind(alloc: Global, from: usize, to: usize, old: usize) -> Mem<Values>
     ensures { IfOk result (λ args. map view (items_of args) ≡ ends_behind from to old) }
 {
-    let mut args = ListOf::new(alloc);
+    let mut args = ListOf::with_room(alloc, 3)?;
     args.push(position(from)?)?;
     args.push(position(to)?)?;
     args.push(values::count(old)?)?;

@@ -26,6 +26,7 @@ fn fill<M: Kernel>(kernel: &M, args: &Args, room: Values) -> Mem<Option<Values>>
         evaluate (M.state kernel.now) (map arg_of (items_of args.now))) }
 {
     let mut values = room;
+    values.reserve(args.len())?;
     for i in 0..args.len() {
         let Some(value) = value(kernel, args.at(i)) else {
             return Ok(None);

@@ -70,7 +70,7 @@ fn argument(word: Word) -> Arg
 fn call(alloc: Global, prim: Primitive, words: &[Word]) -> Mem<Call>
     ensures { IfOk result (λ c. call_of c ≡ drill.call (prim_of prim) (map word_of words.now)) }
 {
-    let mut args = ListOf::new(alloc);
+    let mut args = ListOf::with_room(alloc, words.len())?;
     for word in words {
         args.push(argument(*word))?;
     }
@@ -98,7 +98,7 @@ fn then_set(forms: &mut Forms, name: Sym, prim: Primitive, words: &[Word]) -> Me
 fn params(alloc: Global) -> Mem<SymList>
     ensures { IfOk result (λ names. map number_of (items_of names) ≡ drill.p ∷ drill.s ∷ []) }
 {
-    let mut names = ListOf::new(alloc);
+    let mut names = ListOf::with_room(alloc, 2)?;
     names.push(P)?;
     names.push(S)?;
     Ok(names)
@@ -109,7 +109,7 @@ fn filter_body(alloc: Global) -> Mem<Forms>
     ensures { IfOk result (λ body. Some (joined (forms_of body)) ≡
         option_map (λ h. h.body) (slice_get drill_handlers 0)) }
 {
-    let mut body = ListOf::new(alloc);
+    let mut body = ListOf::with_room(alloc, 9)?;
     then_set(&mut body, B, Primitive::ProcessBuffer, &[Word::Name(P)])?;
     then_do(&mut body, Primitive::SetBuffer, &[Word::Name(B)])?;
     then_set(&mut body, M, Primitive::ProcessMark, &[Word::Name(P)])?;
@@ -146,7 +146,7 @@ fn handlers(alloc: Global) -> Mem<HandlerDefs>
         params: params(alloc)?,
         body: ListOf::new(alloc),
     };
-    let mut handlers = ListOf::new(alloc);
+    let mut handlers = ListOf::with_room(alloc, 2)?;
     handlers.push(filter)?;
     handlers.push(sentinel)?;
     Ok(handlers)
@@ -166,7 +166,7 @@ fn start(alloc: Global) -> Mem<Call>
     ensures { IfOk result (λ c. call_of c ≡ drill.call StartProcess
         (drill.string (codes "drill") ∷ drill.string (codes "out") ∷ drill.string (codes "drill") ∷ [])) }
 {
-    let mut args = ListOf::new(alloc);
+    let mut args = ListOf::with_room(alloc, 3)?;
     args.push(string(alloc, b"drill")?)?;
     args.push(string(alloc, b"out")?)?;
     args.push(string(alloc, b"drill")?)?;
@@ -180,6 +180,7 @@ fn start(alloc: Global) -> Mem<Call>
 fn then_wait(forms: &mut Forms, waits: usize) -> Mem<()>
     ensures { OnOk result (forms_of forms.new ≡ forms_of forms.old ++ replicate waits wait_form) }
 {
+    forms.reserve(waits)?;
     'waiting: for _ in 0..waits {
         then_do(forms, Primitive::AcceptProcessOutput, &[Word::Name(P)])?;
     }

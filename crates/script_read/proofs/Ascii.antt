@@ -5,7 +5,7 @@ use Rattle.std.specs.Str.{IsAscii, IsNotAscii}
 use Rattle.std.specs.List.{list_all}
 use Rattle.std.proofs.lemmas.Bool.{and_parts}
 use Rattle.std.proofs.lemmas.Bool.Decides.{nat_tests}
-use Rattle.text_model.specs.Characters.{Ch, Scalar, Raw}
+use Rattle.text_model.specs.Characters.{Ch, Scalar}
 use Rattle.text_model.specs.Decoding.{characters, tail, all_characters}
 use Rattle.text_model.proofs.Decodings.{characters-whole, tail-whole}
 use Rattle.utf8_stream.proofs.Fronts.{front_ascii}
