@@ -17,7 +17,7 @@ use Rattle.final_view.specs.Marks.{overlay_of, overlays_in, IsMark, IsMade, AreR
 use Rattle.final_view.specs.Scenes.{Fits, AreEdges}
 use Rattle.final_view.specs.declared.mark.Mark.{Mark}
 use Rattle.final_view.proofs.Passing.{same_test}
-use Rattle.final_view.proofs.Tests.{starts_sound, ends_sound}
+use Rattle.final_view.proofs.Places.{starts_sound, ends_sound}
 
 -- THE WINNER
 abbrev Numbered : Type 0

@@ -11,7 +11,7 @@ use Rattle.final_view.specs.Marks.{Rises, Pass, Cover, covered, start_key, end_k
 use Rattle.final_view.specs.Scenes.{Fits}
 use Rattle.final_view.specs.declared.mark.Mark.{Mark}
 use Rattle.final_view.proofs.Passing.{rises_more, none_before}
-use Rattle.final_view.proofs.Tests.{starts_sound, ends_sound, none_hides, or_false}
+use Rattle.final_view.proofs.Places.{starts_sound, ends_sound, none_hides, or_false}
 use Rattle.final_view.proofs.Visible.{parts, part_length, no_part}
 
 -- A STRETCH WITHOUT EDGES

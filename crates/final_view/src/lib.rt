@@ -1,6 +1,7 @@
 //! A buffer as it would be seen: without its hidden characters, with the strings of its overlays.
 #![tactic(auto)]
 
+mod buffer_view;
 mod characters;
 mod edges;
 mod fault;
@@ -10,7 +11,6 @@ mod strings;
 mod sweep;
 #[cfg(test)]
 mod tests;
-mod view;
 
+pub use buffer_view::view;
 pub use fault::ViewFault;
-pub use view::view;

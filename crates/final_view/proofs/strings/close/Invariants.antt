@@ -3,7 +3,7 @@ use Rattle.text_model.specs.Characters.{Ch}
 use Rattle.final_view.specs.Showing.{Shows}
 use Rattle.final_view.specs.Marks.{end_key, ends_here, closed_of}
 use Rattle.final_view.proofs.Passing.{Going}
-use Rattle.final_view.proofs.Tests.{ends_sound}
+use Rattle.final_view.proofs.Places.{ends_sound}
 use Rattle.final_view.proofs.strings.close.Given as goal
 
 abbrev pub invariant-loop-next : goal.invariant-loop-next

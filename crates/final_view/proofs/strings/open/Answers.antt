@@ -3,7 +3,7 @@ use Rattle.final_view.specs.Marks.{start_key, starts_here, opened_of, Rises, Cov
 use Rattle.final_view.specs.declared.mark.Mark.{Mark}
 use Rattle.final_view.proofs.Passing.{going_on, going_shown, going_ends, going_begins, rises_behind, rises_empty, next_one, none_left}
 use Rattle.final_view.proofs.Showing.{shows_then, shows_same, shows_nothing}
-use Rattle.final_view.proofs.Tests.{starts_sound, cover_on, cover_begins}
+use Rattle.final_view.proofs.Places.{starts_sound, cover_on, cover_begins}
 use Rattle.final_view.proofs.strings.open.Goals as goal
 
 abbrev nobody : Mark

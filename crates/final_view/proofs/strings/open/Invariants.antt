@@ -3,7 +3,7 @@ use Rattle.text_model.specs.Characters.{Ch}
 use Rattle.final_view.specs.Showing.{Shows}
 use Rattle.final_view.specs.Marks.{start_key, starts_here, opened_of, Cover}
 use Rattle.final_view.proofs.Passing.{Going}
-use Rattle.final_view.proofs.Tests.{starts_sound}
+use Rattle.final_view.proofs.Places.{starts_sound}
 use Rattle.final_view.proofs.strings.open.Given as goal
 
 abbrev pub invariant-loop-next : goal.invariant-loop-next

@@ -4,7 +4,7 @@ use Rattle.text_model.specs.Characters.{encoded}
 use Rattle.buffer_table.specs.Kept.{editor_of}
 use Rattle.final_view.specs.Faults.{Views}
 use Rattle.final_view.proofs.Viewed.{viewed}
-use Rattle.final_view.proofs.view.view.Goals as goal
+use Rattle.final_view.proofs.buffer_view.view.Goals as goal
 
 pub returns : goal.returns
 returns g c =
