@@ -1,7 +1,6 @@
 -- The marks of a buffer, by start and by end, are those of its scene.
-use Rattle.std.proofs.Common.{◌≡◌, ℕ, ◌+◌, ◌<◌, ◌≤◌, suc, Bool, true, false, cond, ◌&&◌, ◌||◌, ◌==◌, nat_lt, nat_le, if◌then◌else◌, List, [], ◌∷◌, ◌++◌, map, filter, flat_map, reverse, Option, Some, None, All, is_some, refl, sym, ap, ap₂, ◌∙◌, subst, arith}
+use Rattle.std.proofs.Common.{◌≡◌, ℕ, ◌+◌, Bool, true, false, cond, ◌&&◌, ◌||◌, ◌==◌, nat_lt, nat_le, if◌then◌else◌, List, [], ◌∷◌, ◌++◌, map, filter, flat_map, reverse, Option, Some, None, All, is_some, refl, sym, ap, ap₂, ◌∙◌, arith}
 use Rattle.std.specs.List.{AllByRecursion, enumerate_from, list_any}
-use Rattle.std.specs.List.Sorted.{IsPermutation}
 use Rattle.std.proofs.lemmas.Bool.Decides.{nat_tests}
 use Rattle.std.proofs.lemmas.List.{reverse-append, map-append}
 use Rattle.std.proofs.lemmas.List.Elements.{recursion_from_All, All-weaker}
@@ -9,10 +8,10 @@ use Rattle.std.proofs.lemmas.List.Sorted.{All-permutation, IsPermutation-reverse
 use Rattle.text_model.specs.Characters.{Ch}
 use Rattle.text_model.specs.Properties.{PropSet, get}
 use Rattle.text_model.specs.Marks.{Overlay, Span}
-use Rattle.text_model.specs.OverlayQuestions.{span_passes, covers, outranks, greater, greatest_of, overlays_where, winner}
+use Rattle.text_model.specs.OverlayQuestions.{span_passes, covers, outranks, greater, greatest_of}
 use Rattle.editor_model.specs.OverlayCalls.{char_property}
 use Rattle.overlay_set.specs.Numbered.{span_at}
-use Rattle.final_view.specs.Shown.{in_buffer, put_in, rising, stands, is_empty, ends_at, starts_at, before, after, opened, closing, opening, invisible, is_hidden, scene_in}
+use Rattle.final_view.specs.Shown.{in_buffer, put_in, rising, stands, is_empty, ends_at, starts_at, before, after, opened, invisible, is_hidden, scene_in}
 use Rattle.final_view.specs.Marks.{overlay_of, overlays_in, IsMark, IsMade, AreRanked, AreSorted, start_key, end_key, ends_here, starts_here, closed_of, opened_of, hides, hides_at}
 use Rattle.final_view.specs.Scenes.{Fits, AreEdges}
 use Rattle.final_view.specs.declared.mark.Mark.{Mark}

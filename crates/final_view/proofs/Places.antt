@@ -1,11 +1,9 @@
 -- What the tests of a mark say of its places.
-use Rattle.std.proofs.Common.{◌≡◌, ℕ, ◌+◌, ◌<◌, ◌≤◌, Bool, true, false, ◌&&◌, ◌||◌, ◌==◌, nat_lt, nat_le, max, if◌then◌else◌, List, [], ◌∷◌, refl, sym, ap, ◌∙◌, true≢false, arith}
+use Rattle.std.proofs.Common.{◌≡◌, ℕ, ◌<◌, ◌≤◌, Bool, true, false, ◌&&◌, ◌||◌, ◌==◌, nat_lt, nat_le, max, if◌then◌else◌, List, [], ◌∷◌, refl, sym, ap, ◌∙◌, arith}
 use Rattle.std.specs.List.{list_any}
 use Rattle.std.proofs.lemmas.Bool.{eqb-true}
 use Rattle.std.proofs.lemmas.Bool.Decides.{nat_tests}
 use Rattle.text_model.specs.Marks.{Overlay}
-use Rattle.overlay_set.specs.Numbered.{span_at}
-use Rattle.final_view.specs.Shown.{ends_at, starts_at, is_wide, is_empty}
 use Rattle.final_view.specs.Marks.{ends_here, starts_here, hides, hides_at, hidden_until, covered, Cover, Rises, start_key}
 use Rattle.final_view.specs.declared.mark.Mark.{Mark}
 

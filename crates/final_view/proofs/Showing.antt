@@ -1,5 +1,5 @@
 -- What is shown one after another.
-use Rattle.std.proofs.Common.{◌≡◌, ℕ, List, [], ◌++◌, flat_map, ◌∙◌, refl, sym, ap, subst}
+use Rattle.std.proofs.Common.{◌≡◌, List, [], ◌++◌, flat_map, sym, ap}
 use Rattle.std.proofs.lemmas.Grind.{flat_map-append}
 use Rattle.text_model.specs.Characters.{Ch, encoded}
 use Rattle.ek_types.specs.Io.{SinkState}

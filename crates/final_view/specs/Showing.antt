@@ -1,5 +1,5 @@
 -- What a printer shows.
-use Rattle.std.specs.Prelude.{ℕ, List, flat_map}
+use Rattle.std.specs.Prelude.{List, flat_map}
 use Rattle.text_model.specs.Characters.{Ch, encoded}
 use Rattle.ek_types.specs.Io.{SinkState}
 use Rattle.sink_printer.specs.Printing.{Prints}

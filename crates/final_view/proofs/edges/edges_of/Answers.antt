@@ -1,4 +1,4 @@
-use Rattle.std.proofs.Common.{reverse, ap, sym, subst}
+use Rattle.std.proofs.Common.{reverse, subst}
 use Rattle.final_view.specs.Marks.{AreSorted, end_key}
 use Rattle.final_view.proofs.Fitting.{edges_are}
 use Rattle.final_view.proofs.edges.edges_of.Goals as goal

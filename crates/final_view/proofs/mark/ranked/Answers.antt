@@ -1,5 +1,4 @@
-use Rattle.std.proofs.Common.{◌≡◌, rules, of_calls}
-use Rattle.std.specs.Ordering.{is_lt}
+use Rattle.std.proofs.Common.{rules, of_calls}
 use Rattle.std.proofs.lemmas.Fn.{always_returns_same}
 use Rattle.final_view.proofs.Ranking.{ranked_is, weaker, weaker_orders}
 use Rattle.final_view.proofs.mark.ranked.Goals as goal

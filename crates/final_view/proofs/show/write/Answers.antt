@@ -1,9 +1,7 @@
 use Rattle.std.proofs.Common.{sym, arith, ◌∙◌, subst₂}
-use Rattle.text_model.specs.Properties.{part}
 use Rattle.sink_printer.proofs.Printing.{written}
-use Rattle.final_view.specs.Shown.{Scene, scene_in, shown_from}
+use Rattle.final_view.specs.Shown.{Scene, scene_in}
 use Rattle.final_view.specs.Scenes.{Fits}
-use Rattle.final_view.specs.Showing.{Shows}
 use Rattle.final_view.proofs.show.write.Goals as goal
 
 pub returns : goal.returns

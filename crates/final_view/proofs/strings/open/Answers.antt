@@ -1,7 +1,7 @@
-use Rattle.std.proofs.Common.{◌+◌, ◌≤◌, ◌∷◌, [], drop, filter, flat_map, get_or, length, pos, arith, subst, sym}
+use Rattle.std.proofs.Common.{◌+◌, ◌∷◌, [], drop, filter, flat_map, get_or, pos, arith, subst, sym}
 use Rattle.final_view.specs.Marks.{start_key, starts_here, opened_of, Rises, Cover}
 use Rattle.final_view.specs.declared.mark.Mark.{Mark}
-use Rattle.final_view.proofs.Passing.{going_on, going_shown, going_ends, going_begins, rises_behind, rises_empty, next_one, none_left}
+use Rattle.final_view.proofs.Passing.{going_on, going_shown, going_ends, going_begins, rises_behind, next_one}
 use Rattle.final_view.proofs.Showing.{shows_then, shows_same, shows_nothing}
 use Rattle.final_view.proofs.Places.{starts_sound, cover_on, cover_begins}
 use Rattle.final_view.proofs.strings.open.Goals as goal

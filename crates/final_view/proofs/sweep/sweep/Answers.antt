@@ -1,11 +1,11 @@
-use Rattle.std.proofs.Common.{◌≡◌, ◌+◌, ◌<◌, ◌≤◌, ◌++◌, [], List, drop, arith}
+use Rattle.std.proofs.Common.{◌+◌, ◌<◌, ◌≤◌, ◌++◌, [], List, drop, arith}
 use Rattle.text_model.specs.Characters.{Ch}
 use Rattle.text_model.specs.Properties.{part}
 use Rattle.final_view.specs.Marks.{Rises, start_key, end_key}
 use Rattle.final_view.specs.Visible.{visible}
-use Rattle.final_view.proofs.Showing.{shows_then, shows_same, shows_nothing}
+use Rattle.final_view.proofs.Showing.{shows_then, shows_nothing}
 use Rattle.final_view.proofs.Passing.{rises_more}
-use Rattle.final_view.proofs.Whole.{swept_begins, swept_on, swept_ends, closed_at, opened_at}
+use Rattle.final_view.proofs.Whole.{swept_begins, swept_on, closed_at, opened_at}
 use Rattle.final_view.proofs.sweep.sweep.Goals as goal
 
 pub loop-at-init : goal.loop-at-init
