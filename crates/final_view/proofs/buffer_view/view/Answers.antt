@@ -10,4 +10,4 @@ pub returns : goal.returns
 returns g c =
     let e = editor_of c.args.editor.now in
     let same = viewed e c.args.buffer c.in-Some.text c.bounds-bounds.result.start c.bounds-bounds.result.end c.marks.result.now.overlays c.in-Some.ensures c.bounds-bounds.ensures.start c.bounds-bounds.ensures.end (ap (λ (m : Marks). m.overlays) c.marks.ensures) in
-    subst (λ l. Views (g.K.Sink.state c.args.sink.old) (g.K.Sink.state c.show.new.sink) c.show.result (flat_map encoded l)) same c.show.ensures
+    subst (λ l. Views (g.K.Sink.state c.args.sink.now) (g.K.Sink.state c.show.new.sink) c.show.result (flat_map encoded l)) same c.show.ensures
