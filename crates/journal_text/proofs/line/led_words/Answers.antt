@@ -5,8 +5,8 @@ use Rattle.ek_types.specs.Listing.{items_of}
 use Rattle.host_link.specs.Meaning.{words_of}
 use Rattle.journal_text.specs.Lines.{led_word}
 use Rattle.journal_text.proofs.Gathering.{one_on, all_of}
-use Rattle.journal_text.proofs.Printing.{prints_then, prints_same, prints_nothing}
-use Rattle.journal_text.proofs.printer.Printer.led_words.Goals as goal
+use Rattle.sink_printer.proofs.Printing.{prints_then, prints_same, prints_nothing}
+use Rattle.journal_text.proofs.line.led_words.Goals as goal
 
 pub words-init : goal.words-init
 words-init g c = prints_nothing

@@ -2,8 +2,8 @@ use Rattle.std.proofs.Common.{get_or}
 use Rattle.std.proofs.lemmas.Option.{slice_get-get_or}
 use Rattle.journal_text.specs.Lines.{hex_byte}
 use Rattle.journal_text.proofs.Gathering.{one_on, all_of}
-use Rattle.journal_text.proofs.Printing.{prints_then, prints_same, prints_nothing}
-use Rattle.journal_text.proofs.printer.Printer.hex.Goals as goal
+use Rattle.sink_printer.proofs.Printing.{prints_then, prints_same, prints_nothing}
+use Rattle.journal_text.proofs.line.hex.Goals as goal
 
 pub bytes-init : goal.bytes-init
 bytes-init g c = prints_nothing
