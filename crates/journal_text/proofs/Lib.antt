@@ -9,6 +9,5 @@ pub mod Hexes
 pub mod Journals
 pub mod Numbers
 pub mod Prefixes
-pub mod Printing
 pub mod Replies
 pub mod Words

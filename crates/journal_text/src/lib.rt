@@ -7,7 +7,6 @@ mod hex;
 mod journal;
 mod line;
 mod pieces;
-mod printer;
 mod replay;
 mod reply;
 #[cfg(test)]

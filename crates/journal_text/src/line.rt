@@ -5,12 +5,12 @@ ghost use Rattle.ek_types.specs.Io.{Writes};
 ghost use Rattle.host_link.specs.Meaning.{ask_of, answer_of, exchange_of, exchanges_of, words_of};
 ghost use Rattle.journal_text.specs.Lines.{hex_digit, hex_byte, hex, word, led_words};
 ghost use Rattle.journal_text.specs.Lines.{ask_words, answer_words, line, journal};
-ghost use Rattle.journal_text.specs.Printing.{Prints};
+ghost use Rattle.sink_printer.specs.Printing.{Prints};
 
-use crate::printer::Printer;
 use ek_types::{Sink, SinkFault};
 use host_link::{Answer, Ask, Exchange, Exchanges, WordList};
 use itoa::Buffer;
+use sink_printer::Printer;
 
 fn hex_digit(n: u8) -> u8
     requires { n < 16 }
@@ -19,119 +19,117 @@ fn hex_digit(n: u8) -> u8
     if n < 10 { b'0' + n } else { b'a' - 10 + n }
 }
 
-impl<K: Sink> Printer<'_, K> {
-    fn hex_byte(&mut self, byte: u8)
-        ensures { Prints K.state self.old self.new (hex_byte byte) }
-    {
-        self.put_byte(hex_digit(byte / 16));
-        self.put_byte(hex_digit(byte % 16));
-    }
+fn hex_byte<K: Sink>(out: &mut Printer<'_, K>, byte: u8)
+    ensures { Prints K.state out.old out.new (hex_byte byte) }
+{
+    out.put_byte(hex_digit(byte / 16));
+    out.put_byte(hex_digit(byte % 16));
+}
 
-    fn hex(&mut self, bytes: &[u8])
-        ensures { Prints K.state self.old self.new (hex bytes.now) }
-    {
-        'bytes: for i in 0..bytes.len() {
-            self.hex_byte(bytes[i]);
+fn hex<K: Sink>(out: &mut Printer<'_, K>, bytes: &[u8])
+    ensures { Prints K.state out.old out.new (hex bytes.now) }
+{
+    'bytes: for i in 0..bytes.len() {
+        hex_byte(out, bytes[i]);
+    }
+}
+
+fn number<K: Sink>(out: &mut Printer<'_, K>, n: u32)
+    ensures { Prints K.state out.old out.new (decimal n) }
+{
+    let mut buffer = Buffer::new();
+    out.put(buffer.format(n).as_bytes());
+}
+
+fn signed<K: Sink>(out: &mut Printer<'_, K>, n: i32)
+    ensures { Prints K.state out.old out.new (shown_int n) }
+{
+    let mut buffer = Buffer::new();
+    out.put(buffer.format(n).as_bytes());
+}
+
+fn word<K: Sink>(out: &mut Printer<'_, K>, bytes: &[u8])
+    ensures { Prints K.state out.old out.new (word bytes.now) }
+{
+    match bytes {
+        [] => out.put_byte(b'-'),
+        _ => hex(out, bytes),
+    }
+}
+
+/// Writes words with a blank in front of each.
+fn led_words<K: Sink>(out: &mut Printer<'_, K>, words: &WordList)
+    ensures { Prints K.state out.old out.new (led_words (words_of words.now)) }
+{
+    'words: for i in 0..words.len() {
+        out.put_byte(b' ');
+        word(out, words.at(i).as_slice());
+    }
+}
+
+/// Writes a name and a child's number.
+fn named<K: Sink>(out: &mut Printer<'_, K>, name: &[u8], child: u32)
+    ensures { Prints K.state out.old out.new (name.now ++ decimal child) }
+{
+    out.put(name);
+    number(out, child);
+}
+
+fn ask<K: Sink>(out: &mut Printer<'_, K>, ask: &Ask)
+    ensures { Prints K.state out.old out.new (ask_words (ask_of ask.now)) }
+{
+    match ask {
+        Ask::Spawn(program, args) => {
+            out.put(b"spawn ");
+            hex(out, program.as_slice());
+            led_words(out, args);
         }
-    }
-
-    fn number(&mut self, n: u32)
-        ensures { Prints K.state self.old self.new (decimal n) }
-    {
-        let mut buffer = Buffer::new();
-        self.put(buffer.format(n).as_bytes());
-    }
-
-    fn code(&mut self, code: i32)
-        ensures { Prints K.state self.old self.new (shown_int code) }
-    {
-        let mut buffer = Buffer::new();
-        self.put(buffer.format(code).as_bytes());
-    }
-
-    fn word(&mut self, bytes: &[u8])
-        ensures { Prints K.state self.old self.new (word bytes.now) }
-    {
-        match bytes {
-            [] => self.put_byte(b'-'),
-            _ => self.hex(bytes),
+        Ask::Read(child) => named(out, b"read ", *child),
+        Ask::End(child) => named(out, b"end ", *child),
+        Ask::Send(child, bytes) => {
+            out.put(b"send ");
+            number(out, *child);
+            out.put_byte(b' ');
+            hex(out, bytes.as_slice());
         }
+        Ask::Close(child) => named(out, b"close ", *child),
+        Ask::Kill(child) => named(out, b"kill ", *child),
     }
+}
 
-    /// Writes words with a blank in front of each.
-    fn led_words(&mut self, words: &WordList)
-        ensures { Prints K.state self.old self.new (led_words (words_of words.now)) }
-    {
-        'words: for i in 0..words.len() {
-            self.put_byte(b' ');
-            self.word(words.at(i).as_slice());
+fn answer<K: Sink>(out: &mut Printer<'_, K>, answer: &Answer)
+    ensures { Prints K.state out.old out.new (answer_words (answer_of answer.now)) }
+{
+    match answer {
+        Answer::Started(child) => named(out, b"started ", *child),
+        Answer::Refused => out.put(b"refused"),
+        Answer::Bytes(bytes) => {
+            out.put(b"bytes ");
+            hex(out, bytes.as_slice());
         }
-    }
-
-    /// Writes a name and a child's number.
-    fn named(&mut self, name: &[u8], child: u32)
-        ensures { Prints K.state self.old self.new (name.now ++ decimal child) }
-    {
-        self.put(name);
-        self.number(child);
-    }
-
-    fn ask(&mut self, ask: &Ask)
-        ensures { Prints K.state self.old self.new (ask_words (ask_of ask.now)) }
-    {
-        match ask {
-            Ask::Spawn(program, args) => {
-                self.put(b"spawn ");
-                self.hex(program.as_slice());
-                self.led_words(args);
-            }
-            Ask::Read(child) => self.named(b"read ", *child),
-            Ask::End(child) => self.named(b"end ", *child),
-            Ask::Send(child, bytes) => {
-                self.put(b"send ");
-                self.number(*child);
-                self.put_byte(b' ');
-                self.hex(bytes.as_slice());
-            }
-            Ask::Close(child) => self.named(b"close ", *child),
-            Ask::Kill(child) => self.named(b"kill ", *child),
+        Answer::Nothing => out.put(b"nothing"),
+        Answer::End => out.put(b"end"),
+        Answer::Code(code) => {
+            out.put(b"code ");
+            signed(out, *code);
         }
+        Answer::Signal => out.put(b"signal"),
+        Answer::Running => out.put(b"running"),
+        Answer::Sent => out.put(b"sent"),
+        Answer::Broken => out.put(b"broken"),
+        Answer::Closed => out.put(b"closed"),
+        Answer::Killed => out.put(b"killed"),
+        Answer::Failed => out.put(b"failed"),
     }
+}
 
-    fn answer(&mut self, answer: &Answer)
-        ensures { Prints K.state self.old self.new (answer_words (answer_of answer.now)) }
-    {
-        match answer {
-            Answer::Started(child) => self.named(b"started ", *child),
-            Answer::Refused => self.put(b"refused"),
-            Answer::Bytes(bytes) => {
-                self.put(b"bytes ");
-                self.hex(bytes.as_slice());
-            }
-            Answer::Nothing => self.put(b"nothing"),
-            Answer::End => self.put(b"end"),
-            Answer::Code(code) => {
-                self.put(b"code ");
-                self.code(*code);
-            }
-            Answer::Signal => self.put(b"signal"),
-            Answer::Running => self.put(b"running"),
-            Answer::Sent => self.put(b"sent"),
-            Answer::Broken => self.put(b"broken"),
-            Answer::Closed => self.put(b"closed"),
-            Answer::Killed => self.put(b"killed"),
-            Answer::Failed => self.put(b"failed"),
-        }
-    }
-
-    fn line(&mut self, exchange: &Exchange)
-        ensures { Prints K.state self.old self.new (line (exchange_of exchange.now)) }
-    {
-        self.ask(&exchange.ask);
-        self.put(b" -> ");
-        self.answer(&exchange.answer);
-        self.put_byte(b'\n');
-    }
+fn line<K: Sink>(out: &mut Printer<'_, K>, exchange: &Exchange)
+    ensures { Prints K.state out.old out.new (line (exchange_of exchange.now)) }
+{
+    ask(out, &exchange.ask);
+    out.put(b" -> ");
+    answer(out, &exchange.answer);
+    out.put_byte(b'\n');
 }
 
 /// Writes a line for each exchange. A sink that failed has a front of the lines.
@@ -141,7 +139,7 @@ pub fn write_journal<K: Sink>(list: &Exchanges, sink: &mut K) -> Result<(), Sink
 {
     let mut out = Printer::new(sink);
     'lines: for i in 0..list.len() {
-        out.line(list.at(i));
+        line(&mut out, list.at(i));
     }
     out.finish()
 }

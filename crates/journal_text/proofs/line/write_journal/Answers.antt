@@ -5,7 +5,7 @@ use Rattle.ek_types.specs.Listing.{items_of}
 use Rattle.host_link.specs.Meaning.{exchange_of, exchanges_of}
 use Rattle.journal_text.specs.Lines.{line}
 use Rattle.journal_text.proofs.Gathering.{one_on, all_of}
-use Rattle.journal_text.proofs.Printing.{prints_then, prints_same, prints_nothing, written}
+use Rattle.sink_printer.proofs.Printing.{prints_then, prints_same, prints_nothing, written}
 use Rattle.journal_text.proofs.line.write_journal.Goals as goal
 
 pub lines-init : goal.lines-init

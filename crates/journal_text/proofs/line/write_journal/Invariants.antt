@@ -1,7 +1,7 @@
 use Rattle.std.proofs.Common.{take}
 use Rattle.host_link.specs.Meaning.{exchanges_of}
 use Rattle.journal_text.specs.Lines.{journal}
-use Rattle.journal_text.specs.Printing.{Prints}
+use Rattle.sink_printer.specs.Printing.{Prints}
 use Rattle.journal_text.proofs.line.write_journal.Given as goal
 
 abbrev pub invariant-lines : goal.invariant-lines

@@ -1,0 +1,9 @@
+pub mod Fitting
+pub mod Passing
+pub mod Places
+pub mod Ranking
+pub mod Showing
+pub mod Sorting
+pub mod Viewed
+pub mod Visible
+pub mod Whole

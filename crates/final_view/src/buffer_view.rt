@@ -1,0 +1,52 @@
+//! The view of a buffer.
+ghost use Rattle.std.specs.Prelude.{◌≡◌, true, flat_map};
+ghost use Rattle.text_model.specs.Characters.{encoded};
+ghost use Rattle.editor_model.specs.Editor.{is_live};
+ghost use Rattle.buffer_table.specs.Kept.{editor_of};
+ghost use Rattle.final_view.specs.Faults.{Views};
+ghost use Rattle.final_view.specs.Shown.{shown};
+
+use crate::characters::Text;
+use crate::fault::ViewFault;
+use crate::show::show;
+use buffer_table::{BufferText, Editor};
+use ek_types::{Ch, PropSet, Sink};
+
+impl Text for BufferText<'_> {
+    ghost cells = { λ t. t.buffer.text };
+
+    fn ch(&self, i: usize) -> Ch {
+        self.ch(i)
+    }
+
+    fn props(&self, i: usize) -> &PropSet {
+        self.props(i)
+    }
+
+    fn run_end(&self, i: usize) -> usize {
+        self.run_end(i)
+    }
+}
+
+/// Writes the accessible portion of a live buffer as it is seen: without the characters whose `invisible` isn't nil, with the
+/// strings of its overlays ("Invisible Text" and "Overlay Properties" in the GNU Emacs Lisp Reference Manual). A sink that failed has a
+/// front of it, and its count of faults rose. Where memory was wanting, nothing was written.
+pub fn view<K: Sink>(editor: &Editor, buffer: u32, sink: &mut K) -> Result<(), ViewFault>
+    requires { is_live (editor_of editor.now) buffer ≡ true }
+    ensures { Views (K.state sink.old) (K.state sink.new) result
+        (flat_map encoded (shown (editor_of editor.now) buffer)) }
+{
+    let bounds = editor.bounds(buffer);
+    match editor.text(buffer) {
+        Some(text) => show(
+            editor.allocator(),
+            &text,
+            &editor.marks().overlays,
+            buffer,
+            bounds.start,
+            bounds.end,
+            sink,
+        ),
+        None => unreachable!(),
+    }
+}

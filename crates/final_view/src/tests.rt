@@ -1,0 +1,405 @@
+//! What runs: buffers with overlays, worked out by hand, and a sink that fails.
+ghost use Rattle.std.specs.Prelude.{◌<◌};
+
+use crate::{ViewFault, view};
+use buffer_table::Editor;
+use ek_types::{Ch, Chars, Mem, MemorySink, Piece, PropSet, PropVal, Sym};
+use std::alloc::Global;
+use std::process::Abort;
+
+const PRIORITY: Sym = Sym(3);
+
+const INVISIBLE: Sym = Sym(11);
+
+const BEFORE_STRING: Sym = Sym(12);
+
+const AFTER_STRING: Sym = Sym(13);
+
+/// An overlay between two places, with its priority, its strings, and whether it hides. An empty string isn't given.
+#[derive(Clone, Copy)]
+struct Laid {
+    start: usize,
+    end: usize,
+    priority: i64,
+    before: &'static str,
+    after: &'static str,
+    hides: bool,
+}
+
+/// A text of which a part is invisible by its text property and another is accessible, its overlays, and what is seen.
+#[derive(Clone, Copy)]
+struct Row {
+    text: &'static str,
+    invisible: (usize, usize),
+    accessible: (usize, usize),
+    overlays: &'static [Laid],
+    seen: &'static str,
+}
+
+fn chars(alloc: Global, text: &str) -> Mem<Chars> {
+    let mut chars = Chars::new(alloc);
+    for c in text.chars() {
+        chars.push(Ch::Scalar(c))?;
+    }
+    Ok(chars)
+}
+
+fn put(rt: &impl Abort, editor: &mut Editor, k: u32, name: Sym, value: &PropVal) {
+    assert!(rt; k < editor.overlay_count());
+    editor.put_overlay(k, name, Some(value)).expect(rt, "room");
+}
+
+fn put_string(rt: &impl Abort, alloc: Global, editor: &mut Editor, k: u32, name: Sym, text: &str) {
+    if !text.is_empty() {
+        let text = chars(alloc, text).expect(rt, "a string");
+        put(rt, editor, k, name, &PropVal::Text(text));
+    }
+}
+
+fn lay(rt: &impl Abort, alloc: Global, editor: &mut Editor, laid: &Laid) {
+    let size = editor.size(0);
+    assert!(rt; editor.overlay_count() < 99 && editor.is_live(0));
+    assert!(rt; laid.start <= laid.end && laid.end <= size);
+    let k = editor
+        .make_overlay(0, laid.start, laid.end, false, false)
+        .expect(rt, "an overlay");
+    if laid.priority != 0 {
+        put(rt, editor, k, PRIORITY, &PropVal::Int(laid.priority));
+    }
+    if laid.hides {
+        put(rt, editor, k, INVISIBLE, &PropVal::Truth);
+    }
+    put_string(rt, alloc, editor, k, BEFORE_STRING, laid.before);
+    put_string(rt, alloc, editor, k, AFTER_STRING, laid.after);
+}
+
+fn hide(alloc: Global, text: &mut Piece, part: (usize, usize)) -> Mem<()> {
+    if part.0 <= part.1 && part.1 <= text.len() {
+        let set = PropSet::empty(alloc).with(INVISIBLE, &PropVal::Truth)?;
+        text.put(part.0, part.1, &set)?;
+    }
+    Ok(())
+}
+
+/// The editor of a row.
+fn furnished(rt: &impl Abort, alloc: Global, row: &Row) -> Editor {
+    let mut editor = Editor::new(alloc).expect(rt, "an editor");
+    let mut text = Piece::plain(alloc, chars(alloc, row.text).expect(rt, "a text"));
+    hide(alloc, &mut text, row.invisible).expect(rt, "a set");
+    assert!(rt; editor.is_live(0));
+    editor.replace(0, 0, 0, &text, false).expect(rt, "room");
+    for laid in row.overlays {
+        lay(rt, alloc, &mut editor, laid);
+    }
+    let size = editor.size(0);
+    let (start, end) = row.accessible;
+    assert!(rt; editor.is_live(0) && start <= end && end <= size);
+    editor.narrow(0, start, end);
+    editor
+}
+
+fn check(rt: &impl Abort, alloc: Global, row: &Row) {
+    let editor = furnished(rt, alloc, row);
+    let mut sink = MemorySink::new(alloc, 99, 2, Vec::new(alloc)).expect(rt, "a sink");
+    assert!(rt; editor.is_live(0));
+    let written = view(&editor, 0, &mut sink);
+    editor.close();
+    assert!(rt; written.is_ok());
+    assert_eq!(rt; sink.bytes(), row.seen.as_bytes());
+}
+
+const HIDDEN_LETTERS: Row = Row {
+    text: "abcdef",
+    invisible: (1, 3),
+    accessible: (0, 6),
+    overlays: &[Laid {
+        start: 4,
+        end: 6,
+        priority: 0,
+        before: "[",
+        after: "]",
+        hides: false,
+    }],
+    seen: "ad[ef]",
+};
+
+#[test]
+fn hidden_letters_and_an_overlay_at_the_end(rt: HostRuntime) {
+    check(&rt, rt.alloc(), &HIDDEN_LETTERS);
+}
+
+const TWO: [Laid; 2] = [
+    Laid {
+        start: 0,
+        end: 2,
+        priority: 5,
+        before: "A",
+        after: "a",
+        hides: false,
+    },
+    Laid {
+        start: 0,
+        end: 2,
+        priority: 0,
+        before: "B",
+        after: "b",
+        hides: false,
+    },
+];
+
+const TWO_WHOLE: Row = Row {
+    text: "xy",
+    invisible: (0, 0),
+    accessible: (0, 2),
+    overlays: &TWO,
+    seen: "BAxyab",
+};
+
+const TWO_NARROWED: Row = Row {
+    text: "xy",
+    invisible: (0, 0),
+    accessible: (0, 1),
+    overlays: &TWO,
+    seen: "BAx",
+};
+
+#[test]
+fn the_higher_priority_is_nearer_to_the_text(rt: HostRuntime) {
+    check(&rt, rt.alloc(), &TWO_WHOLE);
+    check(&rt, rt.alloc(), &TWO_NARROWED);
+}
+
+/// Of those that start at one place the shorter is nearer to the text; of those that end at one place the one that
+/// starts later.
+const NESTED: Row = Row {
+    text: "wxyz",
+    invisible: (0, 0),
+    accessible: (0, 4),
+    overlays: &[
+        Laid {
+            start: 0,
+            end: 4,
+            priority: 0,
+            before: "(",
+            after: ")",
+            hides: false,
+        },
+        Laid {
+            start: 0,
+            end: 2,
+            priority: 0,
+            before: "[",
+            after: "]",
+            hides: false,
+        },
+        Laid {
+            start: 2,
+            end: 4,
+            priority: 0,
+            before: "{",
+            after: "}",
+            hides: false,
+        },
+        Laid {
+            start: 2,
+            end: 4,
+            priority: -1,
+            before: "<",
+            after: ">",
+            hides: false,
+        },
+    ],
+    seen: "([wx]<{yz})>",
+};
+
+#[test]
+fn nested_overlays_at_one_place(rt: HostRuntime) {
+    check(&rt, rt.alloc(), &NESTED);
+}
+
+/// Strings behind those that end at a place, then those of the empty one and of the one that starts, the empty one being
+/// stronger as it ends earlier.
+const EMPTY_BETWEEN: Row = Row {
+    text: "ab",
+    invisible: (0, 0),
+    accessible: (0, 2),
+    overlays: &[
+        Laid {
+            start: 1,
+            end: 1,
+            priority: 0,
+            before: "1",
+            after: "2",
+            hides: false,
+        },
+        Laid {
+            start: 0,
+            end: 1,
+            priority: 0,
+            before: "",
+            after: "!",
+            hides: false,
+        },
+        Laid {
+            start: 1,
+            end: 2,
+            priority: 0,
+            before: "?",
+            after: "",
+            hides: false,
+        },
+    ],
+    seen: "a!?12b",
+};
+
+/// An empty overlay at each end of the portion is shown; one that ends where it begins or starts where it ends isn't.
+const EMPTY_AT_BOUNDS: Row = Row {
+    text: "abcd",
+    invisible: (0, 0),
+    accessible: (1, 3),
+    overlays: &[
+        Laid {
+            start: 1,
+            end: 1,
+            priority: 0,
+            before: "<",
+            after: ",",
+            hides: false,
+        },
+        Laid {
+            start: 3,
+            end: 3,
+            priority: 0,
+            before: ".",
+            after: ">",
+            hides: false,
+        },
+        Laid {
+            start: 0,
+            end: 1,
+            priority: 0,
+            before: "p",
+            after: "q",
+            hides: false,
+        },
+        Laid {
+            start: 3,
+            end: 4,
+            priority: 0,
+            before: "r",
+            after: "s",
+            hides: false,
+        },
+        Laid {
+            start: 0,
+            end: 0,
+            priority: 0,
+            before: "t",
+            after: "u",
+            hides: false,
+        },
+        Laid {
+            start: 0,
+            end: 4,
+            priority: 0,
+            before: "v",
+            after: "w",
+            hides: false,
+        },
+    ],
+    seen: "<,bc.>",
+};
+
+#[test]
+fn empty_overlays(rt: HostRuntime) {
+    check(&rt, rt.alloc(), &EMPTY_BETWEEN);
+    check(&rt, rt.alloc(), &EMPTY_AT_BOUNDS);
+}
+
+/// One hides from in front of the portion on, another behind it, and the text's own property between; the strings stay.
+const HIDDEN_BY_BOTH: Row = Row {
+    text: "abcdefg",
+    invisible: (4, 5),
+    accessible: (1, 7),
+    overlays: &[
+        Laid {
+            start: 0,
+            end: 2,
+            priority: 0,
+            before: "x",
+            after: "1",
+            hides: true,
+        },
+        Laid {
+            start: 2,
+            end: 4,
+            priority: 0,
+            before: "2",
+            after: "3",
+            hides: true,
+        },
+        Laid {
+            start: 4,
+            end: 5,
+            priority: 0,
+            before: "4",
+            after: "5",
+            hides: true,
+        },
+    ],
+    seen: "12345fg",
+};
+
+#[test]
+fn strings_on_hidden_text(rt: HostRuntime) {
+    check(&rt, rt.alloc(), &HIDDEN_BY_BOTH);
+}
+
+/// Characters of one to four bytes and a raw byte; a value that is no string isn't shown.
+#[test]
+fn all_lengths_and_other_values(rt: HostRuntime) {
+    let alloc = rt.alloc();
+    let mut editor = Editor::new(alloc).expect(&rt, "an editor");
+    let mut text = chars(alloc, "aé€😀").expect(&rt, "a text");
+    text.push(Ch::Raw(0xFF)).expect(&rt, "room");
+    assert!(rt; editor.is_live(0));
+    editor
+        .replace(0, 0, 0, &Piece::plain(alloc, text), false)
+        .expect(&rt, "room");
+    lay(
+        &rt,
+        alloc,
+        &mut editor,
+        &Laid {
+            start: 0,
+            end: 1,
+            priority: 0,
+            before: "",
+            after: "",
+            hides: false,
+        },
+    );
+    put(&rt, &mut editor, 0, BEFORE_STRING, &PropVal::Int(7));
+    put(&rt, &mut editor, 0, AFTER_STRING, &PropVal::Truth);
+    let mut sink = MemorySink::new(alloc, 99, 3, Vec::new(alloc)).expect(&rt, "a sink");
+    assert!(rt; editor.is_live(0));
+    let written = view(&editor, 0, &mut sink);
+    editor.close();
+    assert!(rt; written.is_ok());
+    assert_eq!(rt;
+        sink.bytes(),
+        b"a\xC3\xA9\xE2\x82\xAC\xF0\x9F\x98\x80\xFF".as_slice()
+    );
+}
+
+#[test]
+fn a_sink_that_fails_has_a_front(rt: HostRuntime) {
+    let alloc = rt.alloc();
+    let editor = furnished(&rt, alloc, &HIDDEN_LETTERS);
+    let mut sink = MemorySink::new(alloc, 4, 2, Vec::new(alloc)).expect(&rt, "a sink");
+    assert!(rt; editor.is_live(0));
+    let written = view(&editor, 0, &mut sink);
+    editor.close();
+    assert!(rt; written == Err(ViewFault::Sink));
+    assert_eq!(rt; sink.bytes(), b"ad[e".as_slice());
+}
