@@ -3,7 +3,7 @@
 use crate::checking::{holds, is};
 use ek_types::{Ch, Chars, Mem, Piece, PropSet, PropVal, Sym};
 use std::alloc::Global;
-use std::test::Fail;
+use std::process::Abort;
 
 const FACE: Sym = Sym(14);
 
@@ -28,16 +28,19 @@ fn bare_text(alloc: Global, size: usize) -> Mem<Piece> {
     Ok(Piece::plain(alloc, text))
 }
 
+/// The set with a face, or none where it is 0.
+fn faced(alloc: Global, face: i64) -> Mem<PropSet> {
+    if face == 0 {
+        return Ok(PropSet::empty(alloc));
+    }
+    PropSet::empty(alloc).with(FACE, &PropVal::Int(face))
+}
+
 /// Gives a part a face, or none where it is 0.
-fn paint(alloc: Global, piece: &mut Piece, from: usize, to: usize, face: i64) -> Result<(), Fail> {
-    if from > to || to > piece.len() {
-        return Err(Fail::from("no part of the piece"));
-    }
-    let mut set = PropSet::empty(alloc);
-    if face != 0 {
-        set = set.with(FACE, &PropVal::Int(face))?;
-    }
-    Ok(piece.put(from, to, &set)?)
+fn paint(rt: &impl Abort, alloc: Global, piece: &mut Piece, from: usize, to: usize, face: i64) {
+    assert!(rt; from <= to && to <= piece.len());
+    let set = faced(alloc, face).expect(rt, "memory");
+    piece.put(from, to, &set).expect(rt, "memory");
 }
 
 /// A part that is given a face, and the faces of all characters behind that.
@@ -93,7 +96,7 @@ fn properties_of_the_parts_of_a_piece(rt: HostRuntime) {
     let alloc = rt.alloc();
     let mut piece = bare_text(alloc, 8).expect(&rt, "memory");
     for part in PARTS.iter() {
-        paint(alloc, &mut piece, part.from, part.to, part.face).expect(&rt, "memory");
+        paint(&rt, alloc, &mut piece, part.from, part.to, part.face);
         holds(
             &rt,
             has_faces(alloc, &piece, part.faces.as_slice()).expect(&rt, "memory"),
@@ -105,9 +108,9 @@ fn properties_of_the_parts_of_a_piece(rt: HostRuntime) {
 fn a_piece_behind_another(rt: HostRuntime) {
     let alloc = rt.alloc();
     let mut piece = bare_text(alloc, 3).expect(&rt, "memory");
-    paint(alloc, &mut piece, 0, 2, 1).expect(&rt, "memory");
+    paint(&rt, alloc, &mut piece, 0, 2, 1);
     let mut more = bare_text(alloc, 2).expect(&rt, "memory");
-    paint(alloc, &mut more, 1, 2, 2).expect(&rt, "memory");
+    paint(&rt, alloc, &mut more, 1, 2, 2);
     piece.append(&more).expect(&rt, "memory");
     is(
         &rt,
@@ -130,7 +133,7 @@ fn a_piece_behind_another(rt: HostRuntime) {
 fn a_run_and_its_copy(rt: HostRuntime) {
     let alloc = rt.alloc();
     let mut piece = bare_text(alloc, 3).expect(&rt, "memory");
-    paint(alloc, &mut piece, 0, 3, 1).expect(&rt, "memory");
+    paint(&rt, alloc, &mut piece, 0, 3, 1);
     let copy = piece.copy().expect(&rt, "memory");
     assert!(rt; copy.len() > 0);
     is(&rt, copy.run_end(0), 3);
@@ -141,7 +144,7 @@ fn a_run_and_its_copy(rt: HostRuntime) {
 fn a_shared_piece_and_its_copies(rt: HostRuntime) {
     let alloc = rt.alloc();
     let mut piece = bare_text(alloc, 3).expect(&rt, "memory");
-    paint(alloc, &mut piece, 0, 2, 1).expect(&rt, "memory");
+    paint(&rt, alloc, &mut piece, 0, 2, 1);
     let shared = piece.shared(alloc).expect(&rt, "memory");
     let mut first = shared.copy().expect(&rt, "memory");
     let mut second = shared
@@ -150,7 +153,7 @@ fn a_shared_piece_and_its_copies(rt: HostRuntime) {
         .shared(alloc)
         .expect(&rt, "memory");
     first.append(&shared).expect(&rt, "memory");
-    paint(alloc, &mut second, 1, 3, 2).expect(&rt, "memory");
+    paint(&rt, alloc, &mut second, 1, 3, 2);
     is(
         &rt,
         faces(alloc, &shared).expect(&rt, "memory").as_slice(),

@@ -2,18 +2,14 @@
 
 use crate::checking::is;
 use ek_types::{Sym, Symbols};
-use std::test::Fail;
+use std::process::Abort;
 
 /// The number of a name, which then bears that name.
-fn number(symbols: &mut Symbols, name: &str) -> Result<u32, Fail> {
-    if symbols.count() > 99 {
-        return Err(Fail::from("too many names"));
-    }
-    let symbol = symbols.intern(name)?;
-    if symbols.name(symbol) != name {
-        return Err(Fail::from("the symbol has another name"));
-    }
-    Ok(symbol.0)
+fn number(rt: &impl Abort, symbols: &mut Symbols, name: &str) -> u32 {
+    assert!(rt; symbols.count() < 100);
+    let symbol = symbols.intern(name).expect(rt, "memory");
+    is(rt, symbols.name(symbol), name);
+    symbol.0
 }
 
 // The names of `(defhandler h (b e) (delete-region 1 2)) (add-hook 'before-change-functions 'h) (setq m (copy-marker 2))`,
@@ -22,16 +18,12 @@ fn number(symbols: &mut Symbols, name: &str) -> Result<u32, Fail> {
 fn numbers_for_the_names_of_a_script(rt: HostRuntime) {
     let mut symbols = Symbols::new(rt.alloc()).expect(&rt, "memory");
     is(&rt, symbols.count(), 14);
-    is(&rt, number(&mut symbols, "h").expect(&rt, "memory"), 14);
-    is(&rt, number(&mut symbols, "b").expect(&rt, "memory"), 15);
-    is(&rt, number(&mut symbols, "e").expect(&rt, "memory"), 16);
-    is(
-        &rt,
-        number(&mut symbols, "before-change-functions").expect(&rt, "memory"),
-        4,
-    );
-    is(&rt, number(&mut symbols, "h").expect(&rt, "memory"), 14);
-    is(&rt, number(&mut symbols, "m").expect(&rt, "memory"), 17);
+    is(&rt, number(&rt, &mut symbols, "h"), 14);
+    is(&rt, number(&rt, &mut symbols, "b"), 15);
+    is(&rt, number(&rt, &mut symbols, "e"), 16);
+    is(&rt, number(&rt, &mut symbols, "before-change-functions"), 4);
+    is(&rt, number(&rt, &mut symbols, "h"), 14);
+    is(&rt, number(&rt, &mut symbols, "m"), 17);
     let copy = symbols.copy().expect(&rt, "memory");
     is(&rt, copy.count(), 18);
     is(&rt, copy.find("e"), Some(Sym(16)));

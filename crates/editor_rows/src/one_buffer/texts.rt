@@ -35,7 +35,7 @@ struct Change {
 }
 
 /// A part is deleted where there are no letters, and else they are put in at its start.
-fn change(rt: &impl Abort, scene: &mut Scene, change: &Change) {
+fn make(rt: &impl Abort, scene: &mut Scene, change: &Change) {
     if change.text.is_empty() {
         scene.delete(rt, change.from, change.to);
     } else {
@@ -153,7 +153,7 @@ const AT_THE_GAP: [AtTheGap; 12] = [
 fn changes_on_both_sides_of_the_gap(rt: HostRuntime) {
     let mut scene = Scene::new(rt.alloc());
     for row in &AT_THE_GAP {
-        change(&rt, &mut scene, &row.change);
+        make(&rt, &mut scene, &row.change);
         shows(&rt, &scene, row.text);
     }
     is(&rt, scene.release(), 0);
@@ -295,7 +295,7 @@ fn check_narrowed(rt: &impl Abort, alloc: Global, row: &Narrowed) {
     scene.insert(rt, 0, "abcdef");
     scene.narrow(rt, 2, 4);
     scene.go(3);
-    change(rt, &mut scene, &row.change);
+    make(rt, &mut scene, &row.change);
     stands_at(rt, &row.change, scene.bounds(), row.bounds);
     scene.release();
 }
