@@ -172,8 +172,7 @@ pub fn run_over<N: Natives>(
     setting: Setting,
     natives: &N,
 ) -> Ran
-    requires kills { host.kills ≡ [] }
-    requires told { host.told ≡ [] }
+    requires { host.kills ≡ [] }
 {
     let Setting { from, to, room, .. } = setting;
     let words = given(rt, alloc, words);

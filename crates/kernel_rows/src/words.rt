@@ -5,7 +5,7 @@ use kernel_top::Status;
 use std::alloc::Global;
 use std::process::Abort;
 
-const WRONG: [&[&str]; 14] = [
+const WRONG: [&[&str]; 11] = [
     &["walk"],
     &["run", "x"],
     &[],
@@ -17,9 +17,6 @@ const WRONG: [&[&str]; 14] = [
     &["drill", "12345"],
     &["drill", "1", "2"],
     &["run", "1"],
-    &["record", "x"],
-    &["replay", "1"],
-    &["Replay"],
 ];
 
 /// A run that ends in this way before anything is written or asked.
