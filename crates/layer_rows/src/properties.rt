@@ -5,6 +5,7 @@ use crate::checking::is;
 use ek_types::{Ch, Chars, Mem, Piece, PropSet, PropVal, Sym, SymList};
 use prop_intervals::{PropEdit, Props};
 use std::alloc::Global;
+use std::test::Fail;
 
 const FACE: Sym = Sym(20);
 
@@ -191,38 +192,28 @@ fn changes_of_one_property(rt: HostRuntime) {
 }
 
 #[test]
-fn a_part_replaced(rt: HostRuntime) {
+fn a_part_replaced(rt: HostRuntime) -> Result<(), Fail> {
     let alloc = rt.alloc();
-    let mut props = with_face(alloc, 6, 2, 4).expect(&rt, "memory");
-    let copy = props.copy().expect(&rt, "memory");
-    let mut text = bare_text(alloc, 2).expect(&rt, "memory");
-    text.put(0, 1, &face(alloc, 2).expect(&rt, "memory"))
-        .expect(&rt, "memory");
-    let n = replaced(&mut props, 1, 3, &text, 6).expect(&rt, "memory");
-    is(
-        &rt,
-        faces(alloc, &props, n).expect(&rt, "memory").as_slice(),
-        [0i64, 2, 0, 1, 0, 0].as_slice(),
+    let mut props = with_face(alloc, 6, 2, 4)?;
+    let copy = props.copy()?;
+    let mut text = bare_text(alloc, 2)?;
+    text.put(0, 1, &face(alloc, 2)?)?;
+    let n = replaced(&mut props, 1, 3, &text, 6)?;
+    assert_eq!(rt;
+        faces(alloc, &props, n)?.as_slice(),
+        [0i64, 2, 0, 1, 0, 0].as_slice()
     );
-    let n = replaced(
-        &mut props,
-        1,
-        4,
-        &bare_text(alloc, 0).expect(&rt, "memory"),
-        n,
-    )
-    .expect(&rt, "memory");
-    is(
-        &rt,
-        faces(alloc, &props, n).expect(&rt, "memory").as_slice(),
-        [0i64, 0, 0].as_slice(),
+    let n = replaced(&mut props, 1, 4, &bare_text(alloc, 0)?, n)?;
+    assert_eq!(rt;
+        faces(alloc, &props, n)?.as_slice(),
+        [0i64, 0, 0].as_slice()
     );
-    is(&rt, props.run_end(0), 3);
-    is(
-        &rt,
-        faces(alloc, &copy, 6).expect(&rt, "memory").as_slice(),
-        [0i64, 0, 1, 1, 0, 0].as_slice(),
+    assert_eq!(rt; props.run_end(0), 3);
+    assert_eq!(rt;
+        faces(alloc, &copy, 6)?.as_slice(),
+        [0i64, 0, 1, 1, 0, 0].as_slice()
     );
+    Ok(())
 }
 
 const RUNS: usize = 131_072;
