@@ -5,12 +5,16 @@ use Rattle.std.specs.Io.KnownBytes.{Appends}
 use Rattle.std.proofs.lemmas.Bool.{ltb-true, ltb-false, leb-true, leb-false, le-leb}
 use Rattle.text_model.proofs.Cases.{same_tests}
 use Rattle.ek_types.specs.Io.{SinkState, Writes, Continues}
+use Rattle.ek_types.proofs.Printing.{continues_then, writes_of}
 use Rattle.kernel_top.specs.Counting.{counting_state}
 use Rattle.kernel_top.specs.Sessions.{longest_session, fits, Written, IsTooLong}
 use Rattle.kernel_top.specs.Outcomes.{written_status}
 
-pub continues : {T E F U : Type 0} {x : T} {r : Result U F} {old new : SinkState} {a : List ℕ} → Writes old new r a → Continues {E = E} (Ok x) r old new a
-continues w = record { by = w }
+-- writing that goes on from where a whole text was written
+pub written_then : {T U E F : Type 0} {r : Result T E} {s : Result U F} {old mid new : SinkState} {a b : List ℕ} → Writes old mid r a → Continues r s mid new b → Writes old new s (a ++ b)
+written_then {E = E} {r = r} {old = old} {mid = mid} {a = a} w k =
+    let first : Continues {T = Unit {0}} {E = E} (Ok tt) r old mid a = record { by = w } in
+    writes_of (continues_then first k)
 
 -- the counting sink was given the bytes
 pub counted : {T E : Type 0} (r : Result T E) (old new bytes : List ℕ) → old ≡ [] → Writes (counting_state old) (counting_state new) r bytes → new ≡ bytes

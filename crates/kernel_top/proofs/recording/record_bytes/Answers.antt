@@ -28,9 +28,9 @@ returns-in-Err-NoMemory-clause-outcome g c = record {
   so = λ source source' ended. inl (quiet source source' _ _);
 }
 
-pub returns-in_default-ran-clause-outcome : goal.returns-in_default-ran-clause-outcome
-returns-in_default-ran-clause-outcome g c =
-    let (exchanges, calls, why) = c.in_default-ran.ensures in
+pub returns-in_default-clause-outcome : goal.returns-in_default-clause-outcome
+returns-in_default-clause-outcome g c =
+    let (exchanges, calls, why) = c.in_default.ensures in
     record {
       written = [];
       exchanges = exchanges;
@@ -41,8 +41,8 @@ returns-in_default-ran-clause-outcome g c =
           source source' (g.K.Sink.state c.args.sink.now) ended c.in-Ok.ensures.script calls why;
     }
 
-pub returns-in-Some-clause-outcome : goal.returns-in-Some-clause-outcome
-returns-in-Some-clause-outcome g c =
+pub returns-clause-outcome : goal.returns-clause-outcome
+returns-clause-outcome g c =
     let (exchanges, calls, whole) = c.in-Ok-ran.ensures in
     let (written, put, row) = c.write_session.ensures.written in
     let list = told_all g.H.Host.state g.H.Host.made c.args.host.now c.run_unseen-ran.new.host exchanges _ calls c.requires.told c.in-Some.ensures in
@@ -61,12 +61,12 @@ unreachable-requires g c =
     let (exchanges, calls, whole) = c.in-Ok-ran.ensures in
     tells_still g.H.Host.state g.H.Host.made c.args.host.now c.run_unseen-ran.new.host exchanges calls c.requires.told c.in-None.ensures
 
-pub returns-in-Some-clause-no_read : goal.returns-in-Some-clause-no_read
-returns-in-Some-clause-no_read g c =
+pub returns-clause-no_read : goal.returns-clause-no_read
+returns-clause-no_read g c =
     let (written, put, row) = c.write_session.ensures.written in
     λ e. no_read_fault c.write_session.result _ written (g.K.Sink.state c.args.sink.now) (g.K.Sink.state c.write_session.new.sink) row e
 
-pub returns-in-Some-clause-known : goal.returns-in-Some-clause-known
-returns-in-Some-clause-known g c =
+pub returns-clause-known : goal.returns-clause-known
+returns-clause-known g c =
     let (written, put, row) = c.write_session.ensures.written in
     λ e. no_usage c.write_session.result _ written (g.K.Sink.state c.args.sink.now) (g.K.Sink.state c.write_session.new.sink) row e

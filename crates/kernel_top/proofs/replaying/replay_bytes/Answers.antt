@@ -15,22 +15,22 @@ returns-in-Err-Line-clause-written g c =
 pub returns-in-Err-NoMemory-clause-written : goal.returns-in-Err-NoMemory-clause-written
 returns-in-Err-NoMemory-clause-written g c = ([], Appends-nil _, inl (refl, refl))
 
-pub returns-in-Err-Line-2-clause-written : goal.returns-in-Err-Line-2-clause-written
-returns-in-Err-Line-2-clause-written g c =
+pub returns-in-Err-Line-read-clause-written : goal.returns-in-Err-Line-read-clause-written
+returns-in-Err-Line-read-clause-written g c =
     let to = c.in-Ok.ensures.read in
-    let none = c.in-Err-Line-2.ensures.none c.in-Err-Line-2.line (ap Err c.in-Err-Line-2.field-0-is) in
-    let at = c.in-Err-Line-2.ensures.line c.in-Err-Line-2.line (ap Err c.in-Err-Line-2.field-0-is) in
-    ([], Appends-nil _, rw c.in-Err-Line-2.line-is ((refl, refl), record { journal = exchanges_of c.in-Ok.journal; bytes = _; lines = to.lines; is = to.whole; so = record { none = none; at = at } }))
+    let none = c.in-Err-Line-read.ensures.none c.in-Err-Line-read.line (ap Err c.in-Err-Line-read.field-0-is) in
+    let at = c.in-Err-Line-read.ensures.line c.in-Err-Line-read.line (ap Err c.in-Err-Line-read.field-0-is) in
+    ([], Appends-nil _, rw c.in-Err-Line-read.line-is ((refl, refl), record { journal = exchanges_of c.in-Ok.found.0; bytes = _; lines = to.lines; is = to.whole; so = record { none = none; at = at } }))
 
-pub returns-in-Err-NoMemory-2-clause-written : goal.returns-in-Err-NoMemory-2-clause-written
-returns-in-Err-NoMemory-2-clause-written g c = ([], Appends-nil _, inl (refl, refl))
+pub returns-in-Err-NoMemory-read-clause-written : goal.returns-in-Err-NoMemory-read-clause-written
+returns-in-Err-NoMemory-read-clause-written g c = ([], Appends-nil _, inl (refl, refl))
 
 pub replay_script-requires-clause-few : goal.replay_script-requires-clause-few
 replay_script-requires-clause-few g c =
-    let few = few_exchanges c.args.bytes.now (exchanges_of c.in-Ok.journal) c.in-Ok.at c.in-Ok.ensures.read c.requires in
+    let few = few_exchanges c.args.bytes.now (exchanges_of c.in-Ok.found.0) c.in-Ok.found.1 c.in-Ok.ensures.read c.requires in
     omega (arith, few)
 
 pub returns-clause-written : goal.returns-clause-written
 returns-clause-written g c =
     let (written, put, so) = c.replay_script.ensures.written in
-    (written, put, replayed_bytes (λ script. program_with g.N.Natives.names g.N.Natives.does script c.args.natives.now) (script_of c.in-Ok-2.script) c.replay_script.result c.args.bytes.now (exchanges_of c.in-Ok.journal) c.in-Ok.at written (g.K.Sink.state c.args.sink.now) (g.K.Sink.state c.replay_script.new.sink) c.in-Ok.ensures.read c.in-Ok-2.ensures.script so)
+    (written, put, replayed_bytes (λ script. program_with g.N.Natives.names g.N.Natives.does script c.args.natives.now) (script_of c.in-Ok-read.script) c.replay_script.result c.args.bytes.now (exchanges_of c.in-Ok.found.0) c.in-Ok.found.1 written (g.K.Sink.state c.args.sink.now) (g.K.Sink.state c.replay_script.new.sink) c.in-Ok.ensures.read c.in-Ok-read.ensures.script so)

@@ -30,15 +30,15 @@ write_run-requires-clause-whole g c = rw (c.restart.ensures, c.in-Ok.ensures.kep
 pub returns-in-Ok-clause-written : goal.returns-in-Ok-clause-written
 returns-in-Ok-clause-written g c = rw (c.restart.ensures, c.in-Ok.ensures.kept, c.new-host.ensures) at c.write_run.ensures.written
 
-pub returns-in-Err-clause-written : goal.returns-in-Err-clause-written
-returns-in-Err-clause-written g c = (
+pub returns-clause-written : goal.returns-clause-written
+returns-clause-written g c = (
   [],
   Appends-nil _,
   refused_on (program_with g.N.Natives.names g.N.Natives.does (script_of c.args.script.now) c.args.natives.now) (script_of c.args.script.now) (exchanges_of c.args.journal) c.in-Err.status (g.K.Sink.state c.args.sink.now) (rw c.new-host.ensures at c.in-Err.ensures.followed),
 )
 
-pub returns-in-Err-clause-write_fault : goal.returns-in-Err-clause-write_fault
-returns-in-Err-clause-write_fault g c = record {
+pub returns-clause-write_fault : goal.returns-clause-write_fault
+returns-clause-write_fault g c = record {
   later = omega arith;
   rose = λ e. absurd (no_write_fault (program_with g.N.Natives.names g.N.Natives.does (script_of c.args.script.now) c.args.natives.now) (script_of c.args.script.now) _ c.in-Err.status c.in-Err.ensures.followed e);
 }

@@ -10,7 +10,7 @@ returns-in-Ok-ended g c =
     let (whole, last) = ends in
     (exchanges, calls, record { lines = written; ran = whole.ran })
 
-pub returns-in-Err-ended : goal.returns-in-Err-ended
-returns-in-Err-ended g c =
-    let (written, exchanges, put, calls, ends) = c.in-Err-ended.ensures.outcome in
+pub returns-in-Err : goal.returns-in-Err
+returns-in-Err g c =
+    let (written, exchanges, put, calls, ends) = c.in-Err.ensures.outcome in
     (exchanges, calls, inr (record { lines = written; broken = ends.broken; answered = ends.answered }))
