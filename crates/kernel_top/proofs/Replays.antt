@@ -1,5 +1,6 @@
 -- What the functions of a replay come to.
-use Rattle.std.proofs.Common.{◌≡◌, ℕ, ◌<◌, ◌≤◌, ◌+◌, List, [], ◌∷◌, ◌++◌, length, drop, Result, Ok, Err, inl, inr, refl, sym, ap, subst, arith, length-append, codes}
+use Rattle.std.proofs.Common.{◌≡◌, ℕ, ◌<◌, ◌≤◌, ◌+◌, ◌-◌, List, [], ◌∷◌, ◌++◌, length, take, drop, Result, Ok, Err, inl, inr, refl, sym, ap, subst, arith, length-append, codes}
+use Rattle.std.proofs.lemmas.List.{take_all, length-drop}
 use Rattle.std.specs.Io.KnownBytes.{Appends}
 use Rattle.editor_model.specs.Values.{Script}
 use Rattle.editor_model.specs.Editor.{Editor}
@@ -67,6 +68,10 @@ few_lines (x ∷ list) =
 pub few_exchanges : (bytes : List ℕ) (list : List Exchange) (at : ℕ) → IsReadTo bytes list at → length bytes ≤ longest_session → length list ≤ longest_session
 few_exchanges bytes list at to short =
     omega (arith, short, few_lines list, ap length to.whole, length-append (journal list) (codes "script\n" ++ drop at bytes))
+
+-- the bytes from a place on, as a slice has them
+pub rest_is : (bytes : List ℕ) (at : ℕ) → take (length bytes - at) (drop at bytes) ≡ drop at bytes
+rest_is bytes at = take_all (length bytes - at) (drop at bytes) (omega (arith, length-drop at bytes))
 
 -- the script of a session was replayed
 pub replayed_bytes : (program : Script → Program) (script : Script) (answer : Status) (read : List ℕ) (journal : List Exchange) (at : ℕ) (written : List ℕ) (before now : SinkState) →
