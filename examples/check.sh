@@ -1,5 +1,5 @@
 #!/bin/bash
-# Runs the program on each example and compares what it writes, and on three drills: examples/check.sh [PROGRAM]
+# Runs the program on each example and compares what it writes, on sessions, and on three drills: examples/check.sh [PROGRAM]
 set -u
 here="$(cd "$(dirname "$0")" && pwd)"
 program="${1:-$here/../crates/kernel_cli/out/kernel_cli}"
@@ -8,6 +8,17 @@ for script in "$here"/*.el; do
     name="$(basename "$script" .el)"
     if ! "$program" run < "$script" 2> /dev/null | cmp -s - "$here/$name.out"; then
         echo "differs: $name"
+        failed=1
+    fi
+done
+for session in "$here"/*.session; do
+    name="$(basename "$session" .session)"
+    if ! "$program" replay < "$session" 2> /dev/null | cmp -s - "$here/$name.out"; then
+        echo "differs: the replay of $name"
+        failed=1
+    fi
+    if ! "$program" record < "$here/$name.el" 2> /dev/null | cmp -s - "$session"; then
+        echo "differs: the session of $name"
         failed=1
     fi
 done

@@ -102,6 +102,18 @@ impl Replay {
         }
     }
 
+    /// Begins again: nothing is answered yet, and nothing told.
+    pub fn restart(&mut self)
+        ensures { self.new ≡ new_replay self.old.list }
+    {
+        let alloc = self.list.allocator();
+        self.matched = 0;
+        self.strayed = false;
+        self.kills = Vec::new(alloc);
+        self.faults = 0;
+        self.told = Told::new(alloc);
+    }
+
     /// How many exchanges of the list were answered, while the asks agreed.
     pub fn matched(&self) -> usize
         ensures { result ≡ self.now.matched }

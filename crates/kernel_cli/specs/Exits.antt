@@ -13,6 +13,9 @@ failure_of (status.Script line) = Some (failure.Script line)
 failure_of status.ReadFault = Some failure.Read
 failure_of status.WriteFault = Some failure.Write
 failure_of status.NoMemory = Some failure.Memory
+failure_of (status.Journal line) = Some (failure.Journal line)
+failure_of status.JournalFull = Some failure.JournalFull
+failure_of (status.Strayed most) = Some (failure.Strayed most)
 
 abbrev pub exit_status : Failure → ℕ
 exit_status failure.Usage = 1
@@ -20,3 +23,6 @@ exit_status (failure.Script line) = 2
 exit_status failure.Read = 3
 exit_status failure.Write = 4
 exit_status failure.Memory = 5
+exit_status (failure.Journal line) = 6
+exit_status failure.JournalFull = 7
+exit_status (failure.Strayed most) = 8

@@ -17,6 +17,12 @@ pub enum Failure {
     Write,
     #[error("kernel_cli: out of memory")]
     Memory,
+    #[error("kernel_cli: journal: line {0}")]
+    Journal(u32),
+    #[error("kernel_cli: journal too long")]
+    JournalFull,
+    #[error("kernel_cli: strayed at {0}")]
+    Strayed(u32),
 }
 
 impl Failure {
@@ -29,6 +35,9 @@ impl Failure {
             Failure::Read => 3,
             Failure::Write => 4,
             Failure::Memory => 5,
+            Failure::Journal(_) => 6,
+            Failure::JournalFull => 7,
+            Failure::Strayed(_) => 8,
         }
     }
 }
@@ -44,5 +53,8 @@ pub fn result_of(status: Status) -> Result<(), Failure>
         Status::ReadFault => Err(Failure::Read),
         Status::WriteFault => Err(Failure::Write),
         Status::NoMemory => Err(Failure::Memory),
+        Status::Journal(line) => Err(Failure::Journal(line)),
+        Status::JournalFull => Err(Failure::JournalFull),
+        Status::Strayed(most) => Err(Failure::Strayed(most)),
     }
 }

@@ -1,7 +1,7 @@
-//! Runs the script on standard input, or a drill, and writes what comes of it to standard output.
+//! Runs, records or replays what stands on standard input, or runs a drill, and writes what comes of it to standard output.
 #![tactic(auto)]
 
-ghost use Rattle.std.specs.Prelude.{◌^◌, ◌≤◌, length};
+ghost use Rattle.std.specs.Prelude.{◌≡◌, ◌^◌, ◌≤◌, [], Some, length};
 
 mod children;
 mod failure;
@@ -30,7 +30,8 @@ fn words(rt: &HostRuntime) -> Result<Vec<String>, Failure> {
 
 /// Runs with standard input and output, over a host. Children that the host still has are dropped with it.
 fn work_over<H: Host + Drop>(rt: &HostRuntime, words: &[String], mut host: H) -> Result<(), Failure>
-    requires { length (H.state host).kills ≤ 2 ^ 31 }
+    requires few { length (H.state host).kills ≤ 2 ^ 31 }
+    requires told { (H.state host).told ≡ Some [] }
 {
     let mut source = ReaderSource::new(rt.reader());
     let lines = LineWriter::new(rt.alloc(), io::writer(rt)).map_err(|_| Failure::Memory)?;

@@ -1,4 +1,4 @@
-ghost use Rattle.std.specs.Prelude.{◌≡◌, ◌^◌, ◌≤◌, [], length, IfOk};
+ghost use Rattle.std.specs.Prelude.{◌≡◌, ◌^◌, ◌≤◌, [], Some, length, IfOk};
 
 use super::*;
 use ek_types::{ListOf, MemorySink, MemorySource};
@@ -7,32 +7,47 @@ use kernel_top::Status;
 use std::alloc::Global;
 use std::test::Fail;
 
-/// What a run with the shipped handlers writes, over a host that has started no child.
-fn written_over<H: Host>(
+/// What a word with the shipped handlers writes for some bytes, over a host that has started no child.
+fn written_by<H: Host>(
     alloc: Global,
-    script: &str,
+    word: &str,
+    bytes: &[u8],
     host: &mut H,
 ) -> Result<(Status, Vec<u8>), Fail>
-    requires { length (H.state host.old).kills ≤ 2 ^ 31 }
+    requires few { length (H.state host.old).kills ≤ 2 ^ 31 }
+    requires told { (H.state host.old).told ≡ Some [] }
 {
     let mut words = Vec::new(alloc);
-    words.push(String::from_str(alloc, "run")?)?;
-    let bytes = script.as_bytes().to_vec(alloc)?;
+    words.push(String::from_str(alloc, word)?)?;
+    let bytes = bytes.to_vec(alloc)?;
     let mut source = MemorySource::new(bytes, 1000, Vec::new(alloc));
     let mut sink = MemorySink::new(alloc, 4_000_000, 1000, Vec::new(alloc))?;
     let status = run_shipped(alloc, words.as_slice(), &mut source, &mut sink, host)?;
     Ok((status, sink.bytes().to_vec(alloc)?))
 }
 
+/// What a run with the shipped handlers writes.
+fn written_over<H: Host>(
+    alloc: Global,
+    script: &str,
+    host: &mut H,
+) -> Result<(Status, Vec<u8>), Fail>
+    requires few { length (H.state host.old).kills ≤ 2 ^ 31 }
+    requires told { (H.state host.old).told ≡ Some [] }
+{
+    written_by(alloc, "run", script.as_bytes(), host)
+}
+
 /// What a run with real children writes.
 fn written(rt: &HostRuntime, script: &str) -> Result<(Status, Vec<u8>), Fail> {
-    let mut host = RealHost::new(rt.alloc(), rt);
+    let mut host = Recorder::new(rt.alloc(), RealHost::new(rt.alloc(), rt));
     written_over(rt.alloc(), script, &mut host)
 }
 
 /// One child whose reads give these bytes. Then its output has ended, and so has the child, with code 0.
 fn one_child(alloc: Global, pieces: &[&[u8]]) -> Result<MemoryHost, Fail>
-    ensures { IfOk result (λ host. host.kills ≡ []) }
+    ensures kills { IfOk result (λ host. host.kills ≡ []) }
+    ensures told { IfOk result (λ host. host.told ≡ []) }
 {
     let mut reads = ListOf::new(alloc);
     for piece in pieces {
@@ -238,6 +253,27 @@ fn a_long_output_is_read_to_its_end(rt: HostRuntime) -> Result<(), Fail> {
     Ok(())
 }
 
+/// What a real child says in a run is told once more by a replay, and no child is started then.
+#[test]
+fn a_recorded_child_is_replayed(rt: HostRuntime) -> Result<(), Fail> {
+    let script = br#"(setq p (start-process "c" "out" "printf" "hi"))
+(set-process-filter p 'insert-filter)(accept-process-output p)(accept-process-output p)"#;
+    let mut host = Recorder::new(rt.alloc(), RealHost::new(rt.alloc(), &rt));
+    let (status, session) = written_by(rt.alloc(), "record", script, &mut host)?;
+    assert_eq!(rt; status, Status::Done);
+    assert!(rt; session.starts_with(b"spawn 7072696e7466 6869 -> started 0\n"));
+    let mut none = MemoryHost::new(Vec::new(rt.alloc()), Vec::new(rt.alloc()));
+    let (status, lines) = written_by(rt.alloc(), "replay", session.as_slice(), &mut none)?;
+    assert_eq!(rt; status, Status::Done);
+    assert!(rt;
+        lines.starts_with(
+            b"= #<process c>\n= insert-filter\n> filter insert-filter #<process c> \"hi\"\n"
+        )
+    );
+    assert!(rt; lines.ends_with(b"process 0 #<process c> exit 0\n"));
+    Ok(())
+}
+
 #[test]
 fn a_failure_is_told_in_a_line(rt: HostRuntime) -> Result<(), Fail> {
     let told = [
@@ -246,6 +282,9 @@ fn a_failure_is_told_in_a_line(rt: HostRuntime) -> Result<(), Fail> {
         (Status::ReadFault, "kernel_cli: read failed", 3),
         (Status::WriteFault, "kernel_cli: write failed", 4),
         (Status::NoMemory, "kernel_cli: out of memory", 5),
+        (Status::Journal(2), "kernel_cli: journal: line 2", 6),
+        (Status::JournalFull, "kernel_cli: journal too long", 7),
+        (Status::Strayed(3), "kernel_cli: strayed at 3", 8),
     ];
     for (status, line, exit_status) in told {
         let Err(failure) = result_of(status) else {

@@ -22,7 +22,7 @@ const ROWS: [&[Row]; 6] = [
 ];
 
 /// All runs.
-fn all(rt: &impl Abort, alloc: Global) -> Vec<Run> {
+pub fn all(rt: &impl Abort, alloc: Global) -> Vec<Run> {
     let mut runs = nesting::runs(rt, alloc);
     for row in ROWS.into_iter().flatten() {
         runs.push(row.run(rt, alloc)).expect(rt, "memory");

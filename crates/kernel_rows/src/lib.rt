@@ -24,7 +24,11 @@ mod nesting;
 #[cfg(test)]
 mod playing;
 #[cfg(test)]
+mod recording;
+#[cfg(test)]
 mod reentry;
+#[cfg(test)]
+mod replaying;
 #[cfg(test)]
 mod shown;
 #[cfg(test)]

@@ -172,7 +172,8 @@ pub fn run_over<N: Natives>(
     setting: Setting,
     natives: &N,
 ) -> Ran
-    requires { host.kills ≡ [] }
+    requires kills { host.kills ≡ [] }
+    requires told { host.told ≡ [] }
 {
     let Setting { from, to, room, .. } = setting;
     let words = given(rt, alloc, words);

@@ -5,7 +5,7 @@ use kernel_top::Status;
 use std::alloc::Global;
 use std::process::Abort;
 
-const WRONG: [&[&str]; 11] = [
+const WRONG: [&[&str]; 14] = [
     &["walk"],
     &["run", "x"],
     &[],
@@ -17,6 +17,9 @@ const WRONG: [&[&str]; 11] = [
     &["drill", "12345"],
     &["drill", "1", "2"],
     &["run", "1"],
+    &["record", "x"],
+    &["replay", "1"],
+    &["Replay"],
 ];
 
 /// A run that ends in this way before anything is written or asked.

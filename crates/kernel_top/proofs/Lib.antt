@@ -5,4 +5,10 @@ pub mod HandedOn
 pub mod SummedUp
 pub mod MadeForms
 pub mod DrillOutput
+pub mod Sessions
 pub mod Outcomes
+pub mod Recorded
+pub mod Paths
+pub mod Following
+pub mod Strayed
+pub mod Replays

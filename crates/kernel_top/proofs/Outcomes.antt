@@ -1,6 +1,6 @@
 -- What follows from how a script ended, and from the outcome of a call.
-use Rattle.std.proofs.Common.{◌≡◌, ℕ, ◌<◌, Bool, true, false, List, [], ◌∷◌, length, Some, None, Result, Ok, Err, inl, inr, refl, sym, ◌∙◌, subst, arith}
-use Rattle.std.specs.Prelude.{◌⊎◌, nat_lt}
+use Rattle.std.proofs.Common.{◌≡◌, ℕ, ◌+◌, ◌<◌, ◌≤◌, Bool, true, false, List, [], ◌∷◌, length, Some, None, Result, Ok, Err, inl, inr, refl, sym, ◌∙◌, subst, arith}
+use Rattle.std.specs.Prelude.{◌⊎◌, nat_lt, codes, if◌then◌else◌}
 use Rattle.std.proofs.lemmas.Bool.{ltb-true, ltb-false}
 use Rattle.std.specs.declared.option.Option.{Option}
 use Rattle.std.specs.Io.KnownBytes.{Consumes, IsAtEnd, Appends}
@@ -17,12 +17,16 @@ use Rattle.editor_model.specs.Editor.{Editor}
 use Rattle.kernel_steps.specs.Outcomes.{EndsAs}
 use Rattle.kernel_steps.specs.declared.stop.Stop.{Stop}
 use Rattle.kernel_steps.specs.declared.stop.Stop.TheVariants as stop
-use Rattle.kernel_top.specs.Words.{IsRun, IsDrill, IsKnown}
+use Rattle.text_model.specs.Names.{same_word}
+use Rattle.ek_types.proofs.Naming.{same_word-true}
+use Rattle.kernel_top.specs.Words.{is_word, IsRun, IsRecord, IsReplay, IsDrill, IsKnown}
 use Rattle.kernel_top.specs.Reading.{HasEnded, IsAll, IsGivenUp}
 use Rattle.kernel_top.specs.declared.reading.Refused.{Refused}
 use Rattle.kernel_top.specs.declared.reading.Refused.TheVariants as refused
 use Rattle.kernel_top.specs.Drills.{SumsUp}
-use Rattle.kernel_top.specs.Outcomes.{status_of, written_status, Seen, seen, IsQuiet, IsNoScript, OnRun, OnDrill, OnOthers, Outcome, of_run, of_drill, of_others, Came, CameSo, OfBytes, Completes, CompletesRun, CompletesDrill}
+use Rattle.kernel_top.specs.Outcomes.{status_of, written_status, Seen, seen, IsQuiet, IsNoScript, OnRun, OnRecord, OnReplay, OnDrill, OnOthers, Outcome, of_run, of_record, of_replay, of_drill, of_others, Came, CameSo, OfBytes, most_read, Completes, CompletesRun, CompletesRecord, CompletesReplay, CompletesDrill}
+use Rattle.kernel_top.specs.Sessions.{longest_session}
+use Rattle.kernel_top.specs.Replaying.{ReadAndReplayed, SourceReplayed}
 use Rattle.kernel_top.specs.declared.status.Status.{Status}
 use Rattle.kernel_top.specs.declared.status.Status.TheVariants as status
 use Rattle.kernel_steps.proofs.HostCalls.{calls_told}
@@ -43,6 +47,14 @@ pub is_known : {T : Type 0} (r : Result T Stop) → status_of r ≡ status.Usage
 is_known (Ok x) e = let no : status.Done ≡ status.Usage = e in cc
 is_known (Err stop.WriteFault) e = let no : status.WriteFault ≡ status.Usage = e in cc
 is_known (Err stop.NoMemory) e = let no : status.NoMemory ≡ status.Usage = e in cc
+
+-- HOW MUCH IS READ
+few_by : (n : ℕ) (b : Bool) → n ≤ longest_script + 1 → n ≤ (if b then longest_session + 1 else longest_script + 1)
+few_by n true h = omega (arith, h)
+few_by n false h = h
+
+pub few_read : (n : ℕ) (words : List (List ℕ)) → n ≤ longest_script + 1 → n ≤ most_read words
+few_read n words h = few_by n (is_word (codes "replay") words) h
 
 -- THE OUTCOME
 pub quiet : (source source' : SourceState) (sink : SinkState) (host : HostState) → IsQuiet [] [] (seen source sink host) (seen source' sink host)
@@ -74,17 +86,19 @@ summed program count (Err e) line exchanges sink sink' sums w =
 
 module _ {H : Type 0} (hosted : H → HostState) (made : H → H → Ask → ℕ → Answer → Type 0) (program : Script → Program) (words : List (List ℕ)) (answer : Status) (start now : H) (source source' : SourceState) (sink sink' : SinkState) where
   -- so it is of the bytes of a source, and the host has told its calls
-  pub came_from : (bytes : List ℕ) → IsRun words → IsAll bytes source source' → CameSo hosted made start now sink sink' (OfBytes program bytes answer) → Came hosted made program words answer start now source source' sink sink'
-  came_from bytes run all of = record {
+  pub came_from : (On : Status → (read written : List ℕ) → List Exchange → (before now : Seen) → Type 0) (bytes : List ℕ) →
+      ((written : List ℕ) (exchanges : List Exchange) (before now : Seen) → On answer bytes written exchanges before now → Outcome program answer words bytes written exchanges before now) →
+      IsAll longest_script bytes source source' → CameSo hosted made start now sink sink' (OfBytes On bytes answer) → Came hosted made program words answer start now source source' sink sink'
+  came_from On bytes row all of = record {
     read = bytes;
     written = of.written;
     exchanges = of.exchanges;
     taken = all.taken;
-    few = omega (arith, all.short);
+    few = few_read _ words (omega (arith, all.short));
     put = of.put;
     calls = of.calls;
     told = calls_told hosted made start now of.exchanges of.calls;
-    outcome = of_run run (of.so source source' all.ended);
+    outcome = row of.written of.exchanges _ _ (of.so source source' all.ended);
   }
 
   -- so it is of a drill, whose source is as it was
@@ -94,7 +108,7 @@ module _ {H : Type 0} (hosted : H → HostState) (made : H → H → Ask → ℕ
     written = of.written;
     exchanges = of.exchanges;
     taken = consumes_nothing source.left;
-    few = omega arith;
+    few = few_read 0 words (omega arith);
     put = of.put;
     calls = of.calls;
     told = calls_told hosted made start now of.exchanges of.calls;
@@ -102,17 +116,31 @@ module _ {H : Type 0} (hosted : H → HostState) (made : H → H → Ask → ℕ
   }
 
   -- so it is where reading was given up, and nothing else was done
-  pub came_given_up : (why : Refused) → IsRun words → IsGivenUp why source source' → ((bytes : List ℕ) → (why ≡ refused.TooLong → longest_script < length bytes) → OnRun program answer bytes [] [] (seen source sink (hosted start)) (seen source' sink (hosted start))) → Came hosted made program words answer start start source source' sink sink
-  came_given_up why run given_up row = record {
+  pub came_given_up : (why : Refused) → IsGivenUp longest_script why source source' → ((bytes : List ℕ) → (why ≡ refused.TooLong → longest_script < length bytes) → Outcome program answer words bytes [] [] (seen source sink (hosted start)) (seen source' sink (hosted start))) → Came hosted made program words answer start start source source' sink sink
+  came_given_up why given_up row = record {
     read = given_up.bytes;
     written = [];
     exchanges = [];
     taken = given_up.taken;
-    few = given_up.few;
+    few = few_read _ words given_up.few;
     put = Appends-nil sink.held;
     calls = refl;
     told = calls_told hosted made start start [] refl;
-    outcome = of_run run (row given_up.bytes given_up.long);
+    outcome = row given_up.bytes given_up.long;
+  }
+
+  -- so it is of a replay, which asks the host nothing
+  pub came_replayed : IsReplay words → SourceReplayed program answer source source' sink sink' → Came hosted made program words answer start start source source' sink sink'
+  came_replayed replays so = record {
+    read = so.read;
+    written = so.written;
+    exchanges = [];
+    taken = so.taken;
+    few = rw replays so.few;
+    put = so.put;
+    calls = refl;
+    told = calls_told hosted made start start [] refl;
+    outcome = of_replay replays (refl, refl, so.so);
   }
 
   -- so it is of words that the program doesn't know
@@ -122,12 +150,20 @@ module _ {H : Type 0} (hosted : H → HostState) (made : H → H → Ask → ℕ
     written = [];
     exchanges = [];
     taken = consumes_nothing source.left;
-    few = omega arith;
+    few = few_read 0 words (omega arith);
     put = Appends-nil sink.held;
     calls = refl;
     told = calls_told hosted made start start [] refl;
     outcome = of_others never (refl, refl) row;
   }
+
+-- a replay knows its words
+pub replay_is_known : (program : Script → Program) (answer : Status) (source source' : SourceState) (sink sink' : SinkState) → SourceReplayed program answer source source' sink sink' → answer ≡ status.Usage → ⊥
+replay_is_known program answer source source' sink sink' so e = by (subst (λ a. ReadAndReplayed program a so.read so.written (HasEnded source.left source'.left) sink sink') e so.so)
+  where
+    by : ReadAndReplayed program status.Usage so.read so.written (HasEnded source.left source'.left) sink sink' → ⊥
+    by (inl (ended, short, row)) = row
+    by (inr (nothing, row)) = row
 
 -- a drill comes to no read fault
 pub drill_reads_nothing : {H : Type 0} (hosted : H → HostState) (made : H → H → Ask → ℕ → Answer → Type 0) (program : Script → Program) (count : ℕ) (answer : Status) (start now : H) (sink sink' : SinkState) (source : SourceState) →
@@ -140,14 +176,43 @@ pub too_long : (bytes : List ℕ) → longest_script < length bytes → IsNoScri
 too_long bytes long = record { none = λ script is. omega (arith, is.short, long); at = inl (long, refl) }
 
 -- WORDS
+-- one word isn't another
+two_words : (known other : List ℕ) → same_word known other ≡ false → (words : List (List ℕ)) → is_word known words ≡ true → is_word other words ≡ true → ⊥
+two_words known other differ [] is too = let no : false ≡ true = is in cc
+two_words known other differ (w ∷ []) is too =
+    let same : w ≡ known = same_word-true w known is in
+    let no : false ≡ true = sym differ ∙ subst (λ l. same_word l other ≡ true) same too in cc
+two_words known other differ (w ∷ x ∷ words) is too = let no : false ≡ true = is in cc
+
+run_is_word : (words : List (List ℕ)) → IsRun words → is_word (codes "run") words ≡ true
+run_is_word [] run = let no : false ≡ true = run in cc
+run_is_word (w ∷ []) run = run
+run_is_word (w ∷ x ∷ words) run = let no : false ≡ true = run in cc
+
+word_no_drill : (known : List ℕ) (words : List (List ℕ)) (count : ℕ) → is_word known words ≡ true → IsDrill words count → ⊥
+word_no_drill known [] count is drill = let no : false ≡ true = is in cc
+word_no_drill known (w ∷ []) count is drill = let no : None ≡ Some count = drill in cc
+word_no_drill known (w ∷ x ∷ words) count is drill = let no : false ≡ true = is in cc
+
+run_no_record : (words : List (List ℕ)) → IsRun words → IsRecord words → ⊥
+run_no_record words run = two_words (codes "run") (codes "record") refl words (run_is_word words run)
+
+run_no_replay : (words : List (List ℕ)) → IsRun words → IsReplay words → ⊥
+run_no_replay words run = two_words (codes "run") (codes "replay") refl words (run_is_word words run)
+
+record_no_replay : (words : List (List ℕ)) → IsRecord words → IsReplay words → ⊥
+record_no_replay words = two_words (codes "record") (codes "replay") refl words
+
 pub not_both : (words : List (List ℕ)) (count : ℕ) → IsRun words → IsDrill words count → ⊥
 not_both [] count run drill = let no : false ≡ true = run in cc
 not_both (w ∷ []) count run drill = let no : None ≡ Some count = drill in cc
 not_both (w ∷ x ∷ words) count run drill = let no : false ≡ true = run in cc
 
-pub unknown : (words : List (List ℕ)) → is_run words ≡ false → None ≡ drill_of words → IsKnown words → ⊥
-unknown words no_run no_drill (inl run) = let no : false ≡ true = sym no_run ∙ run in cc
-unknown words no_run no_drill (inr (count, drill)) = let no : None ≡ Some count = no_drill ∙ drill in cc
+pub unknown : (words : List (List ℕ)) → is_run words ≡ false → is_word (codes "record") words ≡ false → is_word (codes "replay") words ≡ false → None ≡ drill_of words → IsKnown words → ⊥
+unknown words no_run no_record no_replay no_drill (inl run) = let no : false ≡ true = sym no_run ∙ run in cc
+unknown words no_run no_record no_replay no_drill (inr (inl recording)) = let no : false ≡ true = sym no_record ∙ recording in cc
+unknown words no_run no_record no_replay no_drill (inr (inr (inl replays))) = let no : false ≡ true = sym no_replay ∙ replays in cc
+unknown words no_run no_record no_replay no_drill (inr (inr (inr (count, drill)))) = let no : None ≡ Some count = no_drill ∙ drill in cc
 
 -- COMPLETENESS
 -- a script is not refused
@@ -179,6 +244,35 @@ module _ (program : Script → Program) (words : List (List ℕ)) (read written 
   run_row (status.Script line) (ended, refused, kept) r w = λ bytes script run told is unread unwritten. absurd (no_script_read bytes read script line source.left source'.left told taken ended is refused)
   run_row status.ReadFault o r w = λ bytes script run told is unread unwritten. absurd (unread (r refl))
   run_row status.WriteFault o r w = λ bytes script run told is unread unwritten. absurd (unwritten (w refl))
+  run_row (status.Journal line) o r w = λ bytes script run told is unread unwritten. absurd o
+  run_row status.JournalFull o r w = λ bytes script run told is unread unwritten. absurd o
+  run_row (status.Strayed most) o r w = λ bytes script run told is unread unwritten. absurd o
+
+  record_row : (result : Status) → OnRecord program result read written exchanges before now → (result ≡ status.ReadFault → Rose source.faults source'.faults) → (result ≡ status.WriteFault → Rose sink.faults sink'.faults) →
+      CompletesRecord result words source source' sink sink'
+  record_row status.Done o r w = λ bytes script run told is unread unwritten. inl refl
+  record_row status.NoMemory o r w = λ bytes script run told is unread unwritten. inr (inl refl)
+  record_row status.JournalFull o r w = λ bytes script run told is unread unwritten. inr (inr refl)
+  record_row status.Usage o r w = λ bytes script run told is unread unwritten. absurd o.so.session
+  record_row (status.Journal line) o r w = λ bytes script run told is unread unwritten. absurd o.so.session
+  record_row (status.Strayed most) o r w = λ bytes script run told is unread unwritten. absurd o.so.session
+  record_row (status.Script line) (ended, refused, kept) r w = λ bytes script run told is unread unwritten. absurd (no_script_read bytes read script line source.left source'.left told taken ended is refused)
+  record_row status.ReadFault o r w = λ bytes script run told is unread unwritten. absurd (unread (r refl))
+  record_row status.WriteFault o r w = λ bytes script run told is unread unwritten. absurd (unwritten (w refl))
+
+  replay_row : (result : Status) → OnReplay program result read written exchanges before now → (result ≡ status.ReadFault → Rose source.faults source'.faults) → (result ≡ status.WriteFault → Rose sink.faults sink'.faults) →
+      CompletesReplay result words source source' sink sink'
+  replay_row status.Done o r w = λ is unread unwritten. tt
+  replay_row status.NoMemory o r w = λ is unread unwritten. tt
+  replay_row (status.Journal line) o r w = λ is unread unwritten. tt
+  replay_row (status.Script line) o r w = λ is unread unwritten. tt
+  replay_row (status.Strayed most) o r w = λ is unread unwritten. tt
+  replay_row status.ReadFault o r w = λ is unread unwritten. unread (r refl)
+  replay_row status.WriteFault o r w = λ is unread unwritten. unwritten (w refl)
+  replay_row status.Usage (alone, same, inl (ended, short, row)) r w = absurd row
+  replay_row status.Usage (alone, same, inr (nothing, row)) r w = absurd row
+  replay_row status.JournalFull (alone, same, inl (ended, short, row)) r w = absurd row
+  replay_row status.JournalFull (alone, same, inr (nothing, row)) r w = absurd row
 
   drill_row : (n : ℕ) (result : Status) → OnDrill program n result written exchanges before now → (result ≡ status.WriteFault → Rose sink.faults sink'.faults) → CompletesDrill result words sink sink'
   drill_row n status.Done o w = λ count is unwritten. inl refl
@@ -187,10 +281,40 @@ module _ (program : Script → Program) (words : List (List ℕ)) (read written 
   drill_row n (status.Script line) o w = λ count is unwritten. absurd o
   drill_row n status.ReadFault o w = λ count is unwritten. absurd o
   drill_row n status.WriteFault o w = λ count is unwritten. absurd (unwritten (w refl))
+  drill_row n (status.Journal line) o w = λ count is unwritten. absurd o
+  drill_row n status.JournalFull o w = λ count is unwritten. absurd o
+  drill_row n (status.Strayed most) o w = λ count is unwritten. absurd o
 
   -- where neither source nor sink failed, a script or a drill is run to its end, or memory was wanting
   pub completes : (result : Status) → Outcome program result words read written exchanges before now → (result ≡ status.ReadFault → Rose source.faults source'.faults) → (result ≡ status.WriteFault → Rose sink.faults sink'.faults) →
       Completes result words source source' sink sink'
-  completes result (of_run run row) r w = record { run = run_row result row r w; drill = λ count is unwritten. absurd (not_both words count run is) }
-  completes result (of_drill n drill unread row) r w = record { run = λ bytes script run told is unread unwritten. absurd (not_both words n run drill); drill = drill_row n result row w }
-  completes result (of_others never unread row) r w = record { run = λ bytes script run told is unread unwritten. absurd (never (inl run)); drill = λ count is unwritten. absurd (never (inr (count, is))) }
+  completes result (of_run run row) r w = record {
+    run = run_row result row r w;
+    recording = λ bytes script is. absurd (run_no_record words run is);
+    replaying = λ is. absurd (run_no_replay words run is);
+    drill = λ count is unwritten. absurd (not_both words count run is);
+  }
+  completes result (of_record recording row) r w = record {
+    run = λ bytes script run. absurd (run_no_record words run recording);
+    recording = record_row result row r w;
+    replaying = λ is. absurd (record_no_replay words recording is);
+    drill = λ count is unwritten. absurd (word_no_drill (codes "record") words count recording is);
+  }
+  completes result (of_replay replays row) r w = record {
+    run = λ bytes script run. absurd (run_no_replay words run replays);
+    recording = λ bytes script is. absurd (record_no_replay words is replays);
+    replaying = replay_row result row r w;
+    drill = λ count is unwritten. absurd (word_no_drill (codes "replay") words count replays is);
+  }
+  completes result (of_drill n drill unread row) r w = record {
+    run = λ bytes script run. absurd (not_both words n run drill);
+    recording = λ bytes script is. absurd (word_no_drill (codes "record") words n is drill);
+    replaying = λ is. absurd (word_no_drill (codes "replay") words n is drill);
+    drill = drill_row n result row w;
+  }
+  completes result (of_others never unread row) r w = record {
+    run = λ bytes script run. absurd (never (inl run));
+    recording = λ bytes script is. absurd (never (inr (inl is)));
+    replaying = λ is. absurd (never (inr (inr (inl is))));
+    drill = λ count is unwritten. absurd (never (inr (inr (inr (count, is)))));
+  }

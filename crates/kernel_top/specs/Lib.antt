@@ -5,4 +5,8 @@ pub mod HandingOn
 pub mod DrillForms
 pub mod DrillHost
 pub mod Drills
+pub mod NullSinks
+pub mod Unseen
+pub mod Sessions
+pub mod Replaying
 pub mod Outcomes

@@ -1,5 +1,5 @@
 -- What the top call claims, by its words and its status: of the bytes read, of the bytes written, and of the exchanges made.
-use Rattle.std.specs.Prelude.{◌≡◌, ℕ, ◌+◌, ◌<◌, ◌≤◌, ◌⊎◌, List, [], length, Some, Result, Ok, Err}
+use Rattle.std.specs.Prelude.{◌≡◌, ℕ, ◌+◌, ◌<◌, ◌≤◌, ◌⊎◌, List, [], length, Some, Result, Ok, Err, codes, if◌then◌else◌}
 use Rattle.std.specs.Io.KnownBytes.{Consumes, Appends}
 use Rattle.editor_model.specs.Values.{Script}
 use Rattle.plain_machine.specs.Exchanges.{Ask, Answer, Exchange}
@@ -12,9 +12,11 @@ use Rattle.kernel_steps.specs.HostCalls.{CallsSince, Tells}
 use Rattle.kernel_steps.specs.Outcomes.{RanScript, StoppedScript}
 use Rattle.kernel_steps.specs.declared.stop.Stop.{Stop}
 use Rattle.kernel_steps.specs.declared.stop.Stop.TheVariants as stop
-use Rattle.kernel_top.specs.Words.{IsRun, IsDrill, IsKnown}
+use Rattle.kernel_top.specs.Words.{is_word, IsRun, IsRecord, IsReplay, IsDrill, IsKnown}
 use Rattle.kernel_top.specs.Reading.{HasEnded}
 use Rattle.kernel_top.specs.Drills.{SumsUp, BreaksOff}
+use Rattle.kernel_top.specs.Sessions.{longest_session, Records, BreaksOffUnseen}
+use Rattle.kernel_top.specs.Replaying.{ReadAndReplayed}
 use Rattle.kernel_top.specs.declared.status.Status.{Status}
 use Rattle.kernel_top.specs.declared.status.Status.TheVariants as status
 
@@ -57,19 +59,37 @@ pub record IsNoScript (read : List ℕ) (line : ℕ) : Type 0 where
   pub none : (script : Script) → IsScript read script → ⊥
   pub at : IsFaultLine read line
 
+-- these bytes are no script, though the source has ended or gave more than a script may have; nothing was written or asked
+abbrev pub RefusesScript : (line : ℕ) → (read written : List ℕ) → List Exchange → (before now : Seen) → Type 0
+RefusesScript line read written exchanges before now =
+    (HasEnded before.source.left now.source.left ⊎ (longest_script < length read)) × IsNoScript read line × IsQuiet written exchanges before now
+
 -- BY STATUS. `read` are the bytes taken from the source, and `written` those put in the sink. The program is that of a script.
 -- the word `run`
 abbrev pub OnRun : (Script → Program) → Status → (read written : List ℕ) → List Exchange → (before now : Seen) → Type 0
 OnRun program status.Done read written exchanges before now =
     OfScript read before now (λ script. RanScript (program script) script exchanges written before.sink now.sink)
-OnRun program status.Usage read written exchanges before now = ⊥
-OnRun program (status.Script line) read written exchanges before now =
-    (HasEnded before.source.left now.source.left ⊎ (longest_script < length read)) × IsNoScript read line × IsQuiet written exchanges before now
+OnRun program (status.Script line) read written exchanges before now = RefusesScript line read written exchanges before now
 OnRun program status.ReadFault read written exchanges before now = IsQuiet written exchanges before now
 OnRun program status.WriteFault read written exchanges before now =
     OfScript read before now (λ script. StoppedScript stop.WriteFault (program script) script exchanges written before.sink now.sink)
 OnRun program status.NoMemory read written exchanges before now =
     IsQuiet written exchanges before now ⊎ OfScript read before now (λ script. StoppedScript stop.NoMemory (program script) script exchanges written before.sink now.sink)
+OnRun program _ read written exchanges before now = ⊥
+
+-- the word `record`
+abbrev pub OnRecord : (Script → Program) → Status → (read written : List ℕ) → List Exchange → (before now : Seen) → Type 0
+OnRecord program (status.Script line) read written exchanges before now = RefusesScript line read written exchanges before now
+OnRecord program status.ReadFault read written exchanges before now = IsQuiet written exchanges before now
+OnRecord program status.NoMemory read written exchanges before now =
+    IsQuiet written exchanges before now ⊎ OfScript read before now (λ script. BreaksOffUnseen (program script) script written exchanges before.sink now.sink)
+OnRecord program answer read written exchanges before now =
+    OfScript read before now (λ script. Records answer (program script) script read written exchanges before.sink now.sink)
+
+-- the word `replay`: the host is asked nothing
+abbrev pub OnReplay : (Script → Program) → Status → (read written : List ℕ) → List Exchange → (before now : Seen) → Type 0
+OnReplay program answer read written exchanges before now =
+    (exchanges ≡ []) × (now.host ≡ before.host) × ReadAndReplayed program answer read written (HasEnded before.source.left now.source.left) before.sink now.sink
 
 -- the summary was written, and the sink hasn't failed where it had room for it
 abbrev pub WritesSummary : (program : Program) → (count : ℕ) → (written : List ℕ) → List Exchange → (before now : Seen) → Type 0
@@ -103,8 +123,14 @@ IsUnread read before now = (read ≡ []) × (now.source ≡ before.source)
 -- BY WORDS
 pub data Outcome (program : Script → Program) (answer : Status) (words : List (List ℕ)) (read written : List ℕ) (exchanges : List Exchange) (before now : Seen) : Type 0 where
   of_run : IsRun words → OnRun program answer read written exchanges before now → Outcome program answer words read written exchanges before now
+  of_record : IsRecord words → OnRecord program answer read written exchanges before now → Outcome program answer words read written exchanges before now
+  of_replay : IsReplay words → OnReplay program answer read written exchanges before now → Outcome program answer words read written exchanges before now
   of_drill : (count : ℕ) → IsDrill words count → IsUnread read before now → OnDrill program count answer written exchanges before now → Outcome program answer words read written exchanges before now
   of_others : (IsKnown words → ⊥) → IsUnread read before now → OnOthers answer written exchanges before now → Outcome program answer words read written exchanges before now
+
+-- how many bytes a call asks of its source at most
+abbrev pub most_read : (words : List (List ℕ)) → ℕ
+most_read words = if is_word (codes "replay") words then longest_session + 1 else longest_script + 1
 
 -- What a call came to. The bytes read and written are those that source and sink tell, where they tell any. The exchanges
 -- are the calls that were made on the host, which tells them where it tells any.
@@ -113,7 +139,7 @@ pub record Came {H : Type 0} (hosted : H → HostState) (made : H → H → Ask 
   pub written : List ℕ
   pub exchanges : List Exchange
   pub taken : Consumes source.left source'.left read
-  pub few : length read ≤ longest_script + 1
+  pub few : length read ≤ most_read words
   pub put : Appends sink.held sink'.held written
   pub calls : CallsSince hosted made start now exchanges
   pub told : Tells (hosted start).told (hosted now).told exchanges
@@ -128,14 +154,34 @@ pub record CameSo {H : Type 0} (hosted : H → HostState) (made : H → H → As
   pub so : (source source' : SourceState) → So written exchanges (seen source sink (hosted start)) (seen source' sink' (hosted now))
 
 -- what became of bytes that were all that a source had
-abbrev pub OfBytes : (Script → Program) → (bytes : List ℕ) → Status → (written : List ℕ) → List Exchange → (before now : Seen) → Type 0
-OfBytes program bytes answer written exchanges before now = HasEnded before.source.left now.source.left → OnRun program answer bytes written exchanges before now
+abbrev pub OfBytes : (On : Status → (read written : List ℕ) → List Exchange → (before now : Seen) → Type 0) → (bytes : List ℕ) → Status → (written : List ℕ) → List Exchange → (before now : Seen) → Type 0
+OfBytes On bytes answer written exchanges before now = HasEnded before.source.left now.source.left → On answer bytes written exchanges before now
 
 -- Where neither source nor sink failed, a script is run to its end, or memory was wanting.
 abbrev pub CompletesRun : Status → (words : List (List ℕ)) → (source source' : SourceState) → (sink sink' : SinkState) → Type 0
 CompletesRun answer words source source' sink sink' =
     (bytes : List ℕ) (script : Script) → IsRun words → source.left ≡ Some bytes → IsScript bytes script →
     (Rose source.faults source'.faults → ⊥) → (Rose sink.faults sink'.faults → ⊥) → (answer ≡ status.Done) ⊎ (answer ≡ status.NoMemory)
+
+-- where neither failed, the session of a script is written or too long, or memory was wanting
+abbrev pub CompletesRecord : Status → (words : List (List ℕ)) → (source source' : SourceState) → (sink sink' : SinkState) → Type 0
+CompletesRecord answer words source source' sink sink' =
+    (bytes : List ℕ) (script : Script) → IsRecord words → source.left ≡ Some bytes → IsScript bytes script →
+    (Rose source.faults source'.faults → ⊥) → (Rose sink.faults sink'.faults → ⊥) → (answer ≡ status.Done) ⊎ ((answer ≡ status.NoMemory) ⊎ (answer ≡ status.JournalFull))
+
+-- done, or refused for what the bytes are, or memory was wanting
+abbrev pub EndsOrRefuses : Status → Type 0
+EndsOrRefuses status.Done = Unit {0}
+EndsOrRefuses status.NoMemory = Unit {0}
+EndsOrRefuses (status.Journal line) = Unit {0}
+EndsOrRefuses (status.Script line) = Unit {0}
+EndsOrRefuses (status.Strayed most) = Unit {0}
+EndsOrRefuses _ = ⊥
+
+-- where neither source nor sink failed, a session is replayed or refused, or memory was wanting
+abbrev pub CompletesReplay : Status → (words : List (List ℕ)) → (source source' : SourceState) → (sink sink' : SinkState) → Type 0
+CompletesReplay answer words source source' sink sink' =
+    IsReplay words → (Rose source.faults source'.faults → ⊥) → (Rose sink.faults sink'.faults → ⊥) → EndsOrRefuses answer
 
 -- where the sink didn't fail, a drill is run to its end, or memory was wanting
 abbrev pub CompletesDrill : Status → (words : List (List ℕ)) → (sink sink' : SinkState) → Type 0
@@ -144,4 +190,6 @@ CompletesDrill answer words sink sink' =
 
 pub record Completes (answer : Status) (words : List (List ℕ)) (source source' : SourceState) (sink sink' : SinkState) : Type 0 where
   pub run : CompletesRun answer words source source' sink sink'
+  pub recording : CompletesRecord answer words source source' sink sink'
+  pub replaying : CompletesReplay answer words source source' sink sink'
   pub drill : CompletesDrill answer words sink sink'

@@ -1,5 +1,5 @@
 //! A sink and a host that count what a run does.
-ghost use Rattle.std.specs.Prelude.{◌≡◌, ◌+◌, ◌%◌, ◌^◌, [], ◌∷◌, ◌++◌};
+ghost use Rattle.std.specs.Prelude.{◌≡◌, ◌+◌, ◌-◌, ◌%◌, ◌^◌, min, length, [], ◌∷◌, ◌++◌};
 ghost use Rattle.kernel_top.specs.Counting.{counting_state, line_feeds};
 ghost use Rattle.kernel_top.specs.HandingOn.{HandsOn};
 
@@ -8,23 +8,25 @@ use host_link::{Ended, Exchanges, Got, Host, KillAnswer, SendAnswer, Spawned};
 use http_server::Log;
 use std::marker::Model;
 
-/// Takes all bytes and keeps none of them. It counts the lines, modulo 2^64. What it was given is in a history that only
-/// proofs read, and it is seen as these bytes.
+/// Takes all bytes and keeps none of them. It counts the lines, modulo 2^64, and the bytes, up to 2^64 - 1. What it was
+/// given is in a history that only proofs read, and it is seen as these bytes.
 #[derive(Drop)]
 pub(crate) struct CountingSink {
     lines: u64,
+    bytes: u64,
     given: Log<u8, ()>,
 }
 
 impl Model for CountingSink {
-    ghost use Rattle.std.specs.Prelude.{◌≡◌, ◌%◌, ◌^◌, ℕ, List};
+    ghost use Rattle.std.specs.Prelude.{◌≡◌, ◌-◌, ◌%◌, ◌^◌, ℕ, List, min, length};
     ghost use Rattle.kernel_top.specs.Counting.{firsts, line_feeds};
 
     ghost Value = { List ℕ };
 
     ghost view = { λ s. firsts s.given.items };
 
-    ghost invariant = { λ s. s.lines ≡ line_feeds (firsts s.given.items) % 2 ^ 64 };
+    ghost invariant = { λ s. (s.lines ≡ line_feeds (firsts s.given.items) % 2 ^ 64) ×
+        (s.bytes ≡ min (length (firsts s.given.items)) (2 ^ 64 - 1)) };
 }
 
 impl CountingSink {
@@ -33,6 +35,7 @@ impl CountingSink {
     {
         CountingSink {
             lines: 0,
+            bytes: 0,
             given: Log::new(),
         }
     }
@@ -44,12 +47,20 @@ impl CountingSink {
         self.lines
     }
 
+    /// How many bytes it was given, or 2^64 - 1 where they were more.
+    pub(crate) fn bytes(&self) -> u64
+        ensures { result ≡ min (length self.now) (2 ^ 64 - 1) }
+    {
+        self.bytes
+    }
+
     fn take(&mut self, byte: u8)
         ensures { self.new ≡ self.old ++ byte ∷ [] }
     {
         if byte == b'\n' {
             self.lines = self.lines.wrapping_add(1);
         }
+        self.bytes = self.bytes.saturating_add(1);
         self.given = self.given.and(&byte, &());
     }
 }

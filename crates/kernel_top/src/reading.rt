@@ -1,10 +1,9 @@
 //! The bytes of a source.
-ghost use Rattle.std.specs.Prelude.{◌≡◌, IfOk, IfErr, IsTrue, Err};
+ghost use Rattle.std.specs.Prelude.{◌≡◌, ◌<◌, ◌^◌, IfOk, IfErr, IsTrue, Err};
 ghost use Rattle.ek_types.specs.Io.{HasCause};
 ghost use Rattle.kernel_top.specs.Reading.{IsAll, IsGivenUp};
 
 use ek_types::{Source, Took};
-use script_read::LONGEST_SCRIPT;
 use std::alloc::{AllocError, Global};
 
 /// Why the bytes of a source weren't had.
@@ -12,7 +11,7 @@ use std::alloc::{AllocError, Global};
 pub enum Refused {
     /// The source failed.
     Failed,
-    /// They are more than a script may have.
+    /// They are more than were wanted.
     TooLong,
     NoMemory,
 }
@@ -30,10 +29,15 @@ impl From<AllocError> for Refused {
 /// The most bytes that a source is asked for at once.
 const PIECE: usize = 4096;
 
-/// All the bytes of a source. No more than one byte behind the longest script is asked for.
-pub(crate) fn read_all<S: Source>(alloc: Global, source: &mut S) -> Result<Vec<u8>, Refused>
-    ensures all { IfOk result (λ all. IsAll all.items (S.state source.old) (S.state source.new)) }
-    ensures some { IfErr result (λ why. IsGivenUp why (S.state source.old) (S.state source.new)) }
+/// All the bytes of a source that has at most so many. No more than one byte behind them is asked for.
+pub(crate) fn read_all<S: Source>(
+    alloc: Global,
+    source: &mut S,
+    most: usize,
+) -> Result<Vec<u8>, Refused>
+    requires { most < 2 ^ 32 }
+    ensures all { IfOk result (λ all. IsAll most all.items (S.state source.old) (S.state source.new)) }
+    ensures some { IfErr result (λ why. IsGivenUp most why (S.state source.old) (S.state source.new)) }
     ensures cause { HasCause (S.state source.old).faults (S.state source.new).faults
         (result ≡ Err Refused.Failed) }
     ensures unfailing { IsTrue (S.state source.old).unfailing →
@@ -41,8 +45,8 @@ pub(crate) fn read_all<S: Source>(alloc: Global, source: &mut S) -> Result<Vec<u
 {
     let mut all = Vec::new(alloc);
     let mut piece = [0u8; PIECE];
-    while all.len() <= LONGEST_SCRIPT {
-        let room = PIECE.min(LONGEST_SCRIPT + 1 - all.len());
+    while all.len() <= most {
+        let room = PIECE.min(most + 1 - all.len());
         match source.read(&mut piece[..room]) {
             Took::Bytes(n) => all.extend_from_slice(&piece[..n])?,
             Took::End => return Ok(all),

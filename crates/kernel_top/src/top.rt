@@ -1,20 +1,23 @@
 //! The top call.
-ghost use Rattle.std.specs.Prelude.{◌≡◌, ◌≢◌, ◌^◌, ◌≤◌, ℕ, List, length, map, string_bytes, IsTrue};
+ghost use Rattle.std.specs.Prelude.{◌≡◌, ◌≢◌, ◌^◌, ◌≤◌, ℕ, List, [], Some, length, map, string_bytes};
+ghost use Rattle.std.specs.Prelude.{IsTrue};
 ghost use Rattle.ek_types.specs.Io.{HasCause};
 ghost use Rattle.kernel_run.specs.Whole.{program_with};
-ghost use Rattle.kernel_top.specs.Words.{IsRun};
-ghost use Rattle.kernel_top.specs.Outcomes.{Came, CameSo, OfBytes, OnDrill, Completes};
+ghost use Rattle.kernel_top.specs.Words.{IsRun, IsRecord};
+ghost use Rattle.kernel_top.specs.Outcomes.{Came, CameSo, OfBytes, OnRun, OnDrill, Completes};
 
 use crate::drilling::drill;
 use crate::reading::{Refused, read_all};
+use crate::recording::record_source;
+use crate::replaying::replay_source;
 use crate::status::{Status, status_of, written_status};
 use crate::summing::{count_run, write_summary};
-use crate::words::{drill_of, is_run};
+use crate::words::{drill_of, is_record, is_replay, is_run};
 use ek_types::{Sink, Source};
 use handler_code::Natives;
 use host_link::Host;
 use kernel_run::Kernel;
-use script_read::{ScriptFault, read};
+use script_read::{LONGEST_SCRIPT, ScriptFault, read};
 use std::alloc::Global;
 
 /// Reads the script that some bytes are, and runs it on a kernel of its own.
@@ -27,7 +30,7 @@ fn run_bytes<K: Sink, H: Host, N: Natives>(
 ) -> Status
     requires { length (H.state host.old).kills ≤ 2 ^ 31 }
     ensures outcome { CameSo H.state H.made host.old host.new (K.state sink.old) (K.state sink.new)
-        (OfBytes (λ script. program_with N.names N.does script natives.now) bytes.now result) }
+        (OfBytes (OnRun (λ script. program_with N.names N.does script natives.now)) bytes.now result) }
     ensures no_read { result ≢ Status.ReadFault }
     ensures known { result ≢ Status.Usage }
     ensures write_fault { HasCause (K.state sink.old).faults (K.state sink.new).faults
@@ -66,7 +69,7 @@ fn run_source<S: Source, K: Sink, H: Host, N: Natives>(
     ensures unfailing { IsTrue (S.state source.old).unfailing →
         (S.state source.new).faults ≡ (S.state source.old).faults }
 {
-    match read_all(alloc, source) {
+    match read_all(alloc, source, LONGEST_SCRIPT) {
         Ok(bytes) => run_bytes(alloc, bytes.as_slice(), sink, host, natives),
         Err(Refused::Failed) => Status::ReadFault,
         Err(Refused::TooLong) => Status::Script(0),
@@ -103,7 +106,9 @@ fn run_drill<K: Sink, H: Host, N: Natives>(
 }
 
 /// The words are those behind the program's name. `run` reads the script that the source holds, runs it, and writes
-/// its lines and the dump to the sink. `drill` and a number of one to four digits reads nothing: it runs the script
+/// its lines and the dump to the sink. `record` does so with the lines thrown away, and writes the session of the run:
+/// a line for each exchange, the line `script`, and the script as it was read. `replay` reads such a session and writes the
+/// lines and the dump of that run. It asks the host nothing. `drill` and a number of one to four digits reads nothing: it runs the script
 /// of that drill on the host, and writes one line that tells how many lines, exchanges and characters this came to.
 ///
 /// The status says what was read and written, as `outcome` has it: for `Done` the lines are those of the plain
@@ -112,11 +117,14 @@ fn run_drill<K: Sink, H: Host, N: Natives>(
 /// are the calls on the host, each with what the host says of itself that it did, and a read has room for 4,096
 /// bytes. A run whose write fails stops at that line; the children that live are asked to be killed then, each once.
 /// The line of a drill is the summary of the plain machine's whole run on the drill's script, over just the exchanges
-/// made.
+/// made. Of a session no more than 268,435,456 bytes are written, and none where it is longer. For `record` the host
+/// tells its exchanges, and has told none yet. A session is replayed only where the run of its script ends with all
+/// exchanges of its journal used up; else `Strayed` tells how many of the first ones the machine goes through.
 ///
 /// The source doesn't fail where it is known not to (`unfailing`), nor the sink where it has room for what the run
-/// says. No more than one byte behind the longest script, of 1,048,576 bytes, is asked of the source. Bytes that are
-/// no script, and no others, are answered by `Script` with the line of the fault.
+/// says. No more than one byte behind the longest script, of 1,048,576 bytes, is asked of the source, or for `replay`
+/// one behind the longest session, of 268,435,456. Bytes that are no script, and no others, are answered by `Script` with
+/// the line of the fault; for `replay` bytes that are no session are answered by `Journal` first.
 pub fn run<S: Source, K: Sink, H: Host, N: Natives>(
     alloc: Global,
     words: &[String],
@@ -125,7 +133,8 @@ pub fn run<S: Source, K: Sink, H: Host, N: Natives>(
     host: &mut H,
     natives: &N,
 ) -> Status
-    requires { length (H.state host.old).kills ≤ 2 ^ 31 }
+    requires few { length (H.state host.old).kills ≤ 2 ^ 31 }
+    requires told { IsRecord (map string_bytes words.now) → (H.state host.old).told ≡ Some [] }
     ensures outcome { Came H.state H.made
         (λ script. program_with N.names N.does script natives.now) (map string_bytes words.now) result
         host.old host.new (S.state source.old) (S.state source.new) (K.state sink.old) (K.state sink.new) }
@@ -141,6 +150,12 @@ pub fn run<S: Source, K: Sink, H: Host, N: Natives>(
 {
     if is_run(words) {
         return run_source(alloc, source, sink, host, natives);
+    }
+    if is_record(words) {
+        return record_source(alloc, source, sink, host, natives);
+    }
+    if is_replay(words) {
+        return replay_source(alloc, source, sink, natives);
     }
     match drill_of(words) {
         Some(count) => run_drill(alloc, count, sink, host, natives),

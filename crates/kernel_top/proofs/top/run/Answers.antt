@@ -1,6 +1,6 @@
 use Rattle.std.proofs.Common.{sym, refl, ◌∙◌, map, string_bytes, arith}
 use Rattle.kernel_run.specs.Whole.{program_with}
-use Rattle.kernel_top.proofs.Outcomes.{quiet, came_drilled, came_unknown, drill_reads_nothing, unknown, completes}
+use Rattle.kernel_top.proofs.Outcomes.{quiet, came_drilled, came_unknown, came_replayed, replay_is_known, drill_reads_nothing, unknown, completes}
 use Rattle.kernel_top.proofs.top.run.Goals as goal
 
 pub returns-then-is_run-clause-outcome : goal.returns-then-is_run-clause-outcome
@@ -14,6 +14,35 @@ returns-then-is_run-clause-complete g c =
     let so = returns-then-is_run-clause-outcome g c in
     completes _ (map string_bytes c.args.words.now) so.read so.written so.exchanges (g.S.Source.state c.args.source.now) (g.S.Source.state c.run_source.new.source) (g.K.Sink.state c.args.sink.now) (g.K.Sink.state c.run_source.new.sink) _ _ so.taken c.run_source.result so.outcome
     c.run_source.ensures.read_fault.rose c.run_source.ensures.write_fault.rose
+
+pub record_source-requires-clause-told : goal.record_source-requires-clause-told
+record_source-requires-clause-told g c = c.requires.told (sym c.is_record.ensures ∙ c.if-is_record.true)
+
+pub returns-then-is_record-clause-outcome : goal.returns-then-is_record-clause-outcome
+returns-then-is_record-clause-outcome g c = c.record_source.ensures.outcome (map string_bytes c.args.words.now) (sym c.is_record.ensures ∙ c.if-is_record.true)
+
+pub returns-then-is_record-clause-untouched : goal.returns-then-is_record-clause-untouched
+returns-then-is_record-clause-untouched g c = λ e. absurd (c.record_source.ensures.known e)
+
+pub returns-then-is_record-clause-complete : goal.returns-then-is_record-clause-complete
+returns-then-is_record-clause-complete g c =
+    let so = returns-then-is_record-clause-outcome g c in
+    completes _ (map string_bytes c.args.words.now) so.read so.written so.exchanges (g.S.Source.state c.args.source.now) (g.S.Source.state c.record_source.new.source) (g.K.Sink.state c.args.sink.now) (g.K.Sink.state c.record_source.new.sink) _ _ so.taken c.record_source.result so.outcome
+    c.record_source.ensures.read_fault.rose c.record_source.ensures.write_fault.rose
+
+pub returns-then-is_replay-clause-outcome : goal.returns-then-is_replay-clause-outcome
+returns-then-is_replay-clause-outcome g c =
+    came_replayed g.H.Host.state g.H.Host.made (λ script. program_with g.N.Natives.names g.N.Natives.does script c.args.natives.now) (map string_bytes c.args.words.now) c.replay_source.result c.args.host.now c.args.host.now
+    (g.S.Source.state c.args.source.now) (g.S.Source.state c.replay_source.new.source) (g.K.Sink.state c.args.sink.now) (g.K.Sink.state c.replay_source.new.sink) (sym c.is_replay.ensures ∙ c.if-is_replay.true) c.replay_source.ensures.outcome
+
+pub returns-then-is_replay-clause-untouched : goal.returns-then-is_replay-clause-untouched
+returns-then-is_replay-clause-untouched g c = λ e. absurd (replay_is_known (λ script. program_with g.N.Natives.names g.N.Natives.does script c.args.natives.now) c.replay_source.result _ _ _ _ c.replay_source.ensures.outcome e)
+
+pub returns-then-is_replay-clause-complete : goal.returns-then-is_replay-clause-complete
+returns-then-is_replay-clause-complete g c =
+    let so = returns-then-is_replay-clause-outcome g c in
+    completes _ (map string_bytes c.args.words.now) so.read so.written so.exchanges (g.S.Source.state c.args.source.now) (g.S.Source.state c.replay_source.new.source) (g.K.Sink.state c.args.sink.now) (g.K.Sink.state c.replay_source.new.sink) _ _ so.taken c.replay_source.result so.outcome
+    c.replay_source.ensures.read_fault.rose c.replay_source.ensures.write_fault.rose
 
 pub returns-in-Some-clause-outcome : goal.returns-in-Some-clause-outcome
 returns-in-Some-clause-outcome g c =
@@ -37,7 +66,7 @@ pub returns-in-None-clause-outcome : goal.returns-in-None-clause-outcome
 returns-in-None-clause-outcome g c =
     came_unknown g.H.Host.state g.H.Host.made (λ script. program_with g.N.Natives.names g.N.Natives.does script c.args.natives.now) (map string_bytes c.args.words.now) _ c.args.host.now c.args.host.now
     (g.S.Source.state c.args.source.now) (g.S.Source.state c.args.source.now) (g.K.Sink.state c.args.sink.now) (g.K.Sink.state c.args.sink.now)
-    (unknown (map string_bytes c.args.words.now) (sym c.is_run.ensures ∙ c.if-is_run.false) c.in-None.ensures) (quiet _ _ _ _)
+    (unknown (map string_bytes c.args.words.now) (sym c.is_run.ensures ∙ c.if-is_run.false) (sym c.is_record.ensures ∙ c.if-is_record.false) (sym c.is_replay.ensures ∙ c.if-is_replay.false) c.in-None.ensures) (quiet _ _ _ _)
 
 pub returns-in-None-clause-complete : goal.returns-in-None-clause-complete
 returns-in-None-clause-complete g c =

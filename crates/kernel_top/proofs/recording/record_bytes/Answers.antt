@@ -1,0 +1,72 @@
+use Rattle.std.proofs.Common.{refl, ap, [], inl, Err}
+use Rattle.std.proofs.KnownBytes.{Appends-nil}
+use Rattle.ek_call.specs.Meaning.{script_of}
+use Rattle.kernel_run.specs.Whole.{program_with}
+use Rattle.kernel_top.specs.Outcomes.{seen}
+use Rattle.kernel_top.proofs.Outcomes.{quiet}
+use Rattle.kernel_top.proofs.Recorded.{broke_off, recorded, told_all, tells_still, no_read_fault, no_usage}
+use Rattle.kernel_top.proofs.recording.record_bytes.Goals as goal
+
+pub returns-in-Err-Line-clause-outcome : goal.returns-in-Err-Line-clause-outcome
+returns-in-Err-Line-clause-outcome g c =
+    let none = c.in-Err-Line.ensures.none c.in-Err-Line.line (ap Err c.in-Err-Line.field-0-is) in
+    let at = c.in-Err-Line.ensures.line c.in-Err-Line.line (ap Err c.in-Err-Line.field-0-is) in
+    record {
+      written = [];
+      exchanges = [];
+      put = Appends-nil _;
+      calls = refl;
+      so = λ source source' ended. rw c.in-Err-Line.line-is (inl ended, record { none = none; at = at }, quiet source source' _ _);
+    }
+
+pub returns-in-Err-NoMemory-clause-outcome : goal.returns-in-Err-NoMemory-clause-outcome
+returns-in-Err-NoMemory-clause-outcome g c = record {
+  written = [];
+  exchanges = [];
+  put = Appends-nil _;
+  calls = refl;
+  so = λ source source' ended. inl (quiet source source' _ _);
+}
+
+pub returns-in_default-clause-outcome : goal.returns-in_default-clause-outcome
+returns-in_default-clause-outcome g c =
+    let (exchanges, calls, why) = c.in_default.ensures in
+    record {
+      written = [];
+      exchanges = exchanges;
+      put = Appends-nil _;
+      calls = calls;
+      so = λ source source' ended.
+          broke_off (λ script. program_with g.N.Natives.names g.N.Natives.does script c.args.natives.now) (script_of c.in-Ok.script) g.H.Host.state g.H.Host.made c.args.host.now c.run_unseen-ran.new.host c.args.bytes.now exchanges
+          source source' (g.K.Sink.state c.args.sink.now) ended c.in-Ok.ensures.script calls why;
+    }
+
+pub returns-clause-outcome : goal.returns-clause-outcome
+returns-clause-outcome g c =
+    let (exchanges, calls, whole) = c.in-Ok-ran.ensures in
+    let (written, put, row) = c.write_session.ensures.written in
+    let list = told_all g.H.Host.state g.H.Host.made c.args.host.now c.run_unseen-ran.new.host exchanges _ calls c.requires.told c.in-Some.ensures in
+    record {
+      written = written;
+      exchanges = exchanges;
+      put = put;
+      calls = calls;
+      so = λ source source' ended.
+          recorded (λ script. program_with g.N.Natives.names g.N.Natives.does script c.args.natives.now) (script_of c.in-Ok.script) c.args.bytes.now written exchanges
+          (seen source (g.K.Sink.state c.args.sink.now) (g.H.Host.state c.args.host.now)) (seen source' (g.K.Sink.state c.write_session.new.sink) (g.H.Host.state c.run_unseen-ran.new.host)) c.write_session.result ended c.in-Ok.ensures.script whole (rw list at row);
+    }
+
+pub unreachable-requires : goal.unreachable-requires
+unreachable-requires g c =
+    let (exchanges, calls, whole) = c.in-Ok-ran.ensures in
+    tells_still g.H.Host.state g.H.Host.made c.args.host.now c.run_unseen-ran.new.host exchanges calls c.requires.told c.in-None.ensures
+
+pub returns-clause-no_read : goal.returns-clause-no_read
+returns-clause-no_read g c =
+    let (written, put, row) = c.write_session.ensures.written in
+    λ e. no_read_fault c.write_session.result _ written (g.K.Sink.state c.args.sink.now) (g.K.Sink.state c.write_session.new.sink) row e
+
+pub returns-clause-known : goal.returns-clause-known
+returns-clause-known g c =
+    let (written, put, row) = c.write_session.ensures.written in
+    λ e. no_usage c.write_session.result _ written (g.K.Sink.state c.args.sink.now) (g.K.Sink.state c.write_session.new.sink) row e

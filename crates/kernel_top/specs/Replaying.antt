@@ -1,0 +1,115 @@
+-- What a replay comes to: the machine's run of a script on the exchanges of a journal.
+use Rattle.std.specs.Prelude.{◌≡◌, ℕ, ◌+◌, ◌≤◌, ◌<◌, ◌⊎◌, List, [], length, take, Result, Ok, Err}
+use Rattle.editor_model.specs.Values.{Script}
+use Rattle.plain_machine.specs.Exchanges.{Exchange}
+use Rattle.plain_machine.specs.State.{Program}
+use Rattle.plain_machine.specs.Items.{Said, Config}
+use Rattle.plain_machine.specs.Run.{Reaches, start}
+use Rattle.plain_machine.specs.Grammar.{IsScript, IsFaultLine}
+use Rattle.std.specs.Io.KnownBytes.{Consumes, Appends}
+use Rattle.ek_types.specs.Io.{SourceState, SinkState, IsPrefixOf}
+use Rattle.journal_text.specs.Lines.{session}
+use Rattle.journal_text.specs.Allowed.{IsJournal}
+use Rattle.journal_text.specs.Journals as journals
+use Rattle.kernel_steps.specs.Outside.{deepest}
+use Rattle.kernel_steps.specs.Outcomes.{RanScript}
+use Rattle.kernel_top.specs.Sessions.{longest_session}
+use Rattle.kernel_top.specs.Reading.{HasEnded}
+use Rattle.kernel_top.specs.Unseen.{IsWhole}
+use Rattle.kernel_top.specs.declared.status.Status.{Status}
+use Rattle.kernel_top.specs.declared.status.Status.TheVariants as status
+
+-- RUNS ON A JOURNAL
+-- the machine goes through just these exchanges
+pub record GoesThrough (program : Program) (script : Script) (exchanges : List Exchange) : Type 0 where
+  pub said : List Said
+  pub last : Config
+  pub run : Reaches program deepest (start script) exchanges said last
+
+-- the run on a journal hasn't ended with all of it used up, and the machine goes through so many of its exchanges at most
+pub record Strays (program : Program) (script : Script) (journal : List Exchange) (most : ℕ) : Type 0 where
+  pub unended : IsWhole program script journal → ⊥
+  pub within : most ≤ length journal
+  pub goes : GoesThrough program script (take most journal)
+  pub no_more : (k : ℕ) → k ≤ length journal → GoesThrough program script (take k journal) → k ≤ most
+
+-- a front of the lines of the whole run was written, and the sink hasn't failed where it had room for them all
+pub record CutsLines (program : Program) (script : Script) (journal : List Exchange) (written : List ℕ) (before now : SinkState) : Type 0 where
+  pub whole : IsWhole program script journal
+  pub front : IsPrefixOf written whole.lines
+  pub roomy : length whole.lines ≤ before.room → now.faults ≡ before.faults
+
+-- SESSIONS
+-- the bytes read are the session of a journal and some bytes, and this is so of them
+pub record OfSession (read : List ℕ) (So : List Exchange → (bytes : List ℕ) → Type 0) : Type 0 where
+  pub journal : List Exchange
+  pub bytes : List ℕ
+  pub lines : IsJournal journal
+  pub is : read ≡ session journal bytes
+  pub so : So journal bytes
+
+-- the bytes of the session are a script, and this is so of the journal and of it
+abbrev pub OfReplay : (read : List ℕ) → (So : List Exchange → Script → Type 0) → Type 0
+OfReplay read So = OfSession read (λ journal bytes. (script : Script) × IsScript bytes script × So journal script)
+
+-- no front of the bytes is a journal with its last line, and this is the line of the fault
+pub record IsNoSession (read : List ℕ) (line : ℕ) : Type 0 where
+  pub none : journals.HasNoJournal read
+  pub at : journals.IsFaultLine read line
+
+-- these bytes are no script, and this is the line of the fault
+pub record HasNoScript (bytes : List ℕ) (line : ℕ) : Type 0 where
+  pub none : (script : Script) → IsScript bytes script → ⊥
+  pub at : IsFaultLine bytes line
+
+-- nothing was written
+abbrev pub IsUnwritten : (written : List ℕ) → (before now : SinkState) → Type 0
+IsUnwritten written before now = (written ≡ []) × (now ≡ before)
+
+-- what a replay of these bytes came to, by its status
+abbrev pub Replayed : (Script → Program) → Status → (read written : List ℕ) → (before now : SinkState) → Type 0
+Replayed program status.Done read written before now = OfReplay read (λ journal script. RanScript (program script) script journal written before now)
+Replayed program status.WriteFault read written before now = OfReplay read (λ journal script. CutsLines (program script) script journal written before now)
+Replayed program status.NoMemory read written before now =
+    IsUnwritten written before now ⊎ OfReplay read (λ journal script. CutsLines (program script) script journal written before now)
+Replayed program (status.Journal line) read written before now = IsUnwritten written before now × IsNoSession read line
+Replayed program (status.Script line) read written before now = IsUnwritten written before now × OfSession read (λ journal bytes. HasNoScript bytes line)
+Replayed program (status.Strayed most) read written before now =
+    IsUnwritten written before now × OfReplay read (λ journal script. Strays (program script) script journal most)
+Replayed program _ read written before now = ⊥
+
+-- what a replay of a script over a journal came to, by its status
+abbrev pub ReplayedOn : Program → Status → Script → (journal : List Exchange) → (written : List ℕ) → (before now : SinkState) → Type 0
+ReplayedOn program status.Done script journal written before now = RanScript program script journal written before now
+ReplayedOn program status.WriteFault script journal written before now = CutsLines program script journal written before now
+ReplayedOn program status.NoMemory script journal written before now = IsUnwritten written before now ⊎ CutsLines program script journal written before now
+ReplayedOn program (status.Strayed most) script journal written before now = IsUnwritten written before now × Strays program script journal most
+ReplayedOn program _ script journal written before now = ⊥
+
+-- the source wasn't read to its end: it failed, memory was wanting, or it has more bytes than a session may have
+abbrev pub IsUnread : Status → (read : List ℕ) → Type 0
+IsUnread status.ReadFault read = Unit {0}
+IsUnread status.NoMemory read = Unit {0}
+IsUnread (status.Journal line) read = (line ≡ 0) × (longest_session < length read)
+IsUnread _ read = ⊥
+
+-- what became of the bytes read from a source, which has ended or was given up
+abbrev pub ReadAndReplayed : (Script → Program) → Status → (read written : List ℕ) → (Ended : Type 0) → (before now : SinkState) → Type 0
+ReadAndReplayed program answer read written Ended before now =
+    (Ended × (length read ≤ longest_session) × Replayed program answer read written before now) ⊎ (IsUnwritten written before now × IsUnread answer read)
+
+-- what a replay of the session that a source holds came to
+pub record SourceReplayed (program : Script → Program) (answer : Status) (source source' : SourceState) (sink sink' : SinkState) : Type 0 where
+  pub read : List ℕ
+  pub written : List ℕ
+  pub taken : Consumes source.left source'.left read
+  pub few : length read ≤ longest_session + 1
+  pub put : Appends sink.held sink'.held written
+  pub so : ReadAndReplayed program answer read written (HasEnded source.left source'.left) sink sink'
+
+-- how the first run over a journal ended, whose lines are thrown away
+abbrev pub Followed : Result (Unit {0}) Status → Program → Script → (journal : List Exchange) → Type 0
+Followed (Ok x) program script journal = IsWhole program script journal
+Followed (Err status.NoMemory) program script journal = Unit {0}
+Followed (Err (status.Strayed most)) program script journal = Strays program script journal most
+Followed (Err _) program script journal = ⊥

@@ -1,0 +1,53 @@
+-- The session of a run, and what became of it: the exchanges of the run as a journal, and behind it the bytes of the script.
+use Rattle.std.specs.Prelude.{◌≡◌, ℕ, ◌<◌, ◌≤◌, nat_le, Bool, List, [], length}
+use Rattle.editor_model.specs.Values.{Script}
+use Rattle.plain_machine.specs.Exchanges.{Exchange}
+use Rattle.plain_machine.specs.State.{Program}
+use Rattle.ek_types.specs.Io.{SinkState, IsPrefixOf}
+use Rattle.journal_text.specs.Lines.{session}
+use Rattle.kernel_top.specs.Unseen.{IsWhole, IsBrokenOff}
+use Rattle.kernel_top.specs.declared.status.Status.{Status}
+use Rattle.kernel_top.specs.declared.status.Status.TheVariants as status
+
+-- how many bytes a session may have
+abbrev pub longest_session : ℕ
+longest_session = 268435456
+
+abbrev pub fits : List ℕ → Bool
+fits bytes = nat_le (length bytes) longest_session
+
+-- the session was written whole, and the sink hasn't failed where it had room for it
+pub record IsWritten (bytes written : List ℕ) (before now : SinkState) : Type 0 where
+  pub is : written ≡ bytes
+  pub short : length bytes ≤ longest_session
+  pub roomy : length written ≤ before.room → now.faults ≡ before.faults
+
+-- a front of the session was written, as the sink had no room for the whole
+pub record IsCut (bytes written : List ℕ) (before : SinkState) : Type 0 where
+  pub front : IsPrefixOf written bytes
+  pub short : length bytes ≤ longest_session
+  pub room : before.room < length bytes
+
+-- the session is too long, and nothing was written
+pub record IsTooLong (bytes written : List ℕ) (before now : SinkState) : Type 0 where
+  pub long : longest_session < length bytes
+  pub nothing : written ≡ []
+  pub same : now ≡ before
+
+-- what became of a session
+abbrev pub Written : Status → (bytes written : List ℕ) → (before now : SinkState) → Type 0
+Written status.Done bytes written before now = IsWritten bytes written before now
+Written status.WriteFault bytes written before now = IsCut bytes written before
+Written status.JournalFull bytes written before now = IsTooLong bytes written before now
+Written _ bytes written before now = ⊥
+
+-- the script was run to its end over just these exchanges, and this became of its session
+pub record Records (answer : Status) (program : Program) (script : Script) (read written : List ℕ) (exchanges : List Exchange) (before now : SinkState) : Type 0 where
+  pub whole : IsWhole program script exchanges
+  pub session : Written answer (session exchanges read) written before now
+
+-- the run of the script was broken off for want of memory, and nothing was written
+pub record BreaksOffUnseen (program : Program) (script : Script) (written : List ℕ) (exchanges : List Exchange) (before now : SinkState) : Type 0 where
+  pub broken : IsBrokenOff program script exchanges
+  pub nothing : written ≡ []
+  pub same : now ≡ before

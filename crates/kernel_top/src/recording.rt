@@ -1,0 +1,115 @@
+//! The word `record`: a script is run with its lines thrown away, and its session is written.
+ghost use Rattle.std.specs.Prelude.{◌≡◌, ◌≢◌, ◌^◌, ◌≤◌, ℕ, List, [], length, Some, IsTrue};
+ghost use Rattle.std.specs.Io.KnownBytes.{Appends};
+ghost use Rattle.ek_types.specs.Io.{HasCause, Writes};
+ghost use Rattle.host_link.specs.Meaning.{exchanges_of};
+ghost use Rattle.journal_text.specs.Lines.{session};
+ghost use Rattle.kernel_run.specs.Whole.{program_with};
+ghost use Rattle.kernel_top.specs.Words.{IsRecord};
+ghost use Rattle.kernel_top.specs.Sessions.{fits, Written};
+ghost use Rattle.kernel_top.specs.Outcomes.{Came, CameSo, OfBytes, OnRecord};
+
+use crate::counting::CountingSink;
+use crate::reading::{Refused, read_all};
+use crate::status::{Status, written_status};
+use crate::unseen::run_unseen;
+use ek_types::{Sink, SinkFault, Source, put};
+use handler_code::Natives;
+use host_link::{Exchanges, Host};
+use journal_text::{LONGEST_SESSION, write_journal};
+use script_read::{LONGEST_SCRIPT, ScriptFault, read};
+use std::alloc::Global;
+
+/// Writes a journal, and behind it the line `script` and the script.
+fn put_session<K: Sink>(list: &Exchanges, script: &[u8], sink: &mut K) -> Result<(), SinkFault>
+    ensures { Writes (K.state sink.old) (K.state sink.new) result
+        (session (exchanges_of list.now) script.now) }
+{
+    let so_far = write_journal(list, sink);
+    let so_far = put(so_far, sink, b"script\n");
+    put(so_far, sink, script)
+}
+
+/// Whether a session is no longer than one may be. It is put to a sink that counts its bytes.
+fn fits(list: &Exchanges, script: &[u8]) -> bool
+    ensures { result ≡ fits (session (exchanges_of list.now) script.now) }
+{
+    let mut sink = CountingSink::new();
+    let _ = put_session(list, script, &mut sink);
+    sink.bytes() <= LONGEST_SESSION as u64
+}
+
+/// Writes the session of a run, unless it is too long. It takes no memory.
+fn write_session<K: Sink>(list: &Exchanges, script: &[u8], sink: &mut K) -> Status
+    ensures written { (written : List ℕ) × Appends (K.state sink.old).held (K.state sink.new).held written
+        × Written result (session (exchanges_of list.now) script.now) written (K.state sink.old) (K.state sink.new) }
+    ensures write_fault { HasCause (K.state sink.old).faults (K.state sink.new).faults
+        (result ≡ Status.WriteFault) }
+{
+    if fits(list, script) {
+        written_status(put_session(list, script, sink))
+    } else {
+        Status::JournalFull
+    }
+}
+
+/// Reads the script that some bytes are, runs it, and writes its session.
+fn record_bytes<K: Sink, H: Host, N: Natives>(
+    alloc: Global,
+    bytes: &[u8],
+    sink: &mut K,
+    host: &mut H,
+    natives: &N,
+) -> Status
+    requires few { length (H.state host.old).kills ≤ 2 ^ 31 }
+    requires told { (H.state host.old).told ≡ Some [] }
+    ensures outcome { CameSo H.state H.made host.old host.new (K.state sink.old) (K.state sink.new)
+        (OfBytes (OnRecord (λ script. program_with N.names N.does script natives.now)) bytes.now result) }
+    ensures no_read { result ≢ Status.ReadFault }
+    ensures known { result ≢ Status.Usage }
+    ensures write_fault { HasCause (K.state sink.old).faults (K.state sink.new).faults
+        (result ≡ Status.WriteFault) }
+{
+    let script = match read(alloc, bytes) {
+        Ok(script) => script,
+        Err(ScriptFault::Line(line)) => return Status::Script(line),
+        Err(ScriptFault::NoMemory) => return Status::NoMemory,
+    };
+    let ran = run_unseen(alloc, &script, host, natives);
+    let Ok(()) = ran else {
+        return Status::NoMemory;
+    };
+    match host.told() {
+        Some(list) => write_session(list, bytes, sink),
+        None => unreachable!(),
+    }
+}
+
+/// Reads the script that the source holds, runs it, and writes its session. The host has told no exchange yet.
+pub(crate) fn record_source<S: Source, K: Sink, H: Host, N: Natives>(
+    alloc: Global,
+    source: &mut S,
+    sink: &mut K,
+    host: &mut H,
+    natives: &N,
+) -> Status
+    requires few { length (H.state host.old).kills ≤ 2 ^ 31 }
+    requires told { (H.state host.old).told ≡ Some [] }
+    ensures outcome { (words : List (List ℕ)) → IsRecord words → Came H.state H.made
+        (λ script. program_with N.names N.does script natives.now) words result
+        host.old host.new (S.state source.old) (S.state source.new) (K.state sink.old) (K.state sink.new) }
+    ensures known { result ≢ Status.Usage }
+    ensures read_fault { HasCause (S.state source.old).faults (S.state source.new).faults
+        (result ≡ Status.ReadFault) }
+    ensures write_fault { HasCause (K.state sink.old).faults (K.state sink.new).faults
+        (result ≡ Status.WriteFault) }
+    ensures unfailing { IsTrue (S.state source.old).unfailing →
+        (S.state source.new).faults ≡ (S.state source.old).faults }
+{
+    match read_all(alloc, source, LONGEST_SCRIPT) {
+        Ok(bytes) => record_bytes(alloc, bytes.as_slice(), sink, host, natives),
+        Err(Refused::Failed) => Status::ReadFault,
+        Err(Refused::TooLong) => Status::Script(0),
+        Err(Refused::NoMemory) => Status::NoMemory,
+    }
+}
