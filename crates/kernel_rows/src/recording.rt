@@ -5,7 +5,8 @@ use kernel_top::Status;
 use std::alloc::Global;
 use std::process::Abort;
 
-pub const SCRIPT: &str = "(start-process \"c\" \"*scratch*\" \"cat\")(accept-process-output)(accept-process-output)";
+pub const SCRIPT: &str =
+    "(start-process \"c\" \"*scratch*\" \"cat\")(accept-process-output)(accept-process-output)";
 
 /// The session of that script over a child that writes `ab`.
 pub const SESSION: &str = "spawn 636174 -> started 0

@@ -155,7 +155,12 @@ fn is_replayed(rt: &impl Abort, alloc: Global, run: &Run) {
     let children = plays(rt, alloc, run.children);
     let recorded = run_words(rt, alloc, &["record"], run.script.as_str(), children, PLAIN);
     assert_eq!(rt; recorded.status, Status::Done, "{}", run.shows);
-    assert_eq!(rt; recorded.exchanges.as_slice(), run.exchanges.as_slice(), "{}", run.shows);
+    assert_eq!(rt;
+        recorded.exchanges.as_slice(),
+        run.exchanges.as_slice(),
+        "{}",
+        run.shows
+    );
     let session = String::from_utf8_lossy(alloc, recorded.written.as_slice()).expect(rt, "memory");
     let ran = replay(rt, alloc, session.as_str(), PLAIN);
     check_ran(rt, alloc, run.shows, &ran, run.lines.as_str(), b"");
