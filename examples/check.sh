@@ -1,5 +1,5 @@
 #!/bin/bash
-# Runs the program on each example and compares what it writes, on sessions, and on three drills: examples/check.sh [PROGRAM]
+# Runs the program on each example and compares what it writes, on sessions and views, and on three drills: examples/check.sh [PROGRAM]
 set -u
 here="$(cd "$(dirname "$0")" && pwd)"
 program="${1:-$here/../crates/kernel_cli/out/kernel_cli}"
@@ -19,6 +19,13 @@ for session in "$here"/*.session; do
     fi
     if ! "$program" record < "$here/$name.el" 2> /dev/null | cmp -s - "$session"; then
         echo "differs: the session of $name"
+        failed=1
+    fi
+done
+for view in "$here"/*.view; do
+    name="$(basename "$view" .view)"
+    if ! "$program" view < "$here/$name.el" 2> /dev/null | cmp -s - "$view"; then
+        echo "differs: the view of $name"
         failed=1
     fi
 done

@@ -36,6 +36,8 @@ mod stops;
 #[cfg(test)]
 mod undos;
 #[cfg(test)]
+mod viewing;
+#[cfg(test)]
 mod waits;
 #[cfg(test)]
 mod words;

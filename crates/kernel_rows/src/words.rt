@@ -5,7 +5,7 @@ use kernel_top::Status;
 use std::alloc::Global;
 use std::process::Abort;
 
-const WRONG: [&[&str]; 14] = [
+const WRONG: [&[&str]; 16] = [
     &["walk"],
     &["run", "x"],
     &[],
@@ -20,6 +20,8 @@ const WRONG: [&[&str]; 14] = [
     &["record", "x"],
     &["replay", "1"],
     &["Replay"],
+    &["view", "x"],
+    &["views"],
 ];
 
 /// A run that ends in this way before anything is written or asked.

@@ -12,3 +12,4 @@ pub mod Paths
 pub mod Following
 pub mod Strayed
 pub mod Replays
+pub mod Viewed

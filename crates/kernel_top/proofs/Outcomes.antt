@@ -19,12 +19,12 @@ use Rattle.kernel_steps.specs.declared.stop.Stop.{Stop}
 use Rattle.kernel_steps.specs.declared.stop.Stop.TheVariants as stop
 use Rattle.text_model.specs.Names.{same_word}
 use Rattle.ek_types.proofs.Naming.{same_word-true}
-use Rattle.kernel_top.specs.Words.{is_word, IsRun, IsRecord, IsReplay, IsDrill, IsKnown}
+use Rattle.kernel_top.specs.Words.{is_word, IsRun, IsRecord, IsReplay, IsView, IsDrill, IsKnown}
 use Rattle.kernel_top.specs.Reading.{HasEnded, IsAll, IsGivenUp}
 use Rattle.kernel_top.specs.declared.reading.Refused.{Refused}
 use Rattle.kernel_top.specs.declared.reading.Refused.TheVariants as refused
 use Rattle.kernel_top.specs.Drills.{SumsUp}
-use Rattle.kernel_top.specs.Outcomes.{status_of, written_status, Seen, seen, IsQuiet, IsNoScript, OnRun, OnRecord, OnReplay, OnDrill, OnOthers, Outcome, of_run, of_record, of_replay, of_drill, of_others, Came, CameSo, OfBytes, most_read, Completes, CompletesRun, CompletesRecord, CompletesReplay, CompletesDrill}
+use Rattle.kernel_top.specs.Outcomes.{status_of, written_status, Seen, seen, IsQuiet, IsNoScript, OnRun, OnRecord, OnReplay, OnView, OnDrill, OnOthers, Outcome, of_run, of_record, of_replay, of_view, of_drill, of_others, Came, CameSo, OfBytes, most_read, Completes, CompletesRun, CompletesRecord, CompletesReplay, CompletesView, CompletesDrill}
 use Rattle.kernel_top.specs.Sessions.{longest_session}
 use Rattle.kernel_top.specs.Replaying.{ReadAndReplayed, SourceReplayed}
 use Rattle.kernel_top.specs.declared.status.Status.{Status}
@@ -203,16 +203,26 @@ run_no_replay words run = two_words (codes "run") (codes "replay") refl words (r
 record_no_replay : (words : List (List ℕ)) → IsRecord words → IsReplay words → ⊥
 record_no_replay words = two_words (codes "record") (codes "replay") refl words
 
+run_no_view : (words : List (List ℕ)) → IsRun words → IsView words → ⊥
+run_no_view words run = two_words (codes "run") (codes "view") refl words (run_is_word words run)
+
+record_no_view : (words : List (List ℕ)) → IsRecord words → IsView words → ⊥
+record_no_view words = two_words (codes "record") (codes "view") refl words
+
+replay_no_view : (words : List (List ℕ)) → IsReplay words → IsView words → ⊥
+replay_no_view words = two_words (codes "replay") (codes "view") refl words
+
 pub not_both : (words : List (List ℕ)) (count : ℕ) → IsRun words → IsDrill words count → ⊥
 not_both [] count run drill = let no : false ≡ true = run in cc
 not_both (w ∷ []) count run drill = let no : None ≡ Some count = drill in cc
 not_both (w ∷ x ∷ words) count run drill = let no : false ≡ true = run in cc
 
-pub unknown : (words : List (List ℕ)) → is_run words ≡ false → is_word (codes "record") words ≡ false → is_word (codes "replay") words ≡ false → None ≡ drill_of words → IsKnown words → ⊥
-unknown words no_run no_record no_replay no_drill (inl run) = let no : false ≡ true = sym no_run ∙ run in cc
-unknown words no_run no_record no_replay no_drill (inr (inl recording)) = let no : false ≡ true = sym no_record ∙ recording in cc
-unknown words no_run no_record no_replay no_drill (inr (inr (inl replays))) = let no : false ≡ true = sym no_replay ∙ replays in cc
-unknown words no_run no_record no_replay no_drill (inr (inr (inr (count, drill)))) = let no : None ≡ Some count = no_drill ∙ drill in cc
+pub unknown : (words : List (List ℕ)) → is_run words ≡ false → is_word (codes "record") words ≡ false → is_word (codes "replay") words ≡ false → is_word (codes "view") words ≡ false → None ≡ drill_of words → IsKnown words → ⊥
+unknown words no_run no_record no_replay no_view no_drill (inl run) = let no : false ≡ true = sym no_run ∙ run in cc
+unknown words no_run no_record no_replay no_view no_drill (inr (inl recording)) = let no : false ≡ true = sym no_record ∙ recording in cc
+unknown words no_run no_record no_replay no_view no_drill (inr (inr (inl replays))) = let no : false ≡ true = sym no_replay ∙ replays in cc
+unknown words no_run no_record no_replay no_view no_drill (inr (inr (inr (inl viewing)))) = let no : false ≡ true = sym no_view ∙ viewing in cc
+unknown words no_run no_record no_replay no_view no_drill (inr (inr (inr (inr (count, drill))))) = let no : None ≡ Some count = no_drill ∙ drill in cc
 
 -- COMPLETENESS
 -- a script is not refused
@@ -274,6 +284,18 @@ module _ (program : Script → Program) (words : List (List ℕ)) (read written 
   replay_row status.JournalFull (alone, same, inl (ended, short, row)) r w = absurd row
   replay_row status.JournalFull (alone, same, inr (nothing, row)) r w = absurd row
 
+  view_row : (result : Status) → OnView program result read written exchanges before now → (result ≡ status.ReadFault → Rose source.faults source'.faults) → (result ≡ status.WriteFault → Rose sink.faults sink'.faults) →
+      CompletesView result words source source' sink sink'
+  view_row status.Done o r w = λ bytes script run told is unread unwritten. inl refl
+  view_row status.NoMemory o r w = λ bytes script run told is unread unwritten. inr refl
+  view_row status.Usage o r w = λ bytes script run told is unread unwritten. absurd o.so
+  view_row (status.Journal line) o r w = λ bytes script run told is unread unwritten. absurd o.so
+  view_row status.JournalFull o r w = λ bytes script run told is unread unwritten. absurd o.so
+  view_row (status.Strayed most) o r w = λ bytes script run told is unread unwritten. absurd o.so
+  view_row (status.Script line) (ended, refused, kept) r w = λ bytes script run told is unread unwritten. absurd (no_script_read bytes read script line source.left source'.left told taken ended is refused)
+  view_row status.ReadFault o r w = λ bytes script run told is unread unwritten. absurd (unread (r refl))
+  view_row status.WriteFault o r w = λ bytes script run told is unread unwritten. absurd (unwritten (w refl))
+
   drill_row : (n : ℕ) (result : Status) → OnDrill program n result written exchanges before now → (result ≡ status.WriteFault → Rose sink.faults sink'.faults) → CompletesDrill result words sink sink'
   drill_row n status.Done o w = λ count is unwritten. inl refl
   drill_row n status.NoMemory o w = λ count is unwritten. inr refl
@@ -292,29 +314,41 @@ module _ (program : Script → Program) (words : List (List ℕ)) (read written 
     run = run_row result row r w;
     recording = λ bytes script is. absurd (run_no_record words run is);
     replaying = λ is. absurd (run_no_replay words run is);
+    viewing = λ bytes script is. absurd (run_no_view words run is);
     drill = λ count is unwritten. absurd (not_both words count run is);
   }
   completes result (of_record recording row) r w = record {
     run = λ bytes script run. absurd (run_no_record words run recording);
     recording = record_row result row r w;
     replaying = λ is. absurd (record_no_replay words recording is);
+    viewing = λ bytes script is. absurd (record_no_view words recording is);
     drill = λ count is unwritten. absurd (word_no_drill (codes "record") words count recording is);
   }
   completes result (of_replay replays row) r w = record {
     run = λ bytes script run. absurd (run_no_replay words run replays);
     recording = λ bytes script is. absurd (record_no_replay words is replays);
     replaying = replay_row result row r w;
+    viewing = λ bytes script is. absurd (replay_no_view words replays is);
     drill = λ count is unwritten. absurd (word_no_drill (codes "replay") words count replays is);
+  }
+  completes result (of_view viewing row) r w = record {
+    run = λ bytes script run. absurd (run_no_view words run viewing);
+    recording = λ bytes script is. absurd (record_no_view words is viewing);
+    replaying = λ is. absurd (replay_no_view words is viewing);
+    viewing = view_row result row r w;
+    drill = λ count is unwritten. absurd (word_no_drill (codes "view") words count viewing is);
   }
   completes result (of_drill n drill unread row) r w = record {
     run = λ bytes script run. absurd (not_both words n run drill);
     recording = λ bytes script is. absurd (word_no_drill (codes "record") words n is drill);
     replaying = λ is. absurd (word_no_drill (codes "replay") words n is drill);
+    viewing = λ bytes script is. absurd (word_no_drill (codes "view") words n is drill);
     drill = drill_row n result row w;
   }
   completes result (of_others never unread row) r w = record {
     run = λ bytes script run. absurd (never (inl run));
     recording = λ bytes script is. absurd (never (inr (inl is)));
     replaying = λ is. absurd (never (inr (inr (inl is))));
-    drill = λ count is unwritten. absurd (never (inr (inr (inr (count, is)))));
+    viewing = λ bytes script is. absurd (never (inr (inr (inr (inl is)))));
+    drill = λ count is unwritten. absurd (never (inr (inr (inr (inr (count, is))))));
   }

@@ -9,4 +9,5 @@ pub mod NullSinks
 pub mod Unseen
 pub mod Sessions
 pub mod Replaying
+pub mod Viewing
 pub mod Outcomes

@@ -12,11 +12,12 @@ use Rattle.kernel_steps.specs.HostCalls.{CallsSince, Tells}
 use Rattle.kernel_steps.specs.Outcomes.{RanScript, StoppedScript}
 use Rattle.kernel_steps.specs.declared.stop.Stop.{Stop}
 use Rattle.kernel_steps.specs.declared.stop.Stop.TheVariants as stop
-use Rattle.kernel_top.specs.Words.{is_word, IsRun, IsRecord, IsReplay, IsDrill, IsKnown}
+use Rattle.kernel_top.specs.Words.{is_word, IsRun, IsRecord, IsReplay, IsView, IsDrill, IsKnown}
 use Rattle.kernel_top.specs.Reading.{HasEnded}
 use Rattle.kernel_top.specs.Drills.{SumsUp, BreaksOff}
 use Rattle.kernel_top.specs.Sessions.{longest_session, Records, BreaksOffUnseen}
 use Rattle.kernel_top.specs.Replaying.{ReadAndReplayed}
+use Rattle.kernel_top.specs.Viewing.{Viewed}
 use Rattle.kernel_top.specs.declared.status.Status.{Status}
 use Rattle.kernel_top.specs.declared.status.Status.TheVariants as status
 
@@ -91,6 +92,15 @@ abbrev pub OnReplay : (Script → Program) → Status → (read written : List �
 OnReplay program answer read written exchanges before now =
     (exchanges ≡ []) × (now.host ≡ before.host) × ReadAndReplayed program answer read written (HasEnded before.source.left now.source.left) before.sink now.sink
 
+-- the word `view`
+abbrev pub OnView : (Script → Program) → Status → (read written : List ℕ) → List Exchange → (before now : Seen) → Type 0
+OnView program (status.Script line) read written exchanges before now = RefusesScript line read written exchanges before now
+OnView program status.ReadFault read written exchanges before now = IsQuiet written exchanges before now
+OnView program status.NoMemory read written exchanges before now =
+    IsQuiet written exchanges before now ⊎ OfScript read before now (λ script. Viewed status.NoMemory (program script) script written exchanges before.sink now.sink)
+OnView program answer read written exchanges before now =
+    OfScript read before now (λ script. Viewed answer (program script) script written exchanges before.sink now.sink)
+
 -- the summary was written, and the sink hasn't failed where it had room for it
 abbrev pub WritesSummary : (program : Program) → (count : ℕ) → (written : List ℕ) → List Exchange → (before now : Seen) → Type 0
 WritesSummary program count written exchanges before now =
@@ -125,6 +135,7 @@ pub data Outcome (program : Script → Program) (answer : Status) (words : List 
   of_run : IsRun words → OnRun program answer read written exchanges before now → Outcome program answer words read written exchanges before now
   of_record : IsRecord words → OnRecord program answer read written exchanges before now → Outcome program answer words read written exchanges before now
   of_replay : IsReplay words → OnReplay program answer read written exchanges before now → Outcome program answer words read written exchanges before now
+  of_view : IsView words → OnView program answer read written exchanges before now → Outcome program answer words read written exchanges before now
   of_drill : (count : ℕ) → IsDrill words count → IsUnread read before now → OnDrill program count answer written exchanges before now → Outcome program answer words read written exchanges before now
   of_others : (IsKnown words → ⊥) → IsUnread read before now → OnOthers answer written exchanges before now → Outcome program answer words read written exchanges before now
 
@@ -183,6 +194,12 @@ abbrev pub CompletesReplay : Status → (words : List (List ℕ)) → (source so
 CompletesReplay answer words source source' sink sink' =
     IsReplay words → (Rose source.faults source'.faults → ⊥) → (Rose sink.faults sink'.faults → ⊥) → EndsOrRefuses answer
 
+-- where neither failed, the view of a script is written, or memory was wanting
+abbrev pub CompletesView : Status → (words : List (List ℕ)) → (source source' : SourceState) → (sink sink' : SinkState) → Type 0
+CompletesView answer words source source' sink sink' =
+    (bytes : List ℕ) (script : Script) → IsView words → source.left ≡ Some bytes → IsScript bytes script →
+    (Rose source.faults source'.faults → ⊥) → (Rose sink.faults sink'.faults → ⊥) → (answer ≡ status.Done) ⊎ (answer ≡ status.NoMemory)
+
 -- where the sink didn't fail, a drill is run to its end, or memory was wanting
 abbrev pub CompletesDrill : Status → (words : List (List ℕ)) → (sink sink' : SinkState) → Type 0
 CompletesDrill answer words sink sink' =
@@ -192,4 +209,5 @@ pub record Completes (answer : Status) (words : List (List ℕ)) (source source'
   pub run : CompletesRun answer words source source' sink sink'
   pub recording : CompletesRecord answer words source source' sink sink'
   pub replaying : CompletesReplay answer words source source' sink sink'
+  pub viewing : CompletesView answer words source source' sink sink'
   pub drill : CompletesDrill answer words sink sink'

@@ -14,6 +14,7 @@ mod status;
 mod summing;
 mod top;
 mod unseen;
+mod viewing;
 mod words;
 
 pub use drilling::drill;

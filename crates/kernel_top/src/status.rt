@@ -8,19 +8,19 @@ use kernel_run::Stop;
 /// How a run ends.
 #[derive(Clone, Copy, Debug, PartialEq, Eq)]
 pub enum Status {
-    /// The script ran to its end, and all lines and the dump are written; or its session, or the summary of a drill.
+    /// The script ran to its end, and all lines and the dump are written; or its session, its view, or the summary of a drill.
     Done,
-    /// The words are neither `run`, `record` or `replay` alone nor `drill` and a number of one to four digits. Nothing was read or
-    /// written.
+    /// The words are neither `run`, `record`, `replay` or `view` alone nor `drill` and a number of one to four digits. Nothing was
+    /// read or written.
     Usage,
     /// The bytes of the source are no script. The line is that at which they go wrong, and 0 where they are more than a
     /// script may have. Nothing was written.
     Script(u32),
     /// The source failed. Nothing was written.
     ReadFault,
-    /// The sink failed. What is written is the front of the run's lines, of its session, or of the summary of a drill.
+    /// The sink failed. What is written is the front of the run's lines, of its session, its view, or of the summary of a drill.
     WriteFault,
-    /// Memory was wanting. What is written is whole lines of the run, and nothing of a session or a drill.
+    /// Memory was wanting. What is written is whole lines of the run, and nothing of a session, a view or a drill.
     NoMemory,
     /// The bytes of the source are no session. The line is that at which the journal goes wrong, and 0 where they are more
     /// than 268,435,456. Nothing was written.

@@ -12,7 +12,8 @@ use crate::recording::record_source;
 use crate::replaying::replay_source;
 use crate::status::{Status, status_of, written_status};
 use crate::summing::{count_run, write_summary};
-use crate::words::{drill_of, is_record, is_replay, is_run};
+use crate::viewing::view_source;
+use crate::words::{drill_of, is_record, is_replay, is_run, is_view};
 use ek_types::{Sink, Source};
 use handler_code::Natives;
 use host_link::Host;
@@ -108,7 +109,8 @@ fn run_drill<K: Sink, H: Host, N: Natives>(
 /// The words are those behind the program's name. `run` reads the script that the source holds, runs it, and writes
 /// its lines and the dump to the sink. `record` does so with the lines thrown away, and writes the session of the run:
 /// a line for each exchange, the line `script`, and the script as it was read. `replay` reads such a session and writes the
-/// lines and the dump of that run. It asks the host nothing. `drill` and a number of one to four digits reads nothing: it runs the script
+/// lines and the dump of that run. It asks the host nothing. `view` runs the script with its lines thrown away, and writes what
+/// is seen of the current buffer at its end. `drill` and a number of one to four digits reads nothing: it runs the script
 /// of that drill on the host, and writes one line that tells how many lines, exchanges and characters this came to.
 ///
 /// The status says what was read and written, as `outcome` has it: for `Done` the lines are those of the plain
@@ -116,6 +118,7 @@ fn run_drill<K: Sink, H: Host, N: Natives>(
 /// was read, sentinels come last, and undoing back to a kept boundary gives its text back. The exchanges of the run
 /// are the calls on the host, each with what the host says of itself that it did, and a read has room for 4,096
 /// bytes. A run whose write fails stops at that line; the children that live are asked to be killed then, each once.
+/// What `view` writes is what is seen in that run's last state; where memory is wanting, it is nothing.
 /// The line of a drill is the summary of the plain machine's whole run on the drill's script, over just the exchanges
 /// made. Of a session no more than 268,435,456 bytes are written, and none where it is longer. For `record` the host
 /// tells its exchanges, and has told none yet. A session is replayed only where the run of its script ends with all
@@ -156,6 +159,9 @@ pub fn run<S: Source, K: Sink, H: Host, N: Natives>(
     }
     if is_replay(words) {
         return replay_source(alloc, source, sink, natives);
+    }
+    if is_view(words) {
+        return view_source(alloc, source, sink, host, natives);
     }
     match drill_of(words) {
         Some(count) => run_drill(alloc, count, sink, host, natives),

@@ -35,6 +35,16 @@ pub(crate) fn is_replay(words: &[String]) -> bool
     }
 }
 
+/// Whether the words behind the program's name are `view` alone.
+pub(crate) fn is_view(words: &[String]) -> bool
+    ensures { result ≡ is_word (codes "view") (map string_bytes words.now) }
+{
+    match words {
+        [word] => word.as_str() == "view",
+        _ => false,
+    }
+}
+
 /// The number of a drill, where the words behind the program's name are `drill` and a number of one to four digits.
 pub fn drill_of(words: &[String]) -> Option<u32>
     ensures { result ≡ drill_of (map string_bytes words.now) }

@@ -44,6 +44,18 @@ returns-then-is_replay-clause-complete g c =
     completes _ (map string_bytes c.args.words.now) so.read so.written so.exchanges (g.S.Source.state c.args.source.now) (g.S.Source.state c.replay_source.new.source) (g.K.Sink.state c.args.sink.now) (g.K.Sink.state c.replay_source.new.sink) _ _ so.taken c.replay_source.result so.outcome
     c.replay_source.ensures.read_fault.rose c.replay_source.ensures.write_fault.rose
 
+pub returns-then-is_view-clause-outcome : goal.returns-then-is_view-clause-outcome
+returns-then-is_view-clause-outcome g c = c.view_source.ensures.outcome (map string_bytes c.args.words.now) (sym c.is_view.ensures ∙ c.if-is_view.true)
+
+pub returns-then-is_view-clause-untouched : goal.returns-then-is_view-clause-untouched
+returns-then-is_view-clause-untouched g c = λ e. absurd (c.view_source.ensures.known e)
+
+pub returns-then-is_view-clause-complete : goal.returns-then-is_view-clause-complete
+returns-then-is_view-clause-complete g c =
+    let so = returns-then-is_view-clause-outcome g c in
+    completes _ (map string_bytes c.args.words.now) so.read so.written so.exchanges (g.S.Source.state c.args.source.now) (g.S.Source.state c.view_source.new.source) (g.K.Sink.state c.args.sink.now) (g.K.Sink.state c.view_source.new.sink) _ _ so.taken c.view_source.result so.outcome
+    c.view_source.ensures.read_fault.rose c.view_source.ensures.write_fault.rose
+
 pub returns-in-Some-clause-outcome : goal.returns-in-Some-clause-outcome
 returns-in-Some-clause-outcome g c =
     came_drilled g.H.Host.state g.H.Host.made (λ script. program_with g.N.Natives.names g.N.Natives.does script c.args.natives.now) (map string_bytes c.args.words.now) c.run_drill.result c.args.host.now c.run_drill.new.host
@@ -66,7 +78,7 @@ pub returns-in-None-clause-outcome : goal.returns-in-None-clause-outcome
 returns-in-None-clause-outcome g c =
     came_unknown g.H.Host.state g.H.Host.made (λ script. program_with g.N.Natives.names g.N.Natives.does script c.args.natives.now) (map string_bytes c.args.words.now) _ c.args.host.now c.args.host.now
     (g.S.Source.state c.args.source.now) (g.S.Source.state c.args.source.now) (g.K.Sink.state c.args.sink.now) (g.K.Sink.state c.args.sink.now)
-    (unknown (map string_bytes c.args.words.now) (sym c.is_run.ensures ∙ c.if-is_run.false) (sym c.is_record.ensures ∙ c.if-is_record.false) (sym c.is_replay.ensures ∙ c.if-is_replay.false) c.in-None.ensures) (quiet _ _ _ _)
+    (unknown (map string_bytes c.args.words.now) (sym c.is_run.ensures ∙ c.if-is_run.false) (sym c.is_record.ensures ∙ c.if-is_record.false) (sym c.is_replay.ensures ∙ c.if-is_replay.false) (sym c.is_view.ensures ∙ c.if-is_view.false) c.in-None.ensures) (quiet _ _ _ _)
 
 pub returns-in-None-clause-complete : goal.returns-in-None-clause-complete
 returns-in-None-clause-complete g c =

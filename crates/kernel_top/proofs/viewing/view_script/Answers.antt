@@ -1,0 +1,23 @@
+use Rattle.std.proofs.Common.{[], refl, sym, ◌∙◌, inr}
+use Rattle.std.proofs.KnownBytes.{Appends-nil}
+use Rattle.ek_call.specs.Meaning.{script_of}
+use Rattle.kernel_run.specs.Meaning.{state_of}
+use Rattle.kernel_run.specs.Whole.{program_with}
+use Rattle.kernel_top.proofs.Viewed.{viewed, cause}
+use Rattle.kernel_top.proofs.viewing.view_script.Goals as goal
+
+pub returns-in-Ok-clause-outcome : goal.returns-in-Ok-clause-outcome
+returns-in-Ok-clause-outcome g c =
+    let (lines, exchanges, kept, calls, ends) = c.in-Ok.ensures.outcome in
+    let (whole, last) = ends in
+    let (written, put, row) =
+    viewed (program_with g.N.Natives.names g.N.Natives.does (script_of c.args.script.now) c.args.natives.now) (script_of c.args.script.now) exchanges lines whole.ran _ (last ∙ sym c.editor.ensures) c.view_current.result (g.K.Sink.state c.args.sink.now) (g.K.Sink.state c.view_current.new.sink) c.view_current.ensures in
+    rw c.viewed_status.ensures (written, exchanges, put, calls, row)
+
+pub returns-in-Ok-clause-write_fault : goal.returns-in-Ok-clause-write_fault
+returns-in-Ok-clause-write_fault g c = rw c.viewed_status.ensures (cause c.view_current.result (g.K.Sink.state c.args.sink.now) (g.K.Sink.state c.view_current.new.sink) _ c.view_current.ensures)
+
+pub returns-in-Err-clause-outcome : goal.returns-in-Err-clause-outcome
+returns-in-Err-clause-outcome g c =
+    let (lines, exchanges, kept, calls, ends) = c.in-Err.ensures.outcome in
+    ([], exchanges, Appends-nil _, calls, record { came = inr (record { lines = lines; broken = ends.broken; answered = ends.answered }); nothing = refl; same = refl })
