@@ -5,7 +5,7 @@ use kernel_top::Status;
 use std::alloc::Global;
 use std::process::Abort;
 
-const WRONG: [&[&str]; 14] = [
+const WRONG: [&[&str]; 26] = [
     &["walk"],
     &["run", "x"],
     &[],
@@ -20,6 +20,18 @@ const WRONG: [&[&str]; 14] = [
     &["record", "x"],
     &["replay", "1"],
     &["Replay"],
+    &["session"],
+    &["session", "1"],
+    &["session", "256", "cat"],
+    &["session", "999", "cat"],
+    &["session", "", "cat"],
+    &["session", "1a", "cat"],
+    &["session", "0001", "cat"],
+    &["session", "-1", "cat"],
+    &["session", "1", ""],
+    &["session", "1", "c\0t"],
+    &["session", "1", "cat", "a", "\0"],
+    &["Session", "1", "cat"],
 ];
 
 /// A run that ends in this way before anything is written or asked.

@@ -12,3 +12,5 @@ pub mod Paths
 pub mod Following
 pub mod Strayed
 pub mod Replays
+pub mod SessionWords
+pub mod Gathering

@@ -1,3 +1,4 @@
+pub mod SessionWords
 pub mod Words
 pub mod Reading
 pub mod Counting
@@ -9,4 +10,5 @@ pub mod NullSinks
 pub mod Unseen
 pub mod Sessions
 pub mod Replaying
+pub mod Gathering
 pub mod Outcomes
