@@ -1,5 +1,5 @@
 #!/bin/bash
-# Runs the program on each example and compares what it writes, on sessions and views, and on three drills: examples/check.sh [PROGRAM]
+# Runs the program on each example and compares what it writes, on sessions, views, three drills and a line session: examples/check.sh [PROGRAM]
 set -u
 here="$(cd "$(dirname "$0")" && pwd)"
 program="${1:-$here/../crates/kernel_cli/out/kernel_cli}"
@@ -39,4 +39,12 @@ done << 'DRILLS'
 1 drill 1: 37 lines, 6 exchanges, 4 characters
 9999 drill 9999: 236588 lines, 19725 exchanges, 68883 characters
 DRILLS
+# A child that ends well the third time, by what it finds in a file.
+tries="$(mktemp)"
+lines="$("$program" session 5 sh -c 'echo x >> "$1"; cat "$1"; printf .; test "$(wc -l < "$1")" -eq 3' sh "$tries" < /dev/null 2> /dev/null)"
+if [ "$lines" != $'x\n.\nx\nx\n.\nx\nx\nx\n.' ]; then
+    echo "differs: the line session"
+    failed=1
+fi
+rm -f "$tries"
 exit "$failed"

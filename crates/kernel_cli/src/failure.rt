@@ -23,6 +23,8 @@ pub enum Failure {
     JournalFull,
     #[error("kernel_cli: strayed at {0}")]
     Strayed(u32),
+    #[error("kernel_cli: session full")]
+    SessionFull,
 }
 
 impl Failure {
@@ -38,6 +40,7 @@ impl Failure {
             Failure::Journal(_) => 6,
             Failure::JournalFull => 7,
             Failure::Strayed(_) => 8,
+            Failure::SessionFull => 10,
         }
     }
 }
@@ -56,5 +59,6 @@ pub fn result_of(status: Status) -> Result<(), Failure>
         Status::Journal(line) => Err(Failure::Journal(line)),
         Status::JournalFull => Err(Failure::JournalFull),
         Status::Strayed(most) => Err(Failure::Strayed(most)),
+        Status::SessionFull => Err(Failure::SessionFull),
     }
 }

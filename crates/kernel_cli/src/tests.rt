@@ -7,22 +7,24 @@ use kernel_top::Status;
 use std::alloc::Global;
 use std::test::Fail;
 
-/// What a word with the shipped handlers writes for some bytes, over a host that has started no child.
+/// What some words with the shipped handlers write for some bytes, over a host that has started no child.
 fn written_by<H: Host>(
     alloc: Global,
-    word: &str,
+    words: &[&str],
     bytes: &[u8],
     host: &mut H,
 ) -> Result<(Status, Vec<u8>), Fail>
     requires few { length (H.state host.old).kills ≤ 2 ^ 31 }
     requires told { (H.state host.old).told ≡ Some [] }
 {
-    let mut words = Vec::new(alloc);
-    words.push(String::from_str(alloc, word)?)?;
+    let mut given = Vec::new(alloc);
+    for word in words {
+        given.push(String::from_str(alloc, word)?)?;
+    }
     let bytes = bytes.to_vec(alloc)?;
     let mut source = MemorySource::new(bytes, 1000, Vec::new(alloc));
     let mut sink = MemorySink::new(alloc, 4_000_000, 1000, Vec::new(alloc))?;
-    let status = run_shipped(alloc, words.as_slice(), &mut source, &mut sink, host)?;
+    let status = run_shipped(alloc, given.as_slice(), &mut source, &mut sink, host)?;
     Ok((status, sink.bytes().to_vec(alloc)?))
 }
 
@@ -35,7 +37,7 @@ fn written_over<H: Host>(
     requires few { length (H.state host.old).kills ≤ 2 ^ 31 }
     requires told { (H.state host.old).told ≡ Some [] }
 {
-    written_by(alloc, "run", script.as_bytes(), host)
+    written_by(alloc, &["run"], script.as_bytes(), host)
 }
 
 /// What a run with real children writes.
@@ -259,11 +261,11 @@ fn a_recorded_child_is_replayed(rt: HostRuntime) -> Result<(), Fail> {
     let script = br#"(setq p (start-process "c" "out" "printf" "hi"))
 (set-process-filter p 'insert-filter)(accept-process-output p)(accept-process-output p)"#;
     let mut host = Recorder::new(rt.alloc(), RealHost::new(rt.alloc(), &rt));
-    let (status, session) = written_by(rt.alloc(), "record", script, &mut host)?;
+    let (status, session) = written_by(rt.alloc(), &["record"], script, &mut host)?;
     assert_eq!(rt; status, Status::Done);
     assert!(rt; session.starts_with(b"spawn 7072696e7466 6869 -> started 0\n"));
     let mut none = MemoryHost::new(Vec::new(rt.alloc()), Vec::new(rt.alloc()));
-    let (status, lines) = written_by(rt.alloc(), "replay", session.as_slice(), &mut none)?;
+    let (status, lines) = written_by(rt.alloc(), &["replay"], session.as_slice(), &mut none)?;
     assert_eq!(rt; status, Status::Done);
     assert!(rt;
         lines.starts_with(
@@ -271,6 +273,17 @@ fn a_recorded_child_is_replayed(rt: HostRuntime) -> Result<(), Fail> {
         )
     );
     assert!(rt; lines.ends_with(b"process 0 #<process c> exit 0\n"));
+    Ok(())
+}
+
+/// A real child that ends badly is started again, as often as it may be, and its last line is closed each time.
+#[test]
+fn a_real_child_is_started_again(rt: HostRuntime) -> Result<(), Fail> {
+    let mut host = Recorder::new(rt.alloc(), RealHost::new(rt.alloc(), &rt));
+    let words = ["session", "2", "sh", "-c", "printf 'a\\nb'; exit 3"];
+    let (status, text) = written_by(rt.alloc(), &words, b"", &mut host)?;
+    assert_eq!(rt; status, Status::Done);
+    assert_eq!(rt; text.as_slice(), b"a\nb\na\nb\na\nb\n".as_slice());
     Ok(())
 }
 
@@ -285,6 +298,7 @@ fn a_failure_is_told_in_a_line(rt: HostRuntime) -> Result<(), Fail> {
         (Status::Journal(2), "kernel_cli: journal: line 2", 6),
         (Status::JournalFull, "kernel_cli: journal too long", 7),
         (Status::Strayed(3), "kernel_cli: strayed at 3", 8),
+        (Status::SessionFull, "kernel_cli: session full", 10),
     ];
     for (status, line, exit_status) in told {
         let Err(failure) = result_of(status) else {

@@ -30,6 +30,8 @@ mod reentry;
 #[cfg(test)]
 mod replaying;
 #[cfg(test)]
+mod sessions;
+#[cfg(test)]
 mod shown;
 #[cfg(test)]
 mod stops;

@@ -5,7 +5,7 @@ use kernel_top::Status;
 use std::alloc::Global;
 use std::process::Abort;
 
-const WRONG: [&[&str]; 16] = [
+const WRONG: [&[&str]; 28] = [
     &["walk"],
     &["run", "x"],
     &[],
@@ -22,6 +22,18 @@ const WRONG: [&[&str]; 16] = [
     &["Replay"],
     &["view", "x"],
     &["views"],
+    &["session"],
+    &["session", "1"],
+    &["session", "256", "cat"],
+    &["session", "999", "cat"],
+    &["session", "", "cat"],
+    &["session", "1a", "cat"],
+    &["session", "0001", "cat"],
+    &["session", "-1", "cat"],
+    &["session", "1", ""],
+    &["session", "1", "c\0t"],
+    &["session", "1", "cat", "a", "\0"],
+    &["Session", "1", "cat"],
 ];
 
 /// A run that ends in this way before anything is written or asked.

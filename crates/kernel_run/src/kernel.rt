@@ -62,6 +62,13 @@ impl Kernel {
         &self.editor
     }
 
+    /// All processes.
+    pub fn processes(&self) -> &Processes
+        ensures { result.now ≡ (state_of self.now).processes }
+    {
+        &self.processes
+    }
+
     /// How many blocks of 256 cells the texts of the live buffers have: their characters and the spare beside them.
     pub fn pool_live(&self) -> usize
         ensures account { 256 * result ≡ cells_in self.now.editor.pool self.now.editor.buffers }

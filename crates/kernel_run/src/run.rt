@@ -22,10 +22,10 @@ impl Kernel {
     /// Runs the forms of a script on a kernel that is new, kills the children that still run, and writes the lines and the
     /// dump. The natives are handlers under their names, where the script has none of that name.
     ///
-    /// Where it succeeds the lines are those of the plain machine's whole run, and the editor is its last one. A run that
-    /// was broken off says how far the machine came; each child that lived then was asked to be killed, once. Filters are
-    /// entered with just what was read, sentinels come last, and undoing back to a kept boundary gives its text back. The
-    /// exchanges are the calls on the host.
+    /// Where it succeeds the lines are those of the plain machine's whole run, and the kernel stands for its last state. A
+    /// run that was broken off says how far the machine came; each child that lived then was asked to be killed, once.
+    /// Filters are entered with just what was read, sentinels come last, and undoing back to a kept boundary gives its
+    /// text back. The exchanges are the calls on the host.
     pub fn run_script<K: Sink, H: Host, N: Natives>(
         &mut self,
         script: &Script,
@@ -39,7 +39,7 @@ impl Kernel {
             Appends (K.state sink.old).held (K.state sink.new).held written
             × CallsSince H.state H.made host.old host.new exchanges
             × EndsAs result (program_with N.names N.does (script_of script.now) natives.now) (script_of script.now)
-            exchanges written (K.state sink.old) (K.state sink.new) (state_of self.new).editor }
+            exchanges written (K.state sink.old) (K.state sink.new) (state_of self.new) }
         ensures cause { HasCause (K.state sink.old).faults (K.state sink.new).faults (result ≡
             Err Stop.WriteFault) }
     {

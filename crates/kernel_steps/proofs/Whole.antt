@@ -36,7 +36,7 @@ module _ (program : Program) (script : Script) where
     -- how a run ended
     pub ended : {T : Type 0} (r : Result T Stop) → KillsLeft program deepest (start script) → RanEntries program deepest script → BrokenEntries program deepest script → Sentinels program deepest (start script) → UndoReturns program deepest (start script) →
         IsOver r program (origin state made start_host old) b (start script) →
-        (written : List ℕ) × (exchanges : List Exchange) × Appends old.held new.held written × CallsSince state made start_host now exchanges × EndsAs r program script exchanges written old new known.editor
+        (written : List ℕ) × (exchanges : List Exchange) × Appends old.held new.held written × CallsSince state made start_host now exchanges × EndsAs r program script exchanges written old new known
     ended (Ok x) left hear hear_broken come undo h =
         let (last, ended, stands, gone) = h.finishes in
         let run : Ran program deepest script gone.made (lines gone.said) = record { said = gone.said; last = last; run = gone.run; ended = ended; bytes = refl } in (
@@ -52,7 +52,7 @@ module _ (program : Program) (script : Script) where
               undo = λ first second later _. undo first second;
               roomy = λ few. (gone.roomy few).faults;
             },
-            sym (ap (λ (s : State). s.editor) stands),
+            stands,
           ),
         )
     ended (Err why) left hear hear_broken come undo h =

@@ -1,9 +1,8 @@
 -- What the run of a script comes to: the bytes that it wrote, and the exchanges that it made.
 use Rattle.std.specs.Prelude.{◌≡◌, ℕ, ◌≤◌, true, false, All, List, ◌∷◌, ◌++◌, length, slice_get, Some, Result, Ok, Err}
 use Rattle.editor_model.specs.Values.{Script}
-use Rattle.editor_model.specs.Editor.{Editor}
 use Rattle.plain_machine.specs.Exchanges.{Exchange, children_started}
-use Rattle.plain_machine.specs.State.{Program}
+use Rattle.plain_machine.specs.State.{State, Program}
 use Rattle.plain_machine.specs.Items.{Said}
 use Rattle.plain_machine.specs.Run.{lines, start}
 use Rattle.plain_machine.specs.WholeRuns.{Ran, BrokenOff}
@@ -11,6 +10,7 @@ use Rattle.machine_laws.specs.Entries.{entered, heard, is_entry, has_entry}
 use Rattle.machine_laws.specs.UndoneRuns.{UndoReturnsBetween}
 use Rattle.ek_types.specs.Io.{SinkState}
 use Rattle.kernel_steps.specs.Outside.{deepest, CameTo}
+use Rattle.kernel_steps.specs.Worlds.{Stands}
 use Rattle.kernel_steps.specs.Ending.{IsAnsweredKill}
 use Rattle.kernel_steps.specs.declared.stop.Stop.{Stop}
 
@@ -50,7 +50,7 @@ pub record StoppedScript (why : Stop) (program : Program) (script : Script) (exc
   pub undo : UndoGivesBack program script broken.made
   pub roomy : length (lines broken.said) ≤ before.room → now.faults ≡ before.faults
 
--- How the run of a script ended, by its result. One that came to its end left the machine's last editor.
-abbrev pub EndsAs : {T : Type 0} → Result T Stop → Program → Script → List Exchange → (written : List ℕ) → (before now : SinkState) → (left : Editor) → Type 0
-EndsAs (Ok x) program script exchanges written before now left = (whole : RanScript program script exchanges written before now) × (whole.ran.last.state.editor ≡ left)
+-- How the run of a script ended, by its result. One that came to its end left what stands for the machine's last state.
+abbrev pub EndsAs : {T : Type 0} → Result T Stop → Program → Script → List Exchange → (written : List ℕ) → (before now : SinkState) → (left : State) → Type 0
+EndsAs (Ok x) program script exchanges written before now left = (whole : RanScript program script exchanges written before now) × Stands left whole.ran.last.state
 EndsAs (Err why) program script exchanges written before now left = StoppedScript why program script exchanges written before now

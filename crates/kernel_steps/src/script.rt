@@ -37,7 +37,7 @@ pub fn run_script<M: Kernel, P: Program, H: Host, K: Sink>(
         Appends (K.state sink.old).held (K.state sink.new).held written
         × CallsSince H.state H.made host.old host.new exchanges
         × EndsAs result (P.meant program.now) (script_of script.now) exchanges written
-        (K.state sink.old) (K.state sink.new) (M.state kernel.new).editor }
+        (K.state sink.old) (K.state sink.new) (M.state kernel.new) }
     ensures cause { HasCause (K.state sink.old).faults (K.state sink.new).faults (result ≡
         Err Stop.WriteFault) }
 {

@@ -13,3 +13,5 @@ pub mod Following
 pub mod Strayed
 pub mod Replays
 pub mod Viewed
+pub mod SessionWords
+pub mod Gathering

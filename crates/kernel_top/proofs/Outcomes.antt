@@ -6,30 +6,30 @@ use Rattle.std.specs.declared.option.Option.{Option}
 use Rattle.std.specs.Io.KnownBytes.{Consumes, IsAtEnd, Appends}
 use Rattle.std.proofs.KnownBytes.{Appends-nil}
 use Rattle.editor_model.specs.Values.{Script}
-use Rattle.editor_model.specs.Editor.{Editor}
 use Rattle.plain_machine.specs.Exchanges.{Ask, Answer, Exchange}
-use Rattle.plain_machine.specs.State.{Program}
+use Rattle.plain_machine.specs.State.{State, Program}
 use Rattle.plain_machine.specs.Grammar.{longest_script, IsScript}
 use Rattle.plain_machine.specs.Drill.{drill_script, is_run, drill_of}
 use Rattle.ek_types.specs.Io.{SourceState, SinkState, Rose, Writes}
 use Rattle.host_link.specs.Hosts.{HostState}
-use Rattle.editor_model.specs.Editor.{Editor}
 use Rattle.kernel_steps.specs.Outcomes.{EndsAs}
 use Rattle.kernel_steps.specs.declared.stop.Stop.{Stop}
 use Rattle.kernel_steps.specs.declared.stop.Stop.TheVariants as stop
 use Rattle.text_model.specs.Names.{same_word}
 use Rattle.ek_types.proofs.Naming.{same_word-true}
 use Rattle.kernel_top.specs.Words.{is_word, IsRun, IsRecord, IsReplay, IsView, IsDrill, IsKnown}
+use Rattle.kernel_top.specs.SessionWords.{Wanted, IsSession, session_of}
 use Rattle.kernel_top.specs.Reading.{HasEnded, IsAll, IsGivenUp}
 use Rattle.kernel_top.specs.declared.reading.Refused.{Refused}
 use Rattle.kernel_top.specs.declared.reading.Refused.TheVariants as refused
 use Rattle.kernel_top.specs.Drills.{SumsUp}
-use Rattle.kernel_top.specs.Outcomes.{status_of, written_status, Seen, seen, IsQuiet, IsNoScript, OnRun, OnRecord, OnReplay, OnView, OnDrill, OnOthers, Outcome, of_run, of_record, of_replay, of_view, of_drill, of_others, Came, CameSo, OfBytes, most_read, Completes, CompletesRun, CompletesRecord, CompletesReplay, CompletesView, CompletesDrill}
+use Rattle.kernel_top.specs.Outcomes.{status_of, written_status, Seen, seen, IsQuiet, IsNoScript, OnRun, OnRecord, OnReplay, OnView, OnDrill, OnSession, OnOthers, Outcome, of_run, of_record, of_replay, of_view, of_drill, of_session, of_others, Came, CameSo, OfBytes, most_read, Completes, CompletesRun, CompletesRecord, CompletesReplay, CompletesView, CompletesDrill, CompletesSession}
 use Rattle.kernel_top.specs.Sessions.{longest_session}
 use Rattle.kernel_top.specs.Replaying.{ReadAndReplayed, SourceReplayed}
 use Rattle.kernel_top.specs.declared.status.Status.{Status}
 use Rattle.kernel_top.specs.declared.status.Status.TheVariants as status
 use Rattle.kernel_steps.proofs.HostCalls.{calls_told}
+use Rattle.kernel_top.proofs.SessionWords.{session_no_word, session_no_run, session_no_drill}
 use Rattle.kernel_top.proofs.Taking.{all_read, front_only, consumes_nothing}
 
 -- STATUSES
@@ -61,7 +61,7 @@ pub quiet : (source source' : SourceState) (sink : SinkState) (host : HostState)
 quiet source source' sink host = record { nothing = refl; alone = refl; sink = refl; host = refl }
 
 -- what a script came to that was run
-pub came : {T : Type 0} (program : Script → Program) (script : Script) (r : Result T Stop) (read written : List ℕ) (exchanges : List Exchange) (before now : Seen) (left : Editor) →
+pub came : {T : Type 0} (program : Script → Program) (script : Script) (r : Result T Stop) (read written : List ℕ) (exchanges : List Exchange) (before now : Seen) (left : State) →
     HasEnded before.source.left now.source.left → IsScript read script → EndsAs r (program script) script exchanges written before.sink now.sink left →
     OnRun program (status_of r) read written exchanges before now
 came program script (Ok x) read written exchanges before now left ended is (so, last) = record { ended = ended; script = script; is = is; so = so }
@@ -113,6 +113,20 @@ module _ {H : Type 0} (hosted : H → HostState) (made : H → H → Ask → ℕ
     calls = of.calls;
     told = calls_told hosted made start now of.exchanges of.calls;
     outcome = of_drill count drill (refl, refl) (of.so source source);
+  }
+
+  -- so it is of a line session, whose source is as it was
+  pub came_gathered : (wanted : Wanted) → IsSession words wanted → CameSo hosted made start now sink sink' (OnSession wanted answer) → Came hosted made program words answer start now source source sink sink'
+  came_gathered wanted session of = record {
+    read = [];
+    written = of.written;
+    exchanges = of.exchanges;
+    taken = consumes_nothing source.left;
+    few = few_read 0 words (omega arith);
+    put = of.put;
+    calls = of.calls;
+    told = calls_told hosted made start now of.exchanges of.calls;
+    outcome = of_session wanted session (refl, refl) (of.so source source);
   }
 
   -- so it is where reading was given up, and nothing else was done
@@ -171,6 +185,14 @@ pub drill_reads_nothing : {H : Type 0} (hosted : H → HostState) (made : H → 
 drill_reads_nothing hosted made program count answer start now sink sink' source of e =
     subst (λ a. OnDrill program count a of.written of.exchanges (seen source sink (hosted start)) (seen source sink' (hosted now))) e (of.so source source)
 
+-- nor does a line session
+pub session_reads_nothing : {H : Type 0} (hosted : H → HostState) (made : H → H → Ask → ℕ → Answer → Type 0) (wanted : Wanted) (answer : Status) (start now : H) (sink sink' : SinkState) (source : SourceState) →
+    CameSo hosted made start now sink sink' (OnSession wanted answer) → answer ≡ status.ReadFault → ⊥
+session_reads_nothing hosted made wanted answer start now sink sink' source of e =
+    let row : OnSession wanted status.ReadFault of.written of.exchanges (seen source sink (hosted start)) (seen source sink' (hosted now)) =
+    subst (λ a. OnSession wanted a of.written of.exchanges (seen source sink (hosted start)) (seen source sink' (hosted now))) e (of.so source source) in
+    row.text
+
 -- more bytes than a script may have are none
 pub too_long : (bytes : List ℕ) → longest_script < length bytes → IsNoScript bytes 0
 too_long bytes long = record { none = λ script is. omega (arith, is.short, long); at = inl (long, refl) }
@@ -217,12 +239,13 @@ not_both [] count run drill = let no : false ≡ true = run in cc
 not_both (w ∷ []) count run drill = let no : None ≡ Some count = drill in cc
 not_both (w ∷ x ∷ words) count run drill = let no : false ≡ true = run in cc
 
-pub unknown : (words : List (List ℕ)) → is_run words ≡ false → is_word (codes "record") words ≡ false → is_word (codes "replay") words ≡ false → is_word (codes "view") words ≡ false → None ≡ drill_of words → IsKnown words → ⊥
-unknown words no_run no_record no_replay no_view no_drill (inl run) = let no : false ≡ true = sym no_run ∙ run in cc
-unknown words no_run no_record no_replay no_view no_drill (inr (inl recording)) = let no : false ≡ true = sym no_record ∙ recording in cc
-unknown words no_run no_record no_replay no_view no_drill (inr (inr (inl replays))) = let no : false ≡ true = sym no_replay ∙ replays in cc
-unknown words no_run no_record no_replay no_view no_drill (inr (inr (inr (inl viewing)))) = let no : false ≡ true = sym no_view ∙ viewing in cc
-unknown words no_run no_record no_replay no_view no_drill (inr (inr (inr (inr (count, drill))))) = let no : None ≡ Some count = no_drill ∙ drill in cc
+pub unknown : (words : List (List ℕ)) → is_run words ≡ false → is_word (codes "record") words ≡ false → is_word (codes "replay") words ≡ false → is_word (codes "view") words ≡ false → None ≡ session_of words → None ≡ drill_of words → IsKnown words → ⊥
+unknown words no_run no_record no_replay no_view no_session no_drill (inl run) = let no : false ≡ true = sym no_run ∙ run in cc
+unknown words no_run no_record no_replay no_view no_session no_drill (inr (inl recording)) = let no : false ≡ true = sym no_record ∙ recording in cc
+unknown words no_run no_record no_replay no_view no_session no_drill (inr (inr (inl replays))) = let no : false ≡ true = sym no_replay ∙ replays in cc
+unknown words no_run no_record no_replay no_view no_session no_drill (inr (inr (inr (inl viewing)))) = let no : false ≡ true = sym no_view ∙ viewing in cc
+unknown words no_run no_record no_replay no_view no_session no_drill (inr (inr (inr (inr (inl (wanted, session)))))) = let no : None ≡ Some wanted = no_session ∙ session in cc
+unknown words no_run no_record no_replay no_view no_session no_drill (inr (inr (inr (inr (inr (count, drill)))))) = let no : None ≡ Some count = no_drill ∙ drill in cc
 
 -- COMPLETENESS
 -- a script is not refused
@@ -257,6 +280,7 @@ module _ (program : Script → Program) (words : List (List ℕ)) (read written 
   run_row (status.Journal line) o r w = λ bytes script run told is unread unwritten. absurd o
   run_row status.JournalFull o r w = λ bytes script run told is unread unwritten. absurd o
   run_row (status.Strayed most) o r w = λ bytes script run told is unread unwritten. absurd o
+  run_row status.SessionFull o r w = λ bytes script run told is unread unwritten. absurd o
 
   record_row : (result : Status) → OnRecord program result read written exchanges before now → (result ≡ status.ReadFault → Rose source.faults source'.faults) → (result ≡ status.WriteFault → Rose sink.faults sink'.faults) →
       CompletesRecord result words source source' sink sink'
@@ -266,6 +290,7 @@ module _ (program : Script → Program) (words : List (List ℕ)) (read written 
   record_row status.Usage o r w = λ bytes script run told is unread unwritten. absurd o.so.session
   record_row (status.Journal line) o r w = λ bytes script run told is unread unwritten. absurd o.so.session
   record_row (status.Strayed most) o r w = λ bytes script run told is unread unwritten. absurd o.so.session
+  record_row status.SessionFull o r w = λ bytes script run told is unread unwritten. absurd o.so.session
   record_row (status.Script line) (ended, refused, kept) r w = λ bytes script run told is unread unwritten. absurd (no_script_read bytes read script line source.left source'.left told taken ended is refused)
   record_row status.ReadFault o r w = λ bytes script run told is unread unwritten. absurd (unread (r refl))
   record_row status.WriteFault o r w = λ bytes script run told is unread unwritten. absurd (unwritten (w refl))
@@ -281,6 +306,8 @@ module _ (program : Script → Program) (words : List (List ℕ)) (read written 
   replay_row status.WriteFault o r w = λ is unread unwritten. unwritten (w refl)
   replay_row status.Usage (alone, same, inl (ended, short, row)) r w = absurd row
   replay_row status.Usage (alone, same, inr (nothing, row)) r w = absurd row
+  replay_row status.SessionFull (alone, same, inl (ended, short, row)) r w = absurd row
+  replay_row status.SessionFull (alone, same, inr (nothing, row)) r w = absurd row
   replay_row status.JournalFull (alone, same, inl (ended, short, row)) r w = absurd row
   replay_row status.JournalFull (alone, same, inr (nothing, row)) r w = absurd row
 
@@ -306,6 +333,19 @@ module _ (program : Script → Program) (words : List (List ℕ)) (read written 
   drill_row n (status.Journal line) o w = λ count is unwritten. absurd o
   drill_row n status.JournalFull o w = λ count is unwritten. absurd o
   drill_row n (status.Strayed most) o w = λ count is unwritten. absurd o
+  drill_row n status.SessionFull o w = λ count is unwritten. absurd o
+
+  session_row : (n : Wanted) (result : Status) → OnSession n result written exchanges before now → (result ≡ status.WriteFault → Rose sink.faults sink'.faults) → CompletesSession result words sink sink'
+  session_row n status.Done o w = λ wanted is unwritten. inl refl
+  session_row n status.NoMemory o w = λ wanted is unwritten. inr (inl refl)
+  session_row n status.SessionFull o w = λ wanted is unwritten. inr (inr refl)
+  session_row n status.WriteFault o w = λ wanted is unwritten. absurd (unwritten (w refl))
+  session_row n status.Usage o w = λ wanted is unwritten. absurd o.text
+  session_row n (status.Script line) o w = λ wanted is unwritten. absurd o.text
+  session_row n status.ReadFault o w = λ wanted is unwritten. absurd o.text
+  session_row n (status.Journal line) o w = λ wanted is unwritten. absurd o.text
+  session_row n status.JournalFull o w = λ wanted is unwritten. absurd o.text
+  session_row n (status.Strayed most) o w = λ wanted is unwritten. absurd o.text
 
   -- where neither source nor sink failed, a script or a drill is run to its end, or memory was wanting
   pub completes : (result : Status) → Outcome program result words read written exchanges before now → (result ≡ status.ReadFault → Rose source.faults source'.faults) → (result ≡ status.WriteFault → Rose sink.faults sink'.faults) →
@@ -316,6 +356,7 @@ module _ (program : Script → Program) (words : List (List ℕ)) (read written 
     replaying = λ is. absurd (run_no_replay words run is);
     viewing = λ bytes script is. absurd (run_no_view words run is);
     drill = λ count is unwritten. absurd (not_both words count run is);
+    gathering = λ wanted is unwritten. absurd (session_no_run words wanted run is);
   }
   completes result (of_record recording row) r w = record {
     run = λ bytes script run. absurd (run_no_record words run recording);
@@ -323,6 +364,7 @@ module _ (program : Script → Program) (words : List (List ℕ)) (read written 
     replaying = λ is. absurd (record_no_replay words recording is);
     viewing = λ bytes script is. absurd (record_no_view words recording is);
     drill = λ count is unwritten. absurd (word_no_drill (codes "record") words count recording is);
+    gathering = λ wanted is unwritten. absurd (session_no_word (codes "record") words wanted recording is);
   }
   completes result (of_replay replays row) r w = record {
     run = λ bytes script run. absurd (run_no_replay words run replays);
@@ -330,6 +372,7 @@ module _ (program : Script → Program) (words : List (List ℕ)) (read written 
     replaying = replay_row result row r w;
     viewing = λ bytes script is. absurd (replay_no_view words replays is);
     drill = λ count is unwritten. absurd (word_no_drill (codes "replay") words count replays is);
+    gathering = λ wanted is unwritten. absurd (session_no_word (codes "replay") words wanted replays is);
   }
   completes result (of_view viewing row) r w = record {
     run = λ bytes script run. absurd (run_no_view words run viewing);
@@ -337,6 +380,7 @@ module _ (program : Script → Program) (words : List (List ℕ)) (read written 
     replaying = λ is. absurd (replay_no_view words is viewing);
     viewing = view_row result row r w;
     drill = λ count is unwritten. absurd (word_no_drill (codes "view") words count viewing is);
+    gathering = λ wanted is unwritten. absurd (session_no_word (codes "view") words wanted viewing is);
   }
   completes result (of_drill n drill unread row) r w = record {
     run = λ bytes script run. absurd (not_both words n run drill);
@@ -344,11 +388,21 @@ module _ (program : Script → Program) (words : List (List ℕ)) (read written 
     replaying = λ is. absurd (word_no_drill (codes "replay") words n is drill);
     viewing = λ bytes script is. absurd (word_no_drill (codes "view") words n is drill);
     drill = drill_row n result row w;
+    gathering = λ wanted is unwritten. absurd (session_no_drill words wanted n drill is);
+  }
+  completes result (of_session n session unread row) r w = record {
+    run = λ bytes script run. absurd (session_no_run words n run session);
+    recording = λ bytes script is. absurd (session_no_word (codes "record") words n is session);
+    replaying = λ is. absurd (session_no_word (codes "replay") words n is session);
+    viewing = λ bytes script is. absurd (session_no_word (codes "view") words n is session);
+    drill = λ count is unwritten. absurd (session_no_drill words n count is session);
+    gathering = session_row n result row w;
   }
   completes result (of_others never unread row) r w = record {
     run = λ bytes script run. absurd (never (inl run));
     recording = λ bytes script is. absurd (never (inr (inl is)));
     replaying = λ is. absurd (never (inr (inr (inl is))));
     viewing = λ bytes script is. absurd (never (inr (inr (inr (inl is)))));
-    drill = λ count is unwritten. absurd (never (inr (inr (inr (inr (count, is))))));
+    drill = λ count is unwritten. absurd (never (inr (inr (inr (inr (inr (count, is)))))));
+    gathering = λ wanted is unwritten. absurd (never (inr (inr (inr (inr (inl (wanted, is)))))));
   }

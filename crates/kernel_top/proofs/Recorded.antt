@@ -57,6 +57,7 @@ module _ (program : Script → Program) (script : Script) where
   recorded read written exchanges before now status.JournalFull ended is whole row = record { ended = ended; script = script; is = is; so = record { whole = whole; session = row } }
   recorded read written exchanges before now (status.Journal line) ended is whole row = absurd row
   recorded read written exchanges before now (status.Strayed most) ended is whole row = absurd row
+  recorded read written exchanges before now status.SessionFull ended is whole row = absurd row
   recorded read written exchanges before now status.Usage ended is whole row = absurd row
   recorded read written exchanges before now (status.Script line) ended is whole row = absurd row
   recorded read written exchanges before now status.ReadFault ended is whole row = absurd row

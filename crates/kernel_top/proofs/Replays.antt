@@ -3,9 +3,8 @@ use Rattle.std.proofs.Common.{◌≡◌, ℕ, ◌<◌, ◌≤◌, ◌+◌, ◌-�
 use Rattle.std.proofs.lemmas.List.{take_all, length-drop}
 use Rattle.std.specs.Io.KnownBytes.{Appends}
 use Rattle.editor_model.specs.Values.{Script}
-use Rattle.editor_model.specs.Editor.{Editor}
 use Rattle.plain_machine.specs.Exchanges.{Exchange}
-use Rattle.plain_machine.specs.State.{Program}
+use Rattle.plain_machine.specs.State.{State, Program}
 use Rattle.plain_machine.specs.Grammar.{IsScript}
 use Rattle.ek_types.specs.Io.{SourceState, SinkState}
 use Rattle.journal_text.specs.Lines.{ask_words, answer_words, line, journal}
@@ -33,7 +32,7 @@ calls_of_new old now exchanges fresh calls = subst (λ h. CallsSince host_state 
 
 -- THE SECOND RUN
 module _ (program : Program) (script : Script) (list : List Exchange) where
-  pub replayed_on : {T : Type 0} (r : Result T Stop) (now : ReplayState) (exchanges : List Exchange) (written : List ℕ) (before after : SinkState) (left : Editor) → AreAnswered 0 list →
+  pub replayed_on : {T : Type 0} (r : Result T Stop) (now : ReplayState) (exchanges : List Exchange) (written : List ℕ) (before after : SinkState) (left : State) → AreAnswered 0 list →
       CallsSince host_state Replays (new_replay list) now exchanges → IsWhole program script list → EndsAs r program script exchanges written before after left → ReplayedOn program (status_of r) script list written before after
   replayed_on (Ok x) now exchanges written before after left answered calls whole (ran, last) = ran_journal program script list now exchanges written before after answered calls whole ran
   replayed_on (Err stop.WriteFault) now exchanges written before after left answered calls whole stopped = cuts_journal program script list stop.WriteFault now exchanges written before after answered calls whole stopped
@@ -50,6 +49,7 @@ module _ (program : Program) (script : Script) (list : List Exchange) where
   refused_on status.WriteFault sink so = absurd so
   refused_on (status.Journal line) sink so = absurd so
   refused_on status.JournalFull sink so = absurd so
+  refused_on status.SessionFull sink so = absurd so
 
   pub no_write_fault : (answer : Status) → Followed (Err answer) program script list → answer ≡ status.WriteFault → ⊥
   no_write_fault answer so e = subst (λ a. Followed (Err a) program script list) e so
@@ -86,6 +86,7 @@ replayed_bytes program script (status.Script line) read journal at written befor
 replayed_bytes program script status.ReadFault read journal at written before now to is so = absurd so
 replayed_bytes program script (status.Journal line) read journal at written before now to is so = absurd so
 replayed_bytes program script status.JournalFull read journal at written before now to is so = absurd so
+replayed_bytes program script status.SessionFull read journal at written before now to is so = absurd so
 
 -- THE SOURCE
 pub source_replayed : (program : Script → Program) (answer : Status) (bytes written : List ℕ) (source source' : SourceState) (sink sink' : SinkState) →

@@ -1,3 +1,4 @@
+pub mod SessionWords
 pub mod Words
 pub mod Reading
 pub mod Counting
@@ -10,4 +11,5 @@ pub mod Unseen
 pub mod Sessions
 pub mod Replaying
 pub mod Viewing
+pub mod Gathering
 pub mod Outcomes

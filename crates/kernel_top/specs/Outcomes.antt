@@ -13,11 +13,13 @@ use Rattle.kernel_steps.specs.Outcomes.{RanScript, StoppedScript}
 use Rattle.kernel_steps.specs.declared.stop.Stop.{Stop}
 use Rattle.kernel_steps.specs.declared.stop.Stop.TheVariants as stop
 use Rattle.kernel_top.specs.Words.{is_word, IsRun, IsRecord, IsReplay, IsView, IsDrill, IsKnown}
+use Rattle.kernel_top.specs.SessionWords.{Wanted, IsSession}
 use Rattle.kernel_top.specs.Reading.{HasEnded}
 use Rattle.kernel_top.specs.Drills.{SumsUp, BreaksOff}
 use Rattle.kernel_top.specs.Sessions.{longest_session, Records, BreaksOffUnseen}
 use Rattle.kernel_top.specs.Replaying.{ReadAndReplayed}
 use Rattle.kernel_top.specs.Viewing.{Viewed}
+use Rattle.kernel_top.specs.Gathering.{script_wanted, program_wanted, Gathers}
 use Rattle.kernel_top.specs.declared.status.Status.{Status}
 use Rattle.kernel_top.specs.declared.status.Status.TheVariants as status
 
@@ -121,6 +123,16 @@ OnDrill program count status.NoMemory written exchanges before now =
     IsQuiet written exchanges before now ⊎ ((written ≡ []) × (now.sink ≡ before.sink) × BreaksOff (program (drill_script count)) count exchanges)
 OnDrill program count _ written exchanges before now = ⊥
 
+-- a run whose text is gathered
+abbrev pub OnGathering : Program → Script → Status → (written : List ℕ) → List Exchange → (before now : Seen) → Type 0
+OnGathering program script status.NoMemory written exchanges before now =
+    IsQuiet written exchanges before now ⊎ BreaksOffUnseen program script written exchanges before.sink now.sink
+OnGathering program script answer written exchanges before now = Gathers answer program script written exchanges before.sink now.sink
+
+-- the words `session`, a number, a program and its words
+abbrev pub OnSession : Wanted → Status → (written : List ℕ) → List Exchange → (before now : Seen) → Type 0
+OnSession wanted answer written exchanges before now = OnGathering (program_wanted wanted) (script_wanted wanted) answer written exchanges before now
+
 -- other words
 abbrev pub OnOthers : Status → (written : List ℕ) → List Exchange → (before now : Seen) → Type 0
 OnOthers status.Usage written exchanges before now = IsQuiet written exchanges before now
@@ -137,6 +149,7 @@ pub data Outcome (program : Script → Program) (answer : Status) (words : List 
   of_replay : IsReplay words → OnReplay program answer read written exchanges before now → Outcome program answer words read written exchanges before now
   of_view : IsView words → OnView program answer read written exchanges before now → Outcome program answer words read written exchanges before now
   of_drill : (count : ℕ) → IsDrill words count → IsUnread read before now → OnDrill program count answer written exchanges before now → Outcome program answer words read written exchanges before now
+  of_session : (wanted : Wanted) → IsSession words wanted → IsUnread read before now → OnSession wanted answer written exchanges before now → Outcome program answer words read written exchanges before now
   of_others : (IsKnown words → ⊥) → IsUnread read before now → OnOthers answer written exchanges before now → Outcome program answer words read written exchanges before now
 
 -- how many bytes a call asks of its source at most
@@ -205,9 +218,15 @@ abbrev pub CompletesDrill : Status → (words : List (List ℕ)) → (sink sink'
 CompletesDrill answer words sink sink' =
     (count : ℕ) → IsDrill words count → (Rose sink.faults sink'.faults → ⊥) → (answer ≡ status.Done) ⊎ (answer ≡ status.NoMemory)
 
+-- where the sink didn't fail, the text of a line session is written, whether it is whole or its buffer became full; or memory was wanting
+abbrev pub CompletesSession : Status → (words : List (List ℕ)) → (sink sink' : SinkState) → Type 0
+CompletesSession answer words sink sink' =
+    (wanted : Wanted) → IsSession words wanted → (Rose sink.faults sink'.faults → ⊥) → (answer ≡ status.Done) ⊎ ((answer ≡ status.NoMemory) ⊎ (answer ≡ status.SessionFull))
+
 pub record Completes (answer : Status) (words : List (List ℕ)) (source source' : SourceState) (sink sink' : SinkState) : Type 0 where
   pub run : CompletesRun answer words source source' sink sink'
   pub recording : CompletesRecord answer words source source' sink sink'
   pub replaying : CompletesReplay answer words source source' sink sink'
   pub viewing : CompletesView answer words source source' sink sink'
   pub drill : CompletesDrill answer words sink sink'
+  pub gathering : CompletesSession answer words sink sink'

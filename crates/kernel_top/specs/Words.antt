@@ -3,6 +3,7 @@ use Rattle.std.specs.Prelude.{◌≡◌, ◌⊎◌, ℕ, Bool, true, false, List
 use Rattle.text_model.specs.Names.{same_word}
 use Rattle.plain_machine.specs.Words.{digits_value}
 use Rattle.plain_machine.specs.Drill.{is_run, is_drill_number, drill_of}
+use Rattle.kernel_top.specs.SessionWords.{Wanted, IsSession}
 
 -- the words are `run` alone
 abbrev pub IsRun : List (List ℕ) → Type 0
@@ -30,7 +31,7 @@ abbrev pub IsDrill : List (List ℕ) → (count : ℕ) → Type 0
 IsDrill words count = drill_of words ≡ Some count
 
 abbrev pub IsKnown : List (List ℕ) → Type 0
-IsKnown words = IsRun words ⊎ (IsRecord words ⊎ (IsReplay words ⊎ (IsView words ⊎ ((count : ℕ) × IsDrill words count))))
+IsKnown words = IsRun words ⊎ (IsRecord words ⊎ (IsReplay words ⊎ (IsView words ⊎ (((wanted : Wanted) × IsSession words wanted) ⊎ ((count : ℕ) × IsDrill words count)))))
 
 -- the number that one to four digits spell
 abbrev pub number_of : List ℕ → Option ℕ

@@ -10,6 +10,8 @@ mod null_sink;
 mod reading;
 mod recording;
 mod replaying;
+mod session;
+mod session_words;
 mod status;
 mod summing;
 mod top;

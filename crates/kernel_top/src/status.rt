@@ -8,19 +8,22 @@ use kernel_run::Stop;
 /// How a run ends.
 #[derive(Clone, Copy, Debug, PartialEq, Eq)]
 pub enum Status {
-    /// The script ran to its end, and all lines and the dump are written; or its session, its view, or the summary of a drill.
+    /// The script ran to its end, and all lines and the dump are written; or its session, its view, the summary of a drill, or the
+    /// text of a line session.
     Done,
-    /// The words are neither `run`, `record`, `replay` or `view` alone nor `drill` and a number of one to four digits. Nothing was
-    /// read or written.
+    /// The words are neither `run`, `record`, `replay` or `view` alone, nor `drill` and a number of one to four digits, nor `session`
+    /// with a number, a program and its words. Nothing was read or written.
     Usage,
     /// The bytes of the source are no script. The line is that at which they go wrong, and 0 where they are more than a
     /// script may have. Nothing was written.
     Script(u32),
     /// The source failed. Nothing was written.
     ReadFault,
-    /// The sink failed. What is written is the front of the run's lines, of its session, its view, or of the summary of a drill.
+    /// The sink failed. What is written is the front of the run's lines, of its session, its view, of the summary of a drill, or of
+    /// the text of a line session.
     WriteFault,
-    /// Memory was wanting. What is written is whole lines of the run, and nothing of a session, a view or a drill.
+    /// Memory was wanting. What is written is whole lines of the run, and nothing of a session, a view, a drill or a line
+    /// session.
     NoMemory,
     /// The bytes of the source are no session. The line is that at which the journal goes wrong, and 0 where they are more
     /// than 268,435,456. Nothing was written.
@@ -30,6 +33,8 @@ pub enum Status {
     /// The run of the session's script doesn't end with all exchanges of its journal used up. The number is the greatest of
     /// first exchanges that it goes through. Nothing was written.
     Strayed(u32),
+    /// The buffer of a line session became full, and a part of its output is lost. What is written is the text that it had.
+    SessionFull,
 }
 
 /// The status of a script that was run, by how that ended.

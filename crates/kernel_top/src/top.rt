@@ -10,6 +10,8 @@ use crate::drilling::drill;
 use crate::reading::{Refused, read_all};
 use crate::recording::record_source;
 use crate::replaying::replay_source;
+use crate::session::run_session;
+use crate::session_words::session_of;
 use crate::status::{Status, status_of, written_status};
 use crate::summing::{count_run, write_summary};
 use crate::viewing::view_source;
@@ -112,6 +114,8 @@ fn run_drill<K: Sink, H: Host, N: Natives>(
 /// lines and the dump of that run. It asks the host nothing. `view` runs the script with its lines thrown away, and writes what
 /// is seen of the current buffer at its end. `drill` and a number of one to four digits reads nothing: it runs the script
 /// of that drill on the host, and writes one line that tells how many lines, exchanges and characters this came to.
+/// `session` with a number, a program and its words reads nothing: it runs a line session, with the natives of that, and writes the
+/// text that this gathered.
 ///
 /// The status says what was read and written, as `outcome` has it: for `Done` the lines are those of the plain
 /// machine's whole run on the script, whose handlers are its own and the natives. Filters are entered with just what
@@ -122,7 +126,9 @@ fn run_drill<K: Sink, H: Host, N: Natives>(
 /// The line of a drill is the summary of the plain machine's whole run on the drill's script, over just the exchanges
 /// made. Of a session no more than 268,435,456 bytes are written, and none where it is longer. For `record` the host
 /// tells its exchanges, and has told none yet. A session is replayed only where the run of its script ends with all
-/// exchanges of its journal used up; else `Strayed` tells how many of the first ones the machine goes through.
+/// exchanges of its journal used up; else `Strayed` tells how many of the first ones the machine goes through. The text of a
+/// line session is that of the buffer `*session*` in the machine's last state. It became full exactly where a process there
+/// isn't read any more.
 ///
 /// The source doesn't fail where it is known not to (`unfailing`), nor the sink where it has room for what the run
 /// says. No more than one byte behind the longest script, of 1,048,576 bytes, is asked of the source, or for `replay`
@@ -162,6 +168,9 @@ pub fn run<S: Source, K: Sink, H: Host, N: Natives>(
     }
     if is_view(words) {
         return view_source(alloc, source, sink, host, natives);
+    }
+    if let Some(wanted) = session_of(words) {
+        return run_session(alloc, &wanted, sink, host);
     }
     match drill_of(words) {
         Some(count) => run_drill(alloc, count, sink, host, natives),

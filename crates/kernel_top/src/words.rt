@@ -77,7 +77,7 @@ fn number_of(word: &[u8]) -> Option<u32>
     }
 }
 
-fn are_digits(bytes: &[u8]) -> bool
+pub(crate) fn are_digits(bytes: &[u8]) -> bool
     ensures { result ≡ list_all is_digit bytes.now }
 {
     bytes.iter().all(|c| is_digit(*c))
@@ -90,7 +90,7 @@ fn is_digit(c: u8) -> bool
 }
 
 /// The number that at most four digits spell.
-fn value(digits: &[u8]) -> u32
+pub(crate) fn value(digits: &[u8]) -> u32
     requires all { list_all is_digit digits.now ≡ true }
     requires few { length digits.now ≤ 4 }
     ensures { result ≡ digits_value 0 digits.now }

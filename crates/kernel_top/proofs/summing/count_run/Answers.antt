@@ -1,5 +1,6 @@
 use Rattle.std.proofs.Common.{◌≡◌, ◌+◌, ◌%◌, ◌^◌, ◌++◌, length, sym, ap, ◌∙◌, refl, arith}
 use Rattle.editor_model.specs.Editor.{characters_in}
+use Rattle.plain_machine.specs.State.{State}
 use Rattle.ek_call.specs.Meaning.{script_of}
 use Rattle.kernel_run.specs.Meaning.{state_of}
 use Rattle.kernel_run.specs.Whole.{program_with}
@@ -20,7 +21,7 @@ returns-in-Ok g c = λ count is.
       exchanges,
       calls_between g.H.Host.state g.H.Host.made exchanges c.new-counting.ensures.inner (grind (arith, same)) h.calls,
       sums_up (λ script. program_with g.N.Natives.names g.N.Natives.does script c.args.natives.now) (script_of c.args.script.now) count is exchanges written (counting_state c.new-sink.result) (counting_state c.run_script.new.sink) whole
-          (state_of c.run_script.new.self).editor (record { lines = c.lines.result; exchanges = c.exchanges.result; characters = c.in_64_bits.result }) last
+          (state_of c.run_script.new.self).editor (record { lines = c.lines.result; exchanges = c.exchanges.result; characters = c.in_64_bits.result }) (sym (ap (λ (s : State). s.editor) last))
           (c.lines.ensures ∙ ap (λ l. line_feeds l % 2 ^ 64) bytes)
           (c.exchanges.ensures ∙ h.count ∙ ap (λ n. (n + length exchanges) % 2 ^ 64) c.new-counting.ensures.fresh ∙ ap (λ n. n % 2 ^ 64) first)
           (c.in_64_bits.ensures ∙ ap (λ n. n % 2 ^ 64) c.characters.ensures ∙ ap (λ e. characters_in e.buffers % 2 ^ 64) c.editor.ensures),

@@ -1,0 +1,86 @@
+-- What a line session comes to: its script is run with its two natives and its lines thrown away, and the text of the buffer
+-- `*session*` is written.
+use Rattle.std.specs.Prelude.{◌≡◌, ℕ, ◌<◌, ◌≤◌, Bool, true, false, List, [], length, map, flat_map, codes, unwrap_or, option_map, if◌then◌else◌, Result, Ok, Err}
+use Rattle.std.specs.List.{list_any}
+use Rattle.text_model.specs.Characters.{Scalar, encoded}
+use Rattle.text_model.specs.Properties.{Cell}
+use Rattle.editor_model.specs.Values.{Value, Script}
+use Rattle.editor_model.specs.Editor.{Editor, Name, find, buffer_at}
+use Rattle.plain_machine.specs.Exchanges.{Exchange}
+use Rattle.plain_machine.specs.State.{State, Program, Process, Filter, Off}
+use Rattle.plain_machine.specs.Symbols.{program_of}
+use Rattle.ek_types.specs.Io.{SinkState, IsPrefixOf}
+use Rattle.line_session.specs.Handlers.{session_names, session_does}
+use Rattle.line_session.specs.Script.{command_of, session_script}
+use Rattle.kernel_steps.specs.Worlds.{Stands}
+use Rattle.kernel_top.specs.SessionWords.{Wanted}
+use Rattle.kernel_top.specs.Unseen.{IsWhole, IsBrokenOff}
+use Rattle.kernel_top.specs.declared.status.Status.{Status}
+use Rattle.kernel_top.specs.declared.status.Status.TheVariants as status
+
+-- THE RUN
+-- the arguments of each start of the child
+abbrev pub command_wanted : Wanted → List Value
+command_wanted wanted = command_of wanted.program wanted.args
+
+abbrev pub script_wanted : Wanted → Script
+script_wanted wanted = session_script (command_wanted wanted)
+
+-- the script's run has the two natives of the session as handlers, and no others
+abbrev pub program_wanted : Wanted → Program
+program_wanted wanted = program_of (script_wanted wanted) session_names (session_does wanted.limit (command_wanted wanted))
+
+-- the script was run on a kernel, which stands for the machine's last state then; or that run was broken off
+abbrev pub RanOn : {T E : Type 0} → Result T E → Program → Script → List Exchange → (left : State) → Type 0
+RanOn (Ok x) program script exchanges left = (whole : IsWhole program script exchanges) × Stands left whole.ran.last.state
+RanOn (Err e) program script exchanges left = IsBrokenOff program script exchanges
+
+-- THE TEXT
+abbrev pub text_bytes : List Cell → List ℕ
+text_bytes text = flat_map encoded (map (λ c. c.0) text)
+
+abbrev pub session_buffer : Name
+session_buffer = map Scalar (codes "*session*")
+
+-- the text of the live buffer `*session*`, and nothing where there is none
+abbrev pub gathered : Editor → List ℕ
+gathered e = unwrap_or (option_map (λ id. text_bytes (buffer_at e id).text) (find e session_buffer)) []
+
+-- a process whose filter is t
+abbrev pub is_off : Filter → Bool
+is_off Off = true
+is_off _ = false
+
+abbrev pub is_stopped : Process → Bool
+is_stopped x = is_off x.filter
+
+-- a native of the session stops its process where the buffer became full
+abbrev pub is_full : State → Bool
+is_full s = list_any is_stopped s.processes
+
+abbrev pub gathered_status : {T E : Type 0} → (full : Bool) → Result T E → Status
+gathered_status full (Ok x) = if full then status.SessionFull else status.Done
+gathered_status full (Err e) = status.WriteFault
+
+-- THE OUTCOME
+-- the text was written whole, and the sink hasn't failed where it had room for it
+pub record IsGathered (bytes written : List ℕ) (before now : SinkState) : Type 0 where
+  pub is : written ≡ bytes
+  pub roomy : length written ≤ before.room → now.faults ≡ before.faults
+
+-- a front of the text was written, as the sink had no room for the whole
+pub record IsGatheredFront (bytes written : List ℕ) (before : SinkState) : Type 0 where
+  pub front : IsPrefixOf written bytes
+  pub room : before.room < length bytes
+
+-- what became of the text of a session that has ended in this state
+abbrev pub Gathered : Status → (last : State) → (written : List ℕ) → (before now : SinkState) → Type 0
+Gathered status.Done last written before now = (is_full last ≡ false) × IsGathered (gathered last.editor) written before now
+Gathered status.SessionFull last written before now = (is_full last ≡ true) × IsGathered (gathered last.editor) written before now
+Gathered status.WriteFault last written before now = IsGatheredFront (gathered last.editor) written before
+Gathered _ last written before now = ⊥
+
+-- the script was run to its end over just these exchanges, and this became of its text
+pub record Gathers (answer : Status) (program : Program) (script : Script) (written : List ℕ) (exchanges : List Exchange) (before now : SinkState) : Type 0 where
+  pub whole : IsWhole program script exchanges
+  pub text : Gathered answer whole.ran.last.state written before now
