@@ -1,5 +1,6 @@
 #!/bin/bash
-# Runs the program on each example and compares what it writes, on sessions, views, three drills and a line session: examples/check.sh [PROGRAM]
+# Runs the program on each example and compares what it writes, on sessions, on two of the most bytes and one more, on views, on three
+# drills, and on a line session: examples/check.sh [PROGRAM]
 set -u
 here="$(cd "$(dirname "$0")" && pwd)"
 program="${1:-$here/../crates/kernel_cli/out/kernel_cli}"
@@ -29,6 +30,17 @@ for view in "$here"/*.view; do
         failed=1
     fi
 done
+# A session may have 268,435,456 bytes. So many are read, though what stands behind the line `script` is too long for one.
+while read -r bytes status line; do
+    told="$({ echo script; head -c "$((bytes - 7))" /dev/zero; } | "$program" replay 2>&1)"
+    if [ "$? $told" != "$status $line" ]; then
+        echo "differs: a session of $bytes bytes"
+        failed=1
+    fi
+done << 'SESSIONS'
+268435456 2 kernel_cli: script: line 0
+268435457 6 kernel_cli: journal: line 0
+SESSIONS
 while read -r number line; do
     if [ "$("$program" drill "$number" < /dev/null 2> /dev/null)" != "$line" ]; then
         echo "differs: drill $number"
