@@ -1,0 +1,9 @@
+pub mod Resting
+pub mod Calling
+pub mod Listed
+pub mod Inserting
+pub mod Filtering
+pub mod Closing
+pub mod Ending
+pub mod Starting
+pub mod Room
