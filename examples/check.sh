@@ -4,6 +4,10 @@ set -u
 here="$(cd "$(dirname "$0")" && pwd)"
 program="${1:-$here/../crates/kernel_cli/out/kernel_cli}"
 failed=0
+if [ ! -x "$program" ]; then
+    echo "no program: $program (crates/kernel_cli builds it by \`rt run -- run < ../../examples/child.el\`)"
+    exit 2
+fi
 for script in "$here"/*.el; do
     name="$(basename "$script" .el)"
     if ! "$program" run < "$script" 2> /dev/null | cmp -s - "$here/$name.out"; then
