@@ -318,6 +318,7 @@ module _ (program : Script → Program) (words : List (List ℕ)) (read written 
   view_row status.Usage o r w = λ bytes script run told is unread unwritten. absurd o.so
   view_row (status.Journal line) o r w = λ bytes script run told is unread unwritten. absurd o.so
   view_row status.JournalFull o r w = λ bytes script run told is unread unwritten. absurd o.so
+  view_row status.SessionFull o r w = λ bytes script run told is unread unwritten. absurd o.so
   view_row (status.Strayed most) o r w = λ bytes script run told is unread unwritten. absurd o.so
   view_row (status.Script line) (ended, refused, kept) r w = λ bytes script run told is unread unwritten. absurd (no_script_read bytes read script line source.left source'.left told taken ended is refused)
   view_row status.ReadFault o r w = λ bytes script run told is unread unwritten. absurd (unread (r refl))

@@ -73,4 +73,5 @@ came_viewed program script (status.Script line) read written exchanges before no
 came_viewed program script status.ReadFault read written exchanges before now ended is so = absurd so
 came_viewed program script (status.Journal line) read written exchanges before now ended is so = absurd so
 came_viewed program script status.JournalFull read written exchanges before now ended is so = absurd so
+came_viewed program script status.SessionFull read written exchanges before now ended is so = absurd so
 came_viewed program script (status.Strayed most) read written exchanges before now ended is so = absurd so
