@@ -1,9 +1,6 @@
 -- The words of a line session.
-use Rattle.std.proofs.Common.{◌≡◌, ℕ, ◌+◌, Bool, true, false, ◌&&◌, List, [], ◌∷◌, take, drop, Some, None, refl, sym, ap, ◌∙◌}
-use Rattle.std.specs.Prelude.{slice_get}
+use Rattle.std.proofs.Common.{◌≡◌, ℕ, zero, suc, ◌+◌, ◌<◌, Bool, true, false, ◌&&◌, List, [], ◌∷◌, drop, map, length, get_or, Some, None, refl, sym, ap, ◌∙◌, arith}
 use Rattle.std.specs.List.{list_all}
-use Rattle.text_model.specs.Names.{same_word}
-use Rattle.text_model.proofs.Lists.{drop_at}
 use Rattle.plain_machine.specs.Drill.{is_run, drill_of}
 use Rattle.kernel_top.specs.Words.{is_word, IsDrill}
 use Rattle.kernel_top.specs.SessionWords.{Wanted, IsSession}
@@ -26,15 +23,19 @@ session_no_drill (w ∷ x ∷ []) wanted count is so = let no : None ≡ Some wa
 session_no_drill (w ∷ x ∷ y ∷ words) wanted count is so = let no : None ≡ Some count = is in cc
 
 -- ALL OF SOME WORDS
-module _ {X : Type 0} (test : X → Bool) where
-  pub all_later : (xs : List X) (i : ℕ) (x : X) (b : Bool) → slice_get xs i ≡ Some x → b ≡ test x → b ≡ true → list_all test (drop i xs) ≡ list_all test xs → list_all test (drop (i + 1) xs) ≡ list_all test xs
-  all_later xs i x b at is yes so_far =
-      let here : list_all test (drop i xs) ≡ (test x && list_all test (drop (i + 1) xs)) = ap (list_all test) (drop_at xs i x at) in
-      let on : test x ≡ true = sym is ∙ yes in
-      sym (ap (λ t. t && list_all test (drop (i + 1) xs)) on) ∙ sym here ∙ so_far
+pub drop_mapped : {A B : Type 0} (f : A → B) (xs : List A) (i : ℕ) (d : A) → i < length xs → drop i (map f xs) ≡ f (get_or xs i d) ∷ drop (i + 1) (map f xs)
+drop_mapped f [] i d within = absurd (omega (arith, within))
+drop_mapped f (x ∷ xs) zero d within = refl
+drop_mapped f (x ∷ xs) (suc i) d within =
+    let next : suc i + 1 ≡ suc (i + 1) = omega arith in
+    drop_mapped f xs i d (omega (arith, within)) ∙ ap (λ n. f (get_or xs i d) ∷ drop n (f x ∷ map f xs)) (sym next)
 
-  pub not_all : (xs : List X) (i : ℕ) (x : X) (b : Bool) → slice_get xs i ≡ Some x → b ≡ test x → b ≡ false → list_all test (drop i xs) ≡ list_all test xs → false ≡ list_all test xs
-  not_all xs i x b at is no so_far =
-      let here : list_all test (drop i xs) ≡ (test x && list_all test (drop (i + 1) xs)) = ap (list_all test) (drop_at xs i x at) in
-      let off : test x ≡ false = sym is ∙ no in
-      sym (ap (λ t. t && list_all test (drop (i + 1) xs)) off) ∙ sym here ∙ so_far
+module _ {X : Type 0} (test : X → Bool) (xs : List X) (i : ℕ) (x : X) (b : Bool) (here : drop i xs ≡ x ∷ drop (i + 1) xs) (is : b ≡ test x) (so_far : list_all test (drop i xs) ≡ list_all test xs) where
+  parted : list_all test xs ≡ (test x && list_all test (drop (i + 1) xs))
+  parted = sym so_far ∙ ap (list_all test) here
+
+  pub all_later : b ≡ true → list_all test (drop (i + 1) xs) ≡ list_all test xs
+  all_later passes = sym (parted ∙ ap (λ t. t && list_all test (drop (i + 1) xs)) (sym is ∙ passes))
+
+  pub not_all : b ≡ false → false ≡ list_all test xs
+  not_all fails = sym (parted ∙ ap (λ t. t && list_all test (drop (i + 1) xs)) (sym is ∙ fails))

@@ -8,7 +8,8 @@ use Rattle.kernel_top.proofs.session.gather.Goals as goal
 
 pub returns-in-Ok-clause-outcome : goal.returns-in-Ok-clause-outcome
 returns-in-Ok-clause-outcome g c =
-    let (exchanges, calls, whole, stands) = c.in-Ok.ensures in
+    let (exchanges, calls, ran) = c.in-Ok.ensures in
+    let (whole, stands) = ran in
     let (written, put, row) = c.write_gathered.ensures.written whole.ran.last.state stands in
     record {
       written = written;

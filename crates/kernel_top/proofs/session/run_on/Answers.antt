@@ -4,7 +4,7 @@ pub returns-in-Ok : goal.returns-in-Ok
 returns-in-Ok g c =
     let (written, exchanges, put, calls, ends) = c.in-Ok.ensures.outcome in
     let (whole, last) = ends in
-    (exchanges, calls, record { lines = written; ran = whole.ran }, last)
+    (exchanges, calls, (record { lines = written; ran = whole.ran }, last))
 
 pub returns-in-Err : goal.returns-in-Err
 returns-in-Err g c =

@@ -1,6 +1,11 @@
-use Rattle.std.proofs.Common.{[], refl, inl}
+use Rattle.std.proofs.Common.{[], refl, inl, ap, ◌∙◌}
 use Rattle.std.proofs.KnownBytes.{Appends-nil}
+use Rattle.ek_call.specs.Meaning.{script_of}
+use Rattle.line_session.specs.Replies.{values_of}
+use Rattle.kernel_top.specs.SessionWords.{Wanted}
+use Rattle.kernel_top.specs.Gathering.{command_wanted}
 use Rattle.kernel_top.proofs.Outcomes.{quiet}
+use Rattle.kernel_top.proofs.Gathering.{came_wanted}
 use Rattle.kernel_top.proofs.session.run_session.Goals as goal
 
 pub returns-in_default-clause-outcome : goal.returns-in_default-clause-outcome
@@ -16,4 +21,7 @@ pub returns-in_default-new-clause-outcome : goal.returns-in_default-new-clause-o
 returns-in_default-new-clause-outcome g c = record { written = []; exchanges = []; put = Appends-nil _; calls = refl; so = λ source source'. inl (quiet source source' _ _) }
 
 pub returns-clause-outcome : goal.returns-clause-outcome
-returns-clause-outcome g c = rw (c.in-Ok.ensures.limit, c.in-Ok.ensures.command, c.in-Ok-script.ensures) at c.gather.ensures.outcome
+returns-clause-outcome g c =
+    came_wanted g.H.Host.state g.H.Host.made c.args.host.now c.gather-status.new.host (g.K.Sink.state c.args.sink.now) (g.K.Sink.state c.gather-status.new.sink) c.args.wanted.now c.gather-status.result
+    c.in-Ok.session.limit (values_of c.in-Ok.session.command) (script_of c.in-Ok-script.script)
+    (c.in-Ok.ensures.limit ∙ ap (λ (w : Wanted). w.limit) c.wanted.view_is) (c.in-Ok.ensures.command ∙ ap command_wanted c.wanted.view_is) c.in-Ok-script.ensures c.gather-status.ensures.outcome
