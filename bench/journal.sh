@@ -20,6 +20,7 @@ use std::alloc::{AllocError, Global};
 use std::{env, io};
 
 /// Takes all bytes, and counts them.
+#[derive(Drop)]
 struct Counting {
     bytes: u64,
 }
