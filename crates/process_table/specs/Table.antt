@@ -28,7 +28,7 @@ changed p change table = (change_process p change (with_table table)).processes
 -- a process that just started
 abbrev pub new_process : Name → (child : ℕ) → (buffer : Option ℕ) → (mark : ℕ) → Process
 new_process name child buffer mark =
-    record { name = name; child = child; status = Runs; buffer = buffer; mark = mark; filter = Default; sentinel = None; bytes = []; drained = false; closed = false; listed = true }
+    record { name = name; child = child; status = Runs; buffer = buffer; mark = mark; filter = Default; sentinel = None; coding = Utf8; bytes = []; fed = false; drained = false; closed = false; listed = true }
 
 -- room for a process more, of this name, in a table of at most so many
 pub record Room : Type 0 where
