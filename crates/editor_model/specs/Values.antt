@@ -129,7 +129,7 @@ as_pairs _ = None
 
 -- why a call is refused
 pub data Fault : Type 0 where
-  ArgsOutOfRange WrongType VoidVariable NoSuchBuffer BufferKilled NoFurtherUndo UndoOutside UndoDisabled NoSuchProcess ProcessEnded BrokenPipe SpawnFailed Nesting ExchangesSpent BufferFull TooMany : Fault
+  ArgsOutOfRange WrongType VoidVariable NoSuchBuffer BufferKilled NoFurtherUndo UndoOutside UndoDisabled NoSuchProcess ProcessEnded BrokenPipe SpawnFailed Nesting ExchangesSpent BufferFull TooMany BufferReadOnly TextReadOnly : Fault
 
 -- what a call comes to
 pub data Reply : Type 0 where
@@ -140,7 +140,7 @@ pub data Reply : Type 0 where
 pub data Prim : Type 0 where
   -- buffers
   CurrentBuffer SetBuffer GetBuffer GetBufferCreate GenerateNewBuffer RenameBuffer KillBuffer BufferLiveP : Prim
-  BufferName BufferList BufferModifiedP SetBufferModifiedP : Prim
+  BufferName BufferList BufferModifiedP SetBufferModifiedP BufferReadOnlyP SetBufferReadOnly : Prim
   -- texts
   PointAt PointMin PointMax BufferSize BufferNarrowedP GotoChar CharAfter BufferString BufferSubstring : Prim
   BufferSubstringNoProperties Insert InsertAndInherit InsertBeforeMarkers InsertBeforeMarkersAndInherit : Prim
