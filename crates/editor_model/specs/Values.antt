@@ -175,7 +175,7 @@ pub record Call : Type 0 where
   pub args : List Arg
 
 pub data Block : Type 0 where
-  SaveExcursion SaveRestriction SaveCurrentBuffer InhibitHooks : Block
+  SaveExcursion SaveRestriction SaveCurrentBuffer InhibitHooks InhibitReadOnly : Block
 
 -- a call; a call whose answer is kept under a name; a block; forms that are done where two arguments are equal
 mutual

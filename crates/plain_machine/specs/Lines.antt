@@ -167,7 +167,8 @@ shown_live symbols current numbered = elim numbered.1 [
   | Some l ↦
       codes "buffer " ++ (shown_name l.name ++ (codes " point " ++ (decimal (l.buffer.point + 1) ++ (codes " min " ++ (decimal (l.buffer.begin + 1) ++
       (codes " max " ++ (decimal (l.buffer.end + 1) ++ (codes " modified " ++ ((if l.buffer.modified then codes "t" else codes "nil") ++
-      ((if numbered.0 == current then codes " current\ntext " else codes "\ntext ") ++ (shown_text symbols l.buffer.text ++ 10 ∷ [])))))))))))
+      ((if l.read_only then codes " read-only" else []) ++ ((if numbered.0 == current then codes " current\ntext " else codes "\ntext ") ++
+      (shown_text symbols l.buffer.text ++ 10 ∷ []))))))))))))
 ]
 
 abbrev pub shown_status : Status → List ℕ
