@@ -129,7 +129,7 @@ as_pairs _ = None
 
 -- why a call is refused
 pub data Fault : Type 0 where
-  ArgsOutOfRange WrongType VoidVariable NoSuchBuffer BufferKilled NoFurtherUndo UndoOutside UndoDisabled NoSuchProcess ProcessEnded BrokenPipe SpawnFailed Nesting ExchangesSpent BufferFull TooMany BufferReadOnly TextReadOnly : Fault
+  ArgsOutOfRange WrongType VoidVariable NoSuchBuffer BufferKilled NoFurtherUndo UndoOutside UndoDisabled NoSuchProcess ProcessEnded BrokenPipe SpawnFailed Nesting ExchangesSpent BufferFull TooMany BufferReadOnly TextReadOnly CodingFixed : Fault
 
 -- what a call comes to
 pub data Reply : Type 0 where
@@ -163,6 +163,7 @@ pub data Prim : Type 0 where
   StartProcess ProcessList GetProcess ProcessName ProcessStatus ProcessBuffer ProcessMark ProcessLiveP : Prim
   ProcessExitStatus ProcessFilter ProcessSentinel SetProcessFilter SetProcessSentinel SetProcessBuffer : Prim
   ProcessSendString ProcessSendEof DeleteProcess AcceptProcessOutput : Prim
+  SetProcessCodingSystem ProcessCodingSystem : Prim
 
 -- FORMS
 -- an argument of a call: a constant, or a name, which stands for a parameter or a register
