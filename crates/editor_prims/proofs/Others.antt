@@ -1,6 +1,6 @@
 -- A call that is in no subject.
 use Rattle.std.proofs.Common.{◌≡◌, false, List, refl}
-use Rattle.editor_model.specs.Values.{Value, WrongType, Refused, Prim, CurrentBuffer, SetBuffer, GetBuffer, GetBufferCreate, GenerateNewBuffer, RenameBuffer, KillBuffer, BufferLiveP, BufferName, BufferList, BufferModifiedP, SetBufferModifiedP, PointAt, PointMin, PointMax, BufferSize, BufferNarrowedP, GotoChar, CharAfter, BufferString, BufferSubstring, BufferSubstringNoProperties, Insert, InsertAndInherit, InsertBeforeMarkers, InsertBeforeMarkersAndInherit, InsertBufferSubstring, DeleteRegion, DeleteAndExtractRegion, EraseBuffer, NarrowToRegion, Widen, MakeMarker, PointMarker, CopyMarker, SetMarker, MarkerPosition, MarkerBuffer, MarkerInsertionType, SetMarkerInsertionType, GetTextProperty, TextPropertiesAt, PutTextProperty, AddTextProperties, RemoveTextProperties, SetTextProperties, NextPropertyChange, NextSinglePropertyChange, PreviousPropertyChange, PreviousSinglePropertyChange, TextPropertyAny, TextPropertyNotAll, MakeOverlay, OverlayStart, OverlayEnd, OverlayBuffer, OverlayPut, OverlayGet, OverlayProperties, MoveOverlay, DeleteOverlay, OverlaysAt, OverlaysIn, GetCharProperty, NextOverlayChange, PreviousOverlayChange, AddHook, RemoveHook, UndoBoundary, UndoStart, UndoMore, BufferUndoList, BufferDisableUndo, BufferEnableUndo, StartProcess, ProcessList, GetProcess, ProcessName, ProcessStatus, ProcessBuffer, ProcessMark, ProcessLiveP, ProcessExitStatus, ProcessFilter, ProcessSentinel, SetProcessFilter, SetProcessSentinel, SetProcessBuffer, ProcessSendString, ProcessSendEof, DeleteProcess, AcceptProcessOutput, SetProcessCodingSystem, ProcessCodingSystem}
+use Rattle.editor_model.specs.Values.{Value, WrongType, Refused, Prim, CurrentBuffer, SetBuffer, GetBuffer, GetBufferCreate, GenerateNewBuffer, RenameBuffer, KillBuffer, BufferLiveP, BufferName, BufferList, BufferModifiedP, SetBufferModifiedP, BufferReadOnlyP, SetBufferReadOnly, PointAt, PointMin, PointMax, BufferSize, BufferNarrowedP, GotoChar, CharAfter, BufferString, BufferSubstring, BufferSubstringNoProperties, Insert, InsertAndInherit, InsertBeforeMarkers, InsertBeforeMarkersAndInherit, InsertBufferSubstring, DeleteRegion, DeleteAndExtractRegion, EraseBuffer, NarrowToRegion, Widen, MakeMarker, PointMarker, CopyMarker, SetMarker, MarkerPosition, MarkerBuffer, MarkerInsertionType, SetMarkerInsertionType, GetTextProperty, TextPropertiesAt, PutTextProperty, AddTextProperties, RemoveTextProperties, SetTextProperties, NextPropertyChange, NextSinglePropertyChange, PreviousPropertyChange, PreviousSinglePropertyChange, TextPropertyAny, TextPropertyNotAll, MakeOverlay, OverlayStart, OverlayEnd, OverlayBuffer, OverlayPut, OverlayGet, OverlayProperties, MoveOverlay, DeleteOverlay, OverlaysAt, OverlaysIn, GetCharProperty, NextOverlayChange, PreviousOverlayChange, AddHook, RemoveHook, UndoBoundary, UndoStart, UndoMore, BufferUndoList, BufferDisableUndo, BufferEnableUndo, StartProcess, ProcessList, GetProcess, ProcessName, ProcessStatus, ProcessBuffer, ProcessMark, ProcessLiveP, ProcessExitStatus, ProcessFilter, ProcessSentinel, SetProcessFilter, SetProcessSentinel, SetProcessBuffer, ProcessSendString, ProcessSendEof, DeleteProcess, AcceptProcessOutput, SetProcessCodingSystem, ProcessCodingSystem}
 use Rattle.editor_model.specs.Answers.{Barred}
 use Rattle.editor_model.specs.Editor.{Editor}
 use Rattle.editor_model.specs.Table.{query, apply, prepare}
@@ -19,6 +19,8 @@ nobody_asks e BufferName args h0 h1 h2 h3 h4 h5 = absurd cc
 nobody_asks e BufferList args h0 h1 h2 h3 h4 h5 = absurd cc
 nobody_asks e BufferModifiedP args h0 h1 h2 h3 h4 h5 = absurd cc
 nobody_asks e SetBufferModifiedP args h0 h1 h2 h3 h4 h5 = refl
+nobody_asks e BufferReadOnlyP args h0 h1 h2 h3 h4 h5 = absurd cc
+nobody_asks e SetBufferReadOnly args h0 h1 h2 h3 h4 h5 = refl
 nobody_asks e PointAt args h0 h1 h2 h3 h4 h5 = absurd cc
 nobody_asks e PointMin args h0 h1 h2 h3 h4 h5 = absurd cc
 nobody_asks e PointMax args h0 h1 h2 h3 h4 h5 = absurd cc
@@ -115,6 +117,8 @@ nobody_sets e BufferName args h0 h1 h2 h3 h4 = refl
 nobody_sets e BufferList args h0 h1 h2 h3 h4 = refl
 nobody_sets e BufferModifiedP args h0 h1 h2 h3 h4 = refl
 nobody_sets e SetBufferModifiedP args h0 h1 h2 h3 h4 = absurd cc
+nobody_sets e BufferReadOnlyP args h0 h1 h2 h3 h4 = refl
+nobody_sets e SetBufferReadOnly args h0 h1 h2 h3 h4 = absurd cc
 nobody_sets e PointAt args h0 h1 h2 h3 h4 = refl
 nobody_sets e PointMin args h0 h1 h2 h3 h4 = refl
 nobody_sets e PointMax args h0 h1 h2 h3 h4 = refl
@@ -211,6 +215,8 @@ nobody_changes e BufferName args h0 h1 h2 = refl
 nobody_changes e BufferList args h0 h1 h2 = refl
 nobody_changes e BufferModifiedP args h0 h1 h2 = refl
 nobody_changes e SetBufferModifiedP args h0 h1 h2 = refl
+nobody_changes e BufferReadOnlyP args h0 h1 h2 = refl
+nobody_changes e SetBufferReadOnly args h0 h1 h2 = refl
 nobody_changes e PointAt args h0 h1 h2 = refl
 nobody_changes e PointMin args h0 h1 h2 = refl
 nobody_changes e PointMax args h0 h1 h2 = refl

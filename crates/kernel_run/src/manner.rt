@@ -17,6 +17,7 @@ pub(crate) fn manner(prim: Primitive) -> Manner
         | Primitive::GenerateNewBuffer
         | Primitive::RenameBuffer
         | Primitive::SetBufferModifiedP
+        | Primitive::SetBufferReadOnly
         | Primitive::GotoChar
         | Primitive::NarrowToRegion
         | Primitive::Widen
