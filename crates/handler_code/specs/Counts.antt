@@ -26,5 +26,5 @@ state_with made =
           saved = [];
         };
       };
-      processes = replicate made.processes (record { name = []; child = 0; status = Runs; buffer = None; mark = 0; filter = Default; sentinel = None; coding = Utf8; bytes = []; fed = false; drained = false; closed = false; listed = false });
+      processes = replicate made.processes (record { name = []; child = 0; status = Runs; buffer = None; mark = 0; filter = Default; sentinel = None; coding = Utf8; bytes = None; drained = false; closed = false; listed = false });
     }

@@ -38,7 +38,7 @@ name_kept all name =
 
 -- THE STATE
 abbrev begun_process : State → (b : Value) → (child : ℕ) → Name → Process
-begun_process s b child name = record { name = name; child = child; status = Runs; buffer = process_buffer (with_process_buffer b s.editor) b; mark = length (with_process_buffer b s.editor).marks.markers; filter = Default; sentinel = None; coding = Utf8; bytes = []; fed = false; drained = false; closed = false; listed = true }
+begun_process s b child name = record { name = name; child = child; status = Runs; buffer = process_buffer (with_process_buffer b s.editor) b; mark = length (with_process_buffer b s.editor).marks.markers; filter = Default; sentinel = None; coding = Utf8; bytes = None; drained = false; closed = false; listed = true }
 
 pub started_kept : (s : State) (name b : Value) (child : ℕ) → started (kept_state s) name b child ≡ kept_state (started s name b child)
 started_kept s name b child =

@@ -114,7 +114,7 @@ is_closed s p = elim (process s p) [ Some x ↦ x.closed | None ↦ true ]
 
 -- a read of it gave bytes
 abbrev pub is_fed : State → ℕ → Bool
-is_fed s p = elim (process s p) [ None ↦ false | Some x ↦ x.fed ]
+is_fed s p = elim (process s p) [ None ↦ false | Some x ↦ is_some x.bytes ]
 
 abbrev pub stands_in : (buffer : ℕ) → Process → Bool
 stands_in b x = elim x.buffer [ Some c ↦ c == b | None ↦ false ]

@@ -64,7 +64,7 @@ started s name b child =
     let buffer : Option ℕ = process_buffer e b in
     record s {
       editor = with_marker (record { spot = end_of e buffer; advances = false }) e;
-      processes = s.processes ++ record { name = process_name s.processes (name_of name); child = child; status = Runs; buffer = buffer; mark = length e.marks.markers; filter = Default; sentinel = None; coding = Utf8; bytes = []; fed = false; drained = false; closed = false; listed = true } ∷ [];
+      processes = s.processes ++ record { name = process_name s.processes (name_of name); child = child; status = Runs; buffer = buffer; mark = length e.marks.markers; filter = Default; sentinel = None; coding = Utf8; bytes = None; drained = false; closed = false; listed = true } ∷ [];
       asked = s.asked + 1;
     }
 
@@ -94,7 +94,7 @@ of_buffer b x = record x { buffer = b }
 
 -- as long as nothing was read
 abbrev pub with_coding : Coding → Process → Process
-with_coding c x = elim x.fed [ true ↦ x | false ↦ record x { coding = c } ]
+with_coding c x = elim x.bytes [ Some bytes ↦ x | None ↦ record x { coding = c } ]
 
 -- SENDING
 abbrev pub sent_answer : State → Target → List Item → (size : ℕ) → Answer → Option Next

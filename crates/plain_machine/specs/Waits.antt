@@ -8,7 +8,7 @@ use Rattle.text_model.specs.Properties.{bare}
 use Rattle.editor_model.specs.Values.{Nil, T, Str, TheProcess, ExchangesSpent}
 use Rattle.editor_model.specs.Editor.{is_live, killed}
 use Rattle.plain_machine.specs.Exchanges.{Read, AskEnd, Kill, Answer, Bytes, End, Code, Signal, Running, Killed}
-use Rattle.plain_machine.specs.State.{State, Process, Status, Runs, Exited, Signalled, Lost, Filter, Off, Named, Program, process, change_process}
+use Rattle.plain_machine.specs.State.{State, Process, Status, Runs, Exited, Signalled, Lost, Filter, Off, Named, Program, process, change_process, read_so_far}
 use Rattle.plain_machine.specs.Lines.{OfFilter, OfSentinel, KilledLast}
 use Rattle.plain_machine.specs.Items.{Item, GiveAnswer, Refuse, Enter, Wait, Finish, WriteDump, Target, Waiting, Next, Step, Asks}
 use Rattle.plain_machine.specs.Refusals.{may_ask, must_be_replaceable}
@@ -70,7 +70,7 @@ more_characters old new = drop (length old) new
 -- the output has ended: what was held back comes out too
 abbrev pub drain : State → Waiting → Target → List Item → ℕ → Process → Option Next
 drain s w target rest p x =
-    Some (silent (change_process p (λ y. record y { drained = true }) (asked_more s)) (entry_of s p x (more_characters (decoded x.coding x.bytes) (all_decoded x.coding x.bytes)) (Wait w target ∷ rest)))
+    Some (silent (change_process p (λ y. record y { drained = true }) (asked_more s)) (entry_of s p x (more_characters (decoded x.coding (read_so_far x)) (all_decoded x.coding (read_so_far x))) (Wait w target ∷ rest)))
 
 -- one read gives 1 to 4,096 bytes
 abbrev pub is_room : List ℕ → Bool
@@ -79,8 +79,8 @@ is_room bytes = nat_le 1 (length bytes) && (nat_le (length bytes) 4096 && list_a
 abbrev pub hear : (fits : Bool) → State → Waiting → Target → List Item → ℕ → Process → List ℕ → Option Next
 hear false s w target rest p x bytes = None
 hear true s w target rest p x bytes =
-    Some (silent (change_process p (λ y. record y { bytes = x.bytes ++ bytes; fed = true }) (asked_more s))
-    (entry_of s p x (more_characters (decoded x.coding x.bytes) (decoded x.coding (x.bytes ++ bytes))) (Wait (record w { counted = w.counted || counts w p }) target ∷ rest)))
+    Some (silent (change_process p (λ y. record y { bytes = Some (read_so_far x ++ bytes) }) (asked_more s))
+    (entry_of s p x (more_characters (decoded x.coding (read_so_far x)) (decoded x.coding (read_so_far x ++ bytes))) (Wait (record w { counted = w.counted || counts w p }) target ∷ rest)))
 
 abbrev pub read_answer : State → Waiting → Target → List Item → ℕ → Process → Answer → Option Next
 read_answer s w target rest p x (Bytes bytes) = hear (is_room bytes) s w target rest p x bytes
