@@ -9,7 +9,7 @@ use Rattle.text_model.proofs.Decodings.{characters-whole, characters-part, chara
 use Rattle.text_model.proofs.Ascii.{front_whole, front_part, return_behind, no_tail_behind}
 
 -- LINE ENDS
-and_false : (b : Bool) → (b && false) ≡ false
+pub and_false : (b : Bool) → (b && false) ≡ false
 and_false true = refl
 and_false false = refl
 
@@ -19,7 +19,7 @@ ends_text [] = false
 ends_text (c ∷ []) = is_return c
 ends_text (c ∷ d ∷ text) = ends_text (d ∷ text)
 
-abbrev kept_if : Bool → Ch → List Ch → List Ch
+abbrev pub kept_if : Bool → Ch → List Ch → List Ch
 kept_if drops c text = elim drops [ true ↦ text | false ↦ c ∷ text ]
 
 feeds_append : (a b : List Ch) → (ends_text a && begins_with_feed b) ≡ false → with_feeds (a ++ b) ≡ with_feeds a ++ with_feeds b
@@ -52,7 +52,7 @@ ends_so [] h = cc
 ends_so (b ∷ []) h = let same : b ≡ 13 = grind (arith, nat_tests) in record { front = []; same = ap (λ b. b ∷ []) same }
 ends_so (b ∷ c ∷ x) h = let rest = ends_so (c ∷ x) h in record { front = b ∷ rest.front; same = ap (λ y. b ∷ y) rest.same }
 
-ends_more : (x : List ℕ) (b : ℕ) (y : List ℕ) → ends_in_return (x ++ b ∷ y) ≡ ends_in_return (b ∷ y)
+pub ends_more : (x : List ℕ) (b : ℕ) (y : List ℕ) → ends_in_return (x ++ b ∷ y) ≡ ends_in_return (b ∷ y)
 ends_more [] b y = refl
 ends_more (a ∷ []) b y = refl
 ends_more (a ∷ c ∷ x) b y = ends_more (c ∷ x) b y
@@ -114,7 +114,7 @@ tail_begins zero (a ∷ x) b t e = by (front (a ∷ x)) refl (λ skip k. tail_be
     by Part k rest = let same : a ∷ x ≡ b ∷ t = sym (tail-part a x k) ∙ e in let first : a ≡ b = cc in subst (λ n. 0x80 ≤ n) first (front_part a x k)
 
 -- and so do its characters
-no_feed_first : (b : ℕ) (x : List ℕ) → 0x80 ≤ b → (begins_with_feed (characters (b ∷ x)) ≡ false) × (begins_with_feed (all_characters (b ∷ x)) ≡ false)
+pub no_feed_first : (b : ℕ) (x : List ℕ) → 0x80 ≤ b → (begins_with_feed (characters (b ∷ x)) ≡ false) × (begins_with_feed (all_characters (b ∷ x)) ≡ false)
 no_feed_first b x h = by (front (b ∷ x)) refl
   where
     by : (f : Front) → front (b ∷ x) ≡ f → (begins_with_feed (characters (b ∷ x)) ≡ false) × (begins_with_feed (characters (b ∷ x) ++ map Raw (tail (b ∷ x))) ≡ false)
@@ -128,7 +128,7 @@ no_feed_first b x h = by (front (b ∷ x)) refl
 
 -- THE LAWS OF DOS
 -- bytes that end in a carriage return: their characters, and that no tail is left
-with_return : (x : List ℕ) → ends_in_return x ≡ true → (characters x ≡ without_last (characters x) ++ Scalar 13 ∷ []) × (tail x ≡ [])
+pub with_return : (x : List ℕ) → ends_in_return x ≡ true → (characters x ≡ without_last (characters x) ++ Scalar 13 ∷ []) × (tail x ≡ [])
 with_return x h =
     let r : Returned x = ends_so x h in
     let all : characters x ≡ all_characters r.front ++ Scalar 13 ∷ [] = ap characters r.same ∙ return_behind r.front in
@@ -136,7 +136,7 @@ with_return x h =
     (all ∙ ap (λ cs. cs ++ Scalar 13 ∷ []) (sym cut), ap tail r.same ∙ no_tail_behind r.front)
 
 -- what is settled behind some characters
-settled_append : (x : List ℕ) (a : List Ch) → settled (ends_in_return x) (a ++ characters x) ≡ a ++ settled (ends_in_return x) (characters x)
+pub settled_append : (x : List ℕ) (a : List Ch) → settled (ends_in_return x) (a ++ characters x) ≡ a ++ settled (ends_in_return x) (characters x)
 settled_append x a = by (ends_in_return x) refl
   where
     by : (e : Bool) → ends_in_return x ≡ e → settled e (a ++ characters x) ≡ a ++ settled e (characters x)
@@ -147,7 +147,7 @@ settled_append x a = by (ends_in_return x) refl
         some [] k = cc
         some (c ∷ b) k = without_last_append a c b
 
-no_feed_settled : (e : Bool) (a : List Ch) → begins_with_feed a ≡ false → begins_with_feed (settled e a) ≡ false
+pub no_feed_settled : (e : Bool) (a : List Ch) → begins_with_feed a ≡ false → begins_with_feed (settled e a) ≡ false
 no_feed_settled true a h = no_feed_without_last a h
 no_feed_settled false a h = h
 
@@ -184,7 +184,7 @@ ends_return : (x y : List ℕ) → ends_in_return x ≡ true → ends_in_return 
 ends_return x [] h = ap ends_in_return (append-nil x) ∙ h
 ends_return x (b ∷ y) h = ends_more x b y
 
-abbrev left_of : Bool → List ℕ → List ℕ
+abbrev pub left_of : Bool → List ℕ → List ℕ
 left_of e t = elim e [ true ↦ 13 ∷ [] | false ↦ t ]
 
 abbrev OpensInPieces : Bool → List ℕ → List ℕ → Type 0
@@ -248,3 +248,6 @@ pub none_decoded : (c : Coding) → (decoded c [] ≡ []) × (all_decoded c [] �
 none_decoded Utf8 = (refl, refl)
 none_decoded Utf8Dos = (refl, refl)
 none_decoded Latin1 = (refl, refl)
+
+pub undecoded_twice : (c : Coding) (x : List ℕ) → undecoded c (undecoded c x) ≡ undecoded c x
+undecoded_twice c x = ap (undecoded c) (sym (append-nil (undecoded c x))) ∙ sym (undecoded_law c x []) ∙ ap (undecoded c) (append-nil x)
