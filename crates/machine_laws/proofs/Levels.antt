@@ -4,7 +4,7 @@ use Rattle.std.specs.Prelude.{pos, Option, Some, None, nat_lt, codes, unwrap_or}
 use Rattle.text_model.specs.Characters.{Ch}
 use Rattle.text_model.specs.Marks.{Pending}
 use Rattle.text_model.specs.Properties.{Cell}
-use Rattle.editor_model.specs.Values.{Value, Nil, T, Int, ExchangesSpent, VoidVariable, WrongType, at_place, Reply, Answered, Fault, Prim, AddHook, RemoveHook, KillBuffer, StartProcess, SetProcessFilter, SetProcessSentinel, SetProcessBuffer, ProcessSendString, ProcessSendEof, DeleteProcess, AcceptProcessOutput, Form, Forms, NoForms, Then, Do, Setq, In, WhenEq, Block, SaveExcursion, SaveRestriction, SaveCurrentBuffer, InhibitHooks, HandlerDef, equal}
+use Rattle.editor_model.specs.Values.{Value, Nil, T, Int, ExchangesSpent, VoidVariable, WrongType, at_place, Reply, Answered, Fault, Prim, AddHook, RemoveHook, KillBuffer, StartProcess, SetProcessFilter, SetProcessSentinel, SetProcessBuffer, SetProcessCodingSystem, ProcessSendString, ProcessSendEof, DeleteProcess, AcceptProcessOutput, Form, Forms, NoForms, Then, Do, Setq, In, WhenEq, Block, SaveExcursion, SaveRestriction, SaveCurrentBuffer, InhibitHooks, HandlerDef, equal}
 use Rattle.editor_model.specs.Editor.{Editor, is_live, killed}
 use Rattle.editor_model.specs.Arguments.{arg, string_of, buffer_of}
 use Rattle.editor_model.specs.Answers.{Test, first_fault}
@@ -12,12 +12,12 @@ use Rattle.editor_model.specs.TextCalls.{prepare_output}
 use Rattle.editor_model.specs.Table.{Change, Commit, Committed, query, apply, prepare, Prepared, Changes, Quiet, Nothing, Barred, Done, Failed, commit}
 use Rattle.editor_model.specs.Prims.{OnlyAsks, SetsState, ChangesText, ConcernsHandlers, manner_of}
 use Rattle.plain_machine.specs.Exchanges.{Answer, Started, Sent, Broken, Closed, Killed, Bytes, End, Code, Signal, Running}
-use Rattle.plain_machine.specs.State.{State, hooks_of, Program, Process, Status, Runs, Exited, Signalled, Lost, process, change_process}
+use Rattle.plain_machine.specs.State.{State, hooks_of, Program, Process, Status, Runs, Exited, Signalled, Lost, process, change_process, read_so_far}
 use Rattle.plain_machine.specs.Lines.{Kind, KilledLast, OfBefore, OfAfter, OfFilter, OfSentinel}
 use Rattle.plain_machine.specs.Items.{Item, Top, Body, DoForm, MakeCall, Leave, GiveAnswer, Refuse, MakeChange, Hooks, Calm, CommitChange, Enter, Native, Called, Exit, Wait, Delete, Finish, WriteDump, Target, Nowhere, ToName, ToNative, KeptExcursion, KeptRestriction, KeptBuffer, KeptInhibition, Waiting, Config, Next, Step, Goes, Asks, Ended}
-use Rattle.plain_machine.specs.Calls.{on, answered, unless, call, process_effect, spawned, spawned_child, is_new_child, started, sent_answer, closed_answer, with_input_closed, with_filter, with_sentinel, of_buffer, process_buffer, send, send_eof, change_call, with_editor, call_by, unless_fault}
+use Rattle.plain_machine.specs.Calls.{on, answered, unless, call, process_effect, spawned, spawned_child, is_new_child, started, sent_answer, closed_answer, with_input_closed, with_filter, with_sentinel, of_buffer, process_buffer, send, send_eof, change_call, with_editor, call_by, unless_fault, with_coding}
 use Rattle.plain_machine.specs.Refusals.{process_tests, may_ask, must_be_replaceable}
-use Rattle.plain_machine.specs.Arguments.{process_of, filter_of, sentinel_of, child_of, is_closed, encoded, handler_def, native_from, running_in}
+use Rattle.plain_machine.specs.Arguments.{process_of, filter_of, sentinel_of, child_of, is_closed, encoded, handler_def, native_from, running_in, coding_of}
 use Rattle.plain_machine.specs.Hooks.{before_change_functions, after_change_functions, set_hook_list}
 use Rattle.plain_machine.specs.Natives.{is_callable, normal}
 use Rattle.plain_machine.specs.Forms.{with_saved, saved_of, dropped, restored, evaluate, do_form, block, assigned, kept_reply, give, make_change, commit_change, at_kept, popped, bracket, current, says, after_commit, call_with, when_eq, opened, kept_of}
@@ -218,6 +218,7 @@ module _ (base : Levels) (floor : Floor) where
       effect_stays target SetProcessFilter args = process_answer (process_of s (arg args 0)) (with_filter (filter_of (arg args 1))) s (arg args 1) target refl
       effect_stays target SetProcessSentinel args = process_answer (process_of s (arg args 0)) (with_sentinel (sentinel_of (arg args 1))) s (arg args 1) target refl
       effect_stays target SetProcessBuffer args = process_answer (process_of s (arg args 0)) (of_buffer (process_buffer s.editor (arg args 1))) s (arg args 1) target refl
+      effect_stays target SetProcessCodingSystem args = process_answer (process_of s (arg args 0)) (with_coding (coding_of (arg args 1))) s (arg args 1) target refl
       effect_stays target ProcessSendString args = send_stays target (child_of s (process_of s (arg args 0))) (encoded (string_of (arg args 1)))
       effect_stays target ProcessSendEof args = eof_stays target (process_of s (arg args 0)) (is_closed s (process_of s (arg args 0)))
       effect_stays target DeleteProcess args = same s (Delete (process_of s (arg args 0)) ∷ GiveAnswer Nil target ∷ front) refl u (d, (d, b))
@@ -287,7 +288,7 @@ module _ (base : Levels) (floor : Floor) where
         where
           go : (fits : Bool) → AnswerStays (hear fits s w target rest p x bytes)
           go false = tt
-          go true = entered_stays _ p x _ _ target (change_levels p (λ y. record y { bytes = x.bytes ++ bytes }) (asked_more s))
+          go true = entered_stays _ p x _ _ target (change_levels p (λ y. record y { bytes = Some (read_so_far x ++ bytes) }) (asked_more s))
       read_stays w target p x Answer.Nothing = same (asked_more s) (Wait w target ∷ front) refl u (d, b)
       read_stays w target p x End = drain_stays w target p x
       read_stays w target p x Answer.Failed = drain_stays w target p x

@@ -251,3 +251,8 @@ none_decoded Latin1 = (refl, refl)
 
 pub undecoded_twice : (c : Coding) (x : List ℕ) → undecoded c (undecoded c x) ≡ undecoded c x
 undecoded_twice c x = ap (undecoded c) (sym (append-nil (undecoded c x))) ∙ sym (undecoded_law c x []) ∙ ap (undecoded c) (append-nil x)
+
+pub none_undecoded : (c : Coding) → undecoded c [] ≡ []
+none_undecoded Utf8 = refl
+none_undecoded Utf8Dos = refl
+none_undecoded Latin1 = refl
