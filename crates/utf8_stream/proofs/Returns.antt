@@ -113,7 +113,7 @@ lone_end (b ∷ d ∷ x) s c f v w l = by (ends_in_return (b ∷ d ∷ x)) refl
             only : (a : List Ch) → Scalar c ∷ [] ≡ a ++ Scalar 13 ∷ [] → c ≡ 13
             only [] e = cc
             only (a ∷ []) e = cc
-            only (a ∷ a' ∷ as) e = cc
+            only (a ∷ b ∷ text) e = cc
 
         wrong : ((s ≡ b ∷ []) × (b ≤ 0x7F)) ⊎ ((0x80 ≤ scalar_of s) × (0x80 ≤ b)) → ⊥
         wrong (inr h) = omega (arith, h.0, v, last)
@@ -145,8 +145,7 @@ pub dos_neither : (x : List ℕ) → 0 < length x → front x ≡ Neither → 0x
 dos_neither [] h f k = absurd (omega arith)
 dos_neither (b ∷ x) h f k =
     let ends : ends_in_return (b ∷ x) ≡ ends_in_return x = by x in
-    let same : from (b ∷ x) 1 ≡ x = cut 1 (b ∷ x) in
-    (
+    let same : from (b ∷ x) 1 ≡ x = cut 1 (b ∷ x) in (
       next_character (b ∷ x) x (Raw b) (characters-neither b x f) ends ∙ ap (λ y. Raw b ∷ decoded Utf8Dos y) (sym same),
       next_left (b ∷ x) x (tail-neither b x f) ends ∙ ap (undecoded Utf8Dos) (sym same),
     )

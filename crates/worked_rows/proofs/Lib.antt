@@ -5,6 +5,7 @@ pub mod UndoRows
 pub mod HookRows
 pub mod ProcessRows
 pub mod WaitRows
+pub mod CodingRows
 pub mod NativeRows
 pub mod LimitRows
 pub mod DrillRows
