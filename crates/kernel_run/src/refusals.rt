@@ -18,7 +18,7 @@ ghost use Rattle.plain_machine.specs.Refusals.{must_be_word, must_live_or_be_nam
 ghost use Rattle.plain_machine.specs.Refusals.{only_where, process_there, rounds_of};
 ghost use Rattle.plain_machine.specs.Arguments.{encoded, is_closed, is_filter_place};
 ghost use Rattle.plain_machine.specs.Arguments.{is_handler_place, is_new_name, is_process_buffer};
-ghost use Rattle.plain_machine.specs.Arguments.{is_running, is_coding, is_fed};
+ghost use Rattle.plain_machine.specs.Arguments.{is_running, is_coding, is_fed, process_of};
 ghost use Rattle.plain_machine.specs.Hooks.{hook_added, is_hook};
 ghost use Rattle.plain_machine.specs.State.{State, Program as Plain};
 ghost use Rattle.ek_types.specs.Listing.{items_of};
@@ -406,6 +406,14 @@ fn is_fed(kernel: &Kernel, p: u32) -> bool
     p < kernel.processes.count() && kernel.processes.get(p).fed()
 }
 
+/// No bytes were read of a process.
+fn must_be_unfed(kernel: &Kernel, v: &Value) -> Result<(), Fault>
+    ensures { fault_in result ≡ refuse CodingFixed
+        (not (is_fed (state_of kernel.now) (process_of (state_of kernel.now) (view v.now)))) }
+{
+    must(!is_fed(kernel, process(kernel, v)), Fault::CodingFixed)
+}
+
 fn test_set_coding(kernel: &Kernel, p: &Value, coding: &Value) -> Result<(), Fault>
     ensures { (machine : Plain) → fault_in result ≡
         refusal_of machine (state_of kernel.now) SetProcessCodingSystem
@@ -414,7 +422,7 @@ fn test_set_coding(kernel: &Kernel, p: &Value, coding: &Value) -> Result<(), Fau
     must_be_process(p)?;
     must_be_coding(coding)?;
     process_there(kernel, p)?;
-    must(!is_fed(kernel, process(kernel, p)), Fault::CodingFixed)
+    must_be_unfed(kernel, p)
 }
 
 /// Whether the input of a process was closed. Where there is none it counts as closed.

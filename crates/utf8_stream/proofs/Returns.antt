@@ -9,7 +9,7 @@ use Rattle.text_model.proofs.Decodings.{characters-whole, characters-part, chara
 use Rattle.text_model.proofs.Ascii.{front_whole, front_part}
 use Rattle.text_model.proofs.Codings.{kept_if, left_of, with_return, settled_append, ends_more, no_feed_first, no_feed_settled}
 use Rattle.utf8_stream.specs.Returns.{is_lone_return, begins_by_feed, before_feed}
-use Rattle.utf8_stream.proofs.Tails.{tail_room, none_of}
+use Rattle.utf8_stream.proofs.Tails.{append_none, tail_room, none_of}
 use Rattle.utf8_stream.proofs.Steps.{cut, cut_length, whole_first, whole_rest}
 
 -- HOW MANY
@@ -36,6 +36,11 @@ decoded_room Latin1 x = omega (arith, length-map x Scalar)
 -- what is left out as a whole has no characters yet
 pub decoded_closed : (c : Coding) (x : List ℕ) → undecoded c x ≡ x → decoded c x ≡ []
 decoded_closed c x e = none_of (decoded c x) (omega (arith, decoded_room c x, ap length e))
+
+-- the bytes held, and none more
+pub none_more : (c : Coding) (h x : List ℕ) → length x ≡ 0 → undecoded c h ≡ h → decoded c (h ++ x) ≡ []
+none_more c h [] e t = ap (decoded c) (append_none h) ∙ decoded_closed c h t
+none_more c h (b ∷ x) e t = absurd (omega arith)
 
 -- A CHARACTER AND WHAT FOLLOWS IT
 begins_at : (y : List ℕ) → begins_with_feed (settled (ends_in_return y) (characters y)) ≡ begins_by_feed y
@@ -70,6 +75,13 @@ put_if t c = elim t [ true ↦ [] | false ↦ c ∷ [] ]
 kept_put : (t : Bool) (c : Ch) (text : List Ch) → kept_if t c text ≡ put_if t c ++ text
 kept_put true c text = refl
 kept_put false c text = refl
+
+pub before_length : (c : Ch) (next : List ℕ) → length (before_feed c next) ≤ 1
+before_length c next = by (is_return c && begins_by_feed next)
+  where
+    by : (t : Bool) → length (put_if t c) ≤ 1
+    by true = omega arith
+    by false = omega arith
 
 next_character : (x y : List ℕ) (c : Ch) → characters x ≡ c ∷ characters y → ends_in_return x ≡ ends_in_return y → decoded Utf8Dos x ≡ before_feed c y ++ decoded Utf8Dos y
 next_character x y c first ends =
