@@ -67,7 +67,9 @@ pub(crate) fn manner(prim: Primitive) -> Manner
         | Primitive::ProcessSendString
         | Primitive::ProcessSendEof
         | Primitive::DeleteProcess
-        | Primitive::AcceptProcessOutput => Manner::ConcernsHandlers,
+        | Primitive::AcceptProcessOutput
+        | Primitive::SetProcessCodingSystem
+        | Primitive::ProcessCodingSystem => Manner::ConcernsHandlers,
         _ => Manner::OnlyAsks,
     }
 }
