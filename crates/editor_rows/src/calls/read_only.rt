@@ -71,7 +71,11 @@ const ROWS: [Row; 5] = [
                 "! text-read-only",
             ),
             (PutTextProperty, &[Int(2), Int(3), READ_ONLY, Int(0)], "nil"),
-            (RemoveTextProperties, &[Int(2), Int(3), List(&[FACE, T])], "nil"),
+            (
+                RemoveTextProperties,
+                &[Int(2), Int(3), List(&[FACE, T])],
+                "nil",
+            ),
             (
                 SetTextProperties,
                 &[Int(2), Int(3), Nil],
