@@ -102,13 +102,12 @@ named_as name (Some l) = Some (record l { name = name })
 abbrev pub renamed : (id : ℕ) → Name → Editor → Editor
 renamed id name e = record e { buffers = slice_set e.buffers id (named_as name (live e id)) }
 
-abbrev pub protected_as : Bool → Option Live → Option Live
-protected_as on None = None
-protected_as on (Some l) = Some (record l { read_only = on })
-
 -- a buffer made read-only, or writable
 abbrev pub protected : (id : ℕ) → Bool → Editor → Editor
-protected id on e = record e { buffers = slice_set e.buffers id (protected_as on (live e id)) }
+protected id on e = elim (live e id) [
+  | None ↦ e
+  | Some l ↦ record e { buffers = slice_set e.buffers id (Some (record l { read_only = on })) }
+]
 
 -- the name, or the first of name<2>, name<3> .. that none of the buffers has
 abbrev pub numbered_name : Name → ℕ → Name

@@ -9,7 +9,7 @@ use Rattle.text_model.specs.Marks.{Spot}
 use Rattle.text_model.specs.Sticky.{inherited}
 use Rattle.text_model.specs.Commit.{Buffer}
 use Rattle.editor_model.specs.Values.{Value, Nil, Int, Str, plain, Reply, Answered}
-use Rattle.editor_model.specs.Editor.{Editor, buffer_at, is_read_only, here, change_buffer, marker_of}
+use Rattle.editor_model.specs.Editor.{Editor, buffer_at, here, change_buffer, marker_of}
 use Rattle.editor_model.specs.Answers.{Test, Applied, applied, answer, Put, Prepared, Changes, Nothing, prepared}
 use Rattle.editor_model.specs.ReadOnly.{bars, has_read_only, is_tested, must_be_writable, must_be_writable_here}
 use Rattle.editor_model.specs.Arguments.{string_of, buffer_of, position, place, place_or, from_of, to_of, must_be_position, must_be_position_or_nil, must_be_string, must_be_buffer, must_be_buffer_or_nil, buffer_there, must_point_somewhere, must_be_accessible, must_be_nil_or_accessible, must_lie_in, must_fit_a_string, must_have_room}

@@ -1,6 +1,6 @@
 //! What is read-only, and which changes that bars ("Read Only Buffers" and "Special Properties" in the GNU Emacs Lisp
 //! Reference Manual).
-ghost use Rattle.std.specs.Prelude.{◌≡◌, ◌≤◌, true, length};
+ghost use Rattle.std.specs.Prelude.{◌≡◌, ◌≤◌, true, false, nat_lt, length};
 ghost use Rattle.text_model.specs.Properties.{part};
 ghost use Rattle.editor_model.specs.Editor.{here};
 ghost use Rattle.editor_model.specs.ReadOnly as calls;
@@ -18,7 +18,7 @@ use stickiness::inherits;
 const READ_ONLY: Sym = Sym(10);
 
 /// A change that is tested: neither its buffer nor its text is read-only.
-pub(crate) fn must_be_writable(buffer: bool, text: bool) -> Result<(), Fault>
+fn must_be_writable(buffer: bool, text: bool) -> Result<(), Fault>
     ensures { fault_in result ≡ calls.must_be_writable true buffer text }
 {
     must(!buffer, Fault::BufferReadOnly)?;
@@ -26,14 +26,14 @@ pub(crate) fn must_be_writable(buffer: bool, text: bool) -> Result<(), Fault>
 }
 
 /// Whether a change is tested, by whether it would change something.
-pub(crate) fn is_tested(editor: &Editor, changes: bool) -> bool
+fn is_tested(editor: &Editor, changes: bool) -> bool
     ensures { result ≡ calls.is_tested (editor_of editor.now) changes }
 {
     changes && !editor.tests_lifted()
 }
 
 /// Whether text that is put in at a place would inherit `read-only`.
-pub(crate) fn takes_no_text(editor: &Editor, id: u32, at: usize) -> bool
+fn takes_no_text(editor: &Editor, id: u32, at: usize) -> bool
     ensures { result ≡ takes_no_text (editor_of editor.now) id at }
 {
     let before = if at == 0 {
@@ -44,16 +44,41 @@ pub(crate) fn takes_no_text(editor: &Editor, id: u32, at: usize) -> bool
     inherits(before, set_at(editor, id, at), READ_ONLY)
 }
 
-/// So many characters may be put in at point.
-pub(crate) fn must_take_text(editor: &Editor, n: u128) -> Result<(), Fault>
-    ensures { fault_in result ≡ must_take_text (editor_of editor.now) n }
+/// So many characters may be put in at a place of a buffer, which may count as read-only or not.
+pub(crate) fn must_take(
+    editor: &Editor,
+    read_only: bool,
+    id: u32,
+    at: usize,
+    n: u128,
+) -> Result<(), Fault>
+    ensures { fault_in result ≡ calls.must_be_writable
+        (calls.is_tested (editor_of editor.now) (nat_lt 0 n)) read_only
+        (takes_no_text (editor_of editor.now) id at) }
 {
     if !is_tested(editor, n > 0) {
         return Ok(());
     }
+    must_be_writable(read_only, takes_no_text(editor, id, at))
+}
+
+/// So many characters may be put in at point.
+pub(crate) fn must_take_text(editor: &Editor, n: u128) -> Result<(), Fault>
+    ensures { fault_in result ≡ must_take_text (editor_of editor.now) n }
+{
     let id = editor.current();
     let point = editor.bounds(id).point;
-    must_be_writable(editor.read_only(id), takes_no_text(editor, id, point))
+    must_take(editor, editor.read_only(id), id, point, n)
+}
+
+/// Records of the current buffer may be undone.
+pub(crate) fn must_be_undoable(editor: &Editor) -> Result<(), Fault>
+    ensures { fault_in result ≡ calls.must_be_writable_here (editor_of editor.now) true false }
+{
+    if !is_tested(editor, true) {
+        return Ok(());
+    }
+    must_be_writable(editor.read_only(editor.current()), false)
 }
 
 /// Whether a part of the current buffer has a character that is read-only.

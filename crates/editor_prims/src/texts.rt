@@ -24,9 +24,7 @@ use crate::places::{
     from_of, is_before_text, must_be_accessible, must_be_nil_or_accessible, must_lie_in,
     must_point_somewhere, place, position, spot, to_of,
 };
-use crate::read_only::{
-    is_tested, must_be_writable, must_give_text, must_take_text, takes_no_text,
-};
+use crate::read_only::{must_give_text, must_take, must_take_text};
 use crate::values::{at_place, count, plain, truth};
 use buffer_table::Editor;
 use ek_call::{Fault, Value};
@@ -410,9 +408,7 @@ fn must_take_output(editor: &Editor, id: u32, at: usize, n: u128) -> Result<(), 
         (nat_lt 0 n)) false (calls.takes_no_text (editor_of editor.now) id at) ∷
         room (editor_of editor.now) id n ∷ []) }
 {
-    if is_tested(editor, n > 0) {
-        must_be_writable(false, takes_no_text(editor, id, at))?;
-    }
+    must_take(editor, false, id, at, n)?;
     must_have_room(editor, id, n)
 }
 

@@ -26,6 +26,8 @@ mod nesting;
 #[cfg(test)]
 mod playing;
 #[cfg(test)]
+mod read_only;
+#[cfg(test)]
 mod recording;
 #[cfg(test)]
 mod reentry;

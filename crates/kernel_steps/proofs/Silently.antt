@@ -2,7 +2,7 @@
 use Rattle.std.proofs.Common.{◌≡◌, ℕ, ◌+◌, Bool, true, false, List, [], ◌∷◌, map, length, filter, refl, ap, sym, ◌∙◌, subst, arith}
 use Rattle.std.specs.Prelude.{if◌then◌else◌}
 use Rattle.std.specs.List.{enumerate_from}
-use Rattle.editor_model.specs.Values.{Value, Nil, T, Int, Sym, Str, Items, Dotted, TheBuffer, TheMarker, TheOverlay, TheProcess, Answered, list, Prim, CurrentBuffer, SetBuffer, GetBuffer, GetBufferCreate, GenerateNewBuffer, RenameBuffer, KillBuffer, BufferLiveP, BufferName, BufferList, BufferModifiedP, SetBufferModifiedP, PointAt, PointMin, PointMax, BufferSize, BufferNarrowedP, GotoChar, CharAfter, BufferString, BufferSubstring, BufferSubstringNoProperties, Insert, InsertAndInherit, InsertBeforeMarkers, InsertBeforeMarkersAndInherit, InsertBufferSubstring, DeleteRegion, DeleteAndExtractRegion, EraseBuffer, NarrowToRegion, Widen, MakeMarker, PointMarker, CopyMarker, SetMarker, MarkerPosition, MarkerBuffer, MarkerInsertionType, SetMarkerInsertionType, GetTextProperty, TextPropertiesAt, PutTextProperty, AddTextProperties, RemoveTextProperties, SetTextProperties, NextPropertyChange, NextSinglePropertyChange, PreviousPropertyChange, PreviousSinglePropertyChange, TextPropertyAny, TextPropertyNotAll, MakeOverlay, OverlayStart, OverlayEnd, OverlayBuffer, OverlayPut, OverlayGet, OverlayProperties, MoveOverlay, DeleteOverlay, OverlaysAt, OverlaysIn, GetCharProperty, NextOverlayChange, PreviousOverlayChange, AddHook, RemoveHook, UndoBoundary, UndoStart, UndoMore, BufferUndoList, BufferDisableUndo, BufferEnableUndo, StartProcess, ProcessList, GetProcess, ProcessName, ProcessStatus, ProcessBuffer, ProcessMark, ProcessLiveP, ProcessExitStatus, ProcessFilter, ProcessSentinel, SetProcessFilter, SetProcessSentinel, SetProcessBuffer, ProcessSendString, ProcessSendEof, DeleteProcess, AcceptProcessOutput, SetProcessCodingSystem, ProcessCodingSystem}
+use Rattle.editor_model.specs.Values.{Value, Nil, T, Int, Sym, Str, Items, Dotted, TheBuffer, TheMarker, TheOverlay, TheProcess, Answered, list, Prim, CurrentBuffer, SetBuffer, GetBuffer, GetBufferCreate, GenerateNewBuffer, RenameBuffer, KillBuffer, BufferLiveP, BufferName, BufferList, BufferModifiedP, SetBufferModifiedP, PointAt, PointMin, PointMax, BufferSize, BufferNarrowedP, GotoChar, CharAfter, BufferString, BufferSubstring, BufferSubstringNoProperties, Insert, InsertAndInherit, InsertBeforeMarkers, InsertBeforeMarkersAndInherit, InsertBufferSubstring, DeleteRegion, DeleteAndExtractRegion, EraseBuffer, NarrowToRegion, Widen, MakeMarker, PointMarker, CopyMarker, SetMarker, MarkerPosition, MarkerBuffer, MarkerInsertionType, SetMarkerInsertionType, GetTextProperty, TextPropertiesAt, PutTextProperty, AddTextProperties, RemoveTextProperties, SetTextProperties, NextPropertyChange, NextSinglePropertyChange, PreviousPropertyChange, PreviousSinglePropertyChange, TextPropertyAny, TextPropertyNotAll, MakeOverlay, OverlayStart, OverlayEnd, OverlayBuffer, OverlayPut, OverlayGet, OverlayProperties, MoveOverlay, DeleteOverlay, OverlaysAt, OverlaysIn, GetCharProperty, NextOverlayChange, PreviousOverlayChange, AddHook, RemoveHook, UndoBoundary, UndoStart, UndoMore, BufferUndoList, BufferDisableUndo, BufferEnableUndo, StartProcess, ProcessList, GetProcess, ProcessName, ProcessStatus, ProcessBuffer, ProcessMark, ProcessLiveP, ProcessExitStatus, ProcessFilter, ProcessSentinel, SetProcessFilter, SetProcessSentinel, SetProcessBuffer, ProcessSendString, ProcessSendEof, DeleteProcess, AcceptProcessOutput, SetProcessCodingSystem, ProcessCodingSystem, BufferReadOnlyP, SetBufferReadOnly}
 use Rattle.editor_model.specs.Prims.{ConcernsHandlers, manner_of}
 use Rattle.editor_model.specs.Arguments.{arg, name_of}
 use Rattle.plain_machine.specs.State.{State, Program, Process, process, change_process}
@@ -37,6 +37,8 @@ silent_step program s target rest BufferName args h = refl
 silent_step program s target rest BufferList args h = refl
 silent_step program s target rest BufferModifiedP args h = refl
 silent_step program s target rest SetBufferModifiedP args h = refl
+silent_step program s target rest BufferReadOnlyP args h = refl
+silent_step program s target rest SetBufferReadOnly args h = refl
 silent_step program s target rest PointAt args h = refl
 silent_step program s target rest PointMin args h = refl
 silent_step program s target rest PointMax args h = refl
@@ -137,6 +139,8 @@ set_by_kept BufferName args s = refl
 set_by_kept BufferList args s = refl
 set_by_kept BufferModifiedP args s = refl
 set_by_kept SetBufferModifiedP args s = refl
+set_by_kept BufferReadOnlyP args s = refl
+set_by_kept SetBufferReadOnly args s = refl
 set_by_kept PointAt args s = refl
 set_by_kept PointMin args s = refl
 set_by_kept PointMax args s = refl
@@ -259,6 +263,8 @@ told_by_kept BufferName args s = one_told BufferName args s (λ x. refl)
 told_by_kept BufferList args s = one_told BufferList args s (λ x. refl)
 told_by_kept BufferModifiedP args s = one_told BufferModifiedP args s (λ x. refl)
 told_by_kept SetBufferModifiedP args s = one_told SetBufferModifiedP args s (λ x. refl)
+told_by_kept BufferReadOnlyP args s = one_told BufferReadOnlyP args s (λ x. refl)
+told_by_kept SetBufferReadOnly args s = one_told SetBufferReadOnly args s (λ x. refl)
 told_by_kept PointAt args s = one_told PointAt args s (λ x. refl)
 told_by_kept PointMin args s = one_told PointMin args s (λ x. refl)
 told_by_kept PointMax args s = one_told PointMax args s (λ x. refl)
@@ -369,6 +375,8 @@ set_by_calm BufferName args s kills = calm_as s kills
 set_by_calm BufferList args s kills = calm_as s kills
 set_by_calm BufferModifiedP args s kills = calm_as s kills
 set_by_calm SetBufferModifiedP args s kills = calm_as s kills
+set_by_calm BufferReadOnlyP args s kills = calm_as s kills
+set_by_calm SetBufferReadOnly args s kills = calm_as s kills
 set_by_calm PointAt args s kills = calm_as s kills
 set_by_calm PointMin args s kills = calm_as s kills
 set_by_calm PointMax args s kills = calm_as s kills
@@ -479,6 +487,8 @@ silent_other written.BufferName a b c d e f = tt
 silent_other written.BufferList a b c d e f = tt
 silent_other written.BufferModifiedP a b c d e f = tt
 silent_other written.SetBufferModifiedP a b c d e f = tt
+silent_other written.BufferReadOnlyP a b c d e f = tt
+silent_other written.SetBufferReadOnly a b c d e f = tt
 silent_other written.Point a b c d e f = tt
 silent_other written.PointMin a b c d e f = tt
 silent_other written.PointMax a b c d e f = tt

@@ -7,7 +7,7 @@ use Rattle.text_model.specs.Marks.{Pending, leave_buffer}
 use Rattle.text_model.specs.Undo.{passed, with_boundary, started as start_of, disabled, enabled}
 use Rattle.text_model.specs.Commit.{Buffer, reset, undone_groups}
 use Rattle.text_model.proofs.Cases.{by_test}
-use Rattle.editor_model.specs.Values.{Value, Nil, T, Int, Str, TheBuffer, TheMarker, at_place, Fault, Reply, Answered, Prim, SetBuffer, GetBufferCreate, GenerateNewBuffer, RenameBuffer, SetBufferModifiedP, GotoChar, NarrowToRegion, Widen, MakeMarker, PointMarker, CopyMarker, SetMarker, SetMarkerInsertionType, MakeOverlay, OverlayPut, MoveOverlay, DeleteOverlay, UndoBoundary, UndoStart, BufferDisableUndo, BufferEnableUndo, StartProcess, KillBuffer, SetProcessFilter, SetProcessSentinel, SetProcessBuffer, SetProcessCodingSystem, ProcessSendString, ProcessSendEof, Script}
+use Rattle.editor_model.specs.Values.{Value, Nil, T, Int, Str, TheBuffer, TheMarker, at_place, Fault, Reply, Answered, Prim, SetBuffer, GetBufferCreate, GenerateNewBuffer, RenameBuffer, SetBufferModifiedP, GotoChar, NarrowToRegion, Widen, MakeMarker, PointMarker, CopyMarker, SetMarker, SetMarkerInsertionType, MakeOverlay, OverlayPut, MoveOverlay, DeleteOverlay, UndoBoundary, UndoStart, BufferDisableUndo, BufferEnableUndo, StartProcess, KillBuffer, SetProcessFilter, SetProcessSentinel, SetProcessBuffer, SetProcessCodingSystem, ProcessSendString, ProcessSendEof, Script, SetBufferReadOnly}
 use Rattle.editor_model.specs.Editor.{Editor, Live, live, is_live, find, live_from, scratch, with_buffer, change_site, change_buffer, killed, buffer_at, register, with_register}
 use Rattle.editor_model.specs.Arguments.{arg, flag, string_of, name_of, buffer_of, place, from_of, to_of}
 use Rattle.editor_model.specs.Answers.{first_fault, applied_of, What, Put, Props, UndoGroups, Change}
@@ -39,7 +39,7 @@ use Rattle.machine_laws.proofs.Returning.{goes_well, asks_well}
 use Rattle.machine_laws.proofs.Working.{change_editor}
 use Rattle.machine_laws.proofs.Levels.{exit_of, Above, above, AnswerStays, StepStays, step_stays}
 use Rattle.machine_laws.proofs.CallRuns.{one_deeper, body_inside, ended_editor, left_current, goes_is, never_asks}
-use Rattle.machine_laws.proofs.Lively.{site_current}
+use Rattle.machine_laws.proofs.Lively.{site_current, protected_current}
 use Rattle.machine_laws.proofs.Soundness.{editors_are_sound}
 
 -- EDITORS: which buffer is current, behind each change
@@ -71,6 +71,7 @@ apply_current e GetBufferCreate args h = create_current e (arg args 0)
 apply_current e GenerateNewBuffer args h = of_fault _ e _ _ refl
 apply_current e RenameBuffer args h = of_fault _ e _ _ refl
 apply_current e SetBufferModifiedP args h = buffer_current e.current (λ b. record b { modified = flag (arg args 0) }) e
+apply_current e SetBufferReadOnly args h = protected_current e.current (flag (arg args 0)) e
 apply_current e GotoChar args h = of_fault _ e _ _ (buffer_current e.current (point_at (place e (arg args 0))) e)
 apply_current e NarrowToRegion args h = of_fault _ e _ _ (buffer_current e.current (narrowed (from_of e (arg args 0) (arg args 1)) (to_of e (arg args 0) (arg args 1))) e)
 apply_current e Widen args h = buffer_current e.current widened e

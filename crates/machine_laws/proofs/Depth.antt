@@ -6,7 +6,7 @@ use Rattle.text_model.specs.Characters.{Ch}
 use Rattle.text_model.specs.Codings.{decoded, all_decoded}
 use Rattle.text_model.specs.Marks.{Saved, Excursion, Restriction, Pending}
 use Rattle.text_model.specs.Properties.{Cell}
-use Rattle.editor_model.specs.Values.{Value, Nil, T, Int, ArgsOutOfRange, WrongType, Nesting, at_place, Reply, Answered, Fault, Prim, StartProcess, KillBuffer, SetProcessFilter, SetProcessSentinel, SetProcessBuffer, SetProcessCodingSystem, ProcessSendString, ProcessSendEof, DeleteProcess, AcceptProcessOutput, Form, Forms, NoForms, Then, Do, Setq, In, WhenEq, Block, SaveExcursion, SaveRestriction, SaveCurrentBuffer, InhibitHooks, HandlerDef, equal, Script}
+use Rattle.editor_model.specs.Values.{Value, Nil, T, Int, ArgsOutOfRange, WrongType, Nesting, at_place, Reply, Answered, Fault, Prim, StartProcess, KillBuffer, SetProcessFilter, SetProcessSentinel, SetProcessBuffer, SetProcessCodingSystem, ProcessSendString, ProcessSendEof, DeleteProcess, AcceptProcessOutput, Form, Forms, NoForms, Then, Do, Setq, In, WhenEq, Block, SaveExcursion, SaveRestriction, SaveCurrentBuffer, InhibitHooks, HandlerDef, equal, Script, InhibitReadOnly}
 use Rattle.editor_model.specs.Editor.{register, with_register, is_live, killed}
 use Rattle.editor_model.specs.Arguments.{arg, string_of, buffer_of, must_be_buffer_or_nil, buffer_there}
 use Rattle.editor_model.specs.Answers.{Test, refuse, first_fault}
@@ -16,7 +16,7 @@ use Rattle.editor_model.specs.Prims.{OnlyAsks, SetsState, ChangesText, ConcernsH
 use Rattle.plain_machine.specs.Exchanges.{Ask, Answer, Started, Sent, Broken, Closed, Killed, Bytes, End, Code, Signal, Running, Exchange}
 use Rattle.plain_machine.specs.State.{State, hooks_of, Program, Process, Status, Runs, Exited, Signalled, Lost, process, change_process, read_so_far}
 use Rattle.plain_machine.specs.Lines.{Kind, KilledLast, OfBefore, OfAfter, OfFilter, OfSentinel}
-use Rattle.plain_machine.specs.Items.{Item, Top, Body, DoForm, MakeCall, Leave, GiveAnswer, Refuse, MakeChange, Hooks, Calm, CommitChange, Enter, Native, Called, Exit, Wait, Delete, Finish, WriteDump, Target, Nowhere, ToName, ToNative, Kept, KeptExcursion, KeptRestriction, KeptBuffer, KeptInhibition, Waiting, Config, Said, Next, Step, Goes, Asks, Ended}
+use Rattle.plain_machine.specs.Items.{Item, Top, Body, DoForm, MakeCall, Leave, GiveAnswer, Refuse, MakeChange, Hooks, Calm, CommitChange, Enter, Native, Called, Exit, Wait, Delete, Finish, WriteDump, Target, Nowhere, ToName, ToNative, Kept, KeptExcursion, KeptRestriction, KeptBuffer, KeptInhibition, Waiting, Config, Said, Next, Step, Goes, Asks, Ended, KeptLifting}
 use Rattle.plain_machine.specs.Calls.{silent, on, answered, unless, call, process_effect, spawned, started, is_new_child, sent_answer, closed_answer, with_input_closed, with_filter, with_sentinel, of_buffer, process_buffer, send, send_eof, change_call, with_editor, call_by, spawned_child, unless_fault, with_coding}
 use Rattle.plain_machine.specs.Refusals.{process_tests, may_ask, must_be_replaceable, must_be_process, must_be_process_or_nil, process_there, must_nest, only_where, is_rounds, rounds_of, most_rounds}
 use Rattle.plain_machine.specs.Arguments.{process_of, filter_of, sentinel_of, child_of, is_closed, is_running, encoded, handler_def, running_in, runs, coding_of}
@@ -49,6 +49,7 @@ restored_deep KeptExcursion s = pop_deep s
 restored_deep KeptRestriction s = pop_deep s
 restored_deep (KeptBuffer b) s = live_deep s b _ refl
 restored_deep (KeptInhibition old) s = refl
+restored_deep (KeptLifting old) s = refl
 
 assigned_deep : (name : ℕ) (v : Value) (s : State) → (assigned name v s).depth ≡ s.depth
 assigned_deep name v s = (elim (register (scope_of s) name) as (λ o. let k : State = elim o [ Some old ↦ record s { scopes = with_register name v (scope_of s) ∷ drop 1 s.scopes } | None ↦ record s { editor = record s.editor { registers = with_register name v s.editor.registers } } ] in k.depth ≡ s.depth) [ Some old ↦ refl | None ↦ refl ])
@@ -128,6 +129,7 @@ fits_true bound i d (Leave (KeptInhibition old) ∷ work) h = (room_true bound i
 fits_true bound i d (Leave KeptExcursion ∷ work) h = (room_true bound i d h.0, tt, fits_true bound i d work h.2)
 fits_true bound i d (Leave KeptRestriction ∷ work) h = (room_true bound i d h.0, tt, fits_true bound i d work h.2)
 fits_true bound i d (Leave (KeptBuffer b) ∷ work) h = (room_true bound i d h.0, tt, fits_true bound i d work h.2)
+fits_true bound i d (Leave (KeptLifting old) ∷ work) h = (room_true bound i d h.0, tt, fits_true bound i d work h.2)
 fits_true bound i d (Exit kind handler c faulted ∷ work) h = (room_true bound i d h.0, tt, fits_true bound i (d - 1) work h.2)
 fits_true bound i d (item ∷ work) h = (room_true bound i d h.0, h.1, fits_true bound i d work h.2)
 
@@ -233,6 +235,7 @@ module _ (program : Program) (bound : ℕ) where
     body_does SaveExcursion forms = whole (q, tt, (q, tt, r))
     body_does SaveRestriction forms = whole (q, tt, (q, tt, r))
     body_does SaveCurrentBuffer forms = whole (q, tt, (q, tt, r))
+    body_does InhibitReadOnly forms = whole (q, tt, (q, tt, r))
     body_does InhibitHooks forms = let t : Room bound true s.depth = room_true bound s.inhibited s.depth q in whole (t, tt, (t, tt, r))
 
     evaluated_does : (o : Option (List Value)) (prim : Prim) (target : Target) → Does (call_with o prim target s rest)

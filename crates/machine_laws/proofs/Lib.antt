@@ -37,6 +37,7 @@ pub mod Tests
 pub mod Basics
 pub mod Bounded
 pub mod Rounds
+pub mod Lifted
 pub mod LevelStates
 pub mod Levels
 pub mod Bracketing

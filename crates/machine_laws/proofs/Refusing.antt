@@ -5,7 +5,7 @@ use Rattle.std.specs.Prelude.{Option, Some, None, slice_set, drop}
 use Rattle.std.proofs.lemmas.Option.{same_Some, none-some}
 use Rattle.text_model.specs.Characters.{Ch}
 use Rattle.text_model.specs.Marks.{Pending}
-use Rattle.editor_model.specs.Values.{Value, Nil, Int, Str, TheMarker, TheBuffer, Fault, VoidVariable, ExchangesSpent, BrokenPipe, SpawnFailed, at_place, Reply, Answered, Prim, Do, Setq, SetBuffer, GetBufferCreate, GenerateNewBuffer, RenameBuffer, SetBufferModifiedP, GotoChar, NarrowToRegion, Widen, MakeMarker, PointMarker, CopyMarker, SetMarker, SetMarkerInsertionType, MakeOverlay, OverlayPut, MoveOverlay, DeleteOverlay, UndoBoundary, UndoStart, BufferDisableUndo, BufferEnableUndo, StartProcess, KillBuffer, ProcessSendString, ProcessSendEof, AcceptProcessOutput}
+use Rattle.editor_model.specs.Values.{Value, Nil, Int, Str, TheMarker, TheBuffer, Fault, VoidVariable, ExchangesSpent, BrokenPipe, SpawnFailed, at_place, Reply, Answered, Prim, Do, Setq, SetBuffer, GetBufferCreate, GenerateNewBuffer, RenameBuffer, SetBufferModifiedP, SetBufferReadOnly, GotoChar, NarrowToRegion, Widen, MakeMarker, PointMarker, CopyMarker, SetMarker, SetMarkerInsertionType, MakeOverlay, OverlayPut, MoveOverlay, DeleteOverlay, UndoBoundary, UndoStart, BufferDisableUndo, BufferEnableUndo, StartProcess, KillBuffer, ProcessSendString, ProcessSendEof, AcceptProcessOutput}
 use Rattle.editor_model.specs.Editor.{Editor, is_live, find}
 use Rattle.editor_model.specs.Arguments.{arg, string_of, buffer_of, name_of}
 use Rattle.editor_model.specs.Answers.{first_fault, Applied, applied_of, Prepared, Changes, Quiet, Nothing, Barred, Change, Committed, Done, Failed}
@@ -125,6 +125,7 @@ apply_leaves e GetBufferCreate args = create_leaves e (arg args 0)
 apply_leaves e GenerateNewBuffer args = of_fault _ e _ _
 apply_leaves e RenameBuffer args = of_fault _ e _ _
 apply_leaves e SetBufferModifiedP args = λ f h. cc
+apply_leaves e SetBufferReadOnly args = λ f h. cc
 apply_leaves e GotoChar args = of_fault _ e _ _
 apply_leaves e NarrowToRegion args = of_fault _ e _ _
 apply_leaves e Widen args = λ f h. cc

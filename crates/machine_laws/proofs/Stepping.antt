@@ -11,7 +11,7 @@ use Rattle.text_model.proofs.Cases.{by_test}
 use Rattle.machine_laws.specs.Fits.{KeptFits, SavedFits}
 use Rattle.machine_laws.specs.Brackets.{shape, shapes}
 use Rattle.machine_laws.proofs.Changes.{ordered-append}
-use Rattle.editor_model.specs.Values.{Value, Nil, T, Int, ExchangesSpent, at_place, Reply, Answered, Fault, Prim, AddHook, RemoveHook, KillBuffer, StartProcess, SetProcessFilter, SetProcessSentinel, SetProcessBuffer, SetProcessCodingSystem, ProcessSendString, ProcessSendEof, DeleteProcess, AcceptProcessOutput, Form, Forms, NoForms, Then, Do, Setq, In, WhenEq, Block, SaveExcursion, SaveRestriction, SaveCurrentBuffer, InhibitHooks, HandlerDef, equal}
+use Rattle.editor_model.specs.Values.{Value, Nil, T, Int, ExchangesSpent, at_place, Reply, Answered, Fault, Prim, AddHook, RemoveHook, KillBuffer, StartProcess, SetProcessFilter, SetProcessSentinel, SetProcessBuffer, SetProcessCodingSystem, ProcessSendString, ProcessSendEof, DeleteProcess, AcceptProcessOutput, Form, Forms, NoForms, Then, Do, Setq, In, WhenEq, Block, SaveExcursion, SaveRestriction, SaveCurrentBuffer, InhibitHooks, HandlerDef, equal, InhibitReadOnly}
 use Rattle.editor_model.specs.Editor.{Editor, Live, live, is_live, here, killed, register, with_register, with_buffer, with_marker}
 use Rattle.editor_model.specs.Answers.{Test, first_fault, Change, Prepared, Changes, Quiet, Nothing, Barred, Commit, Done, Failed}
 use Rattle.editor_model.specs.Arguments.{arg, string_of, name_of, buffer_of}
@@ -26,11 +26,11 @@ use Rattle.machine_laws.proofs.Settling.{Settles, settles_self, settles_advances
 use Rattle.plain_machine.specs.Exchanges.{Answer, Started, Bytes, End, Code, Signal, Running, Sent, Broken, Closed, Killed}
 use Rattle.plain_machine.specs.State.{State, hooks_of, Program, Process, Status, Runs, Signalled, process, change_process, read_so_far}
 use Rattle.plain_machine.specs.Lines.{Kind, KilledLast, OfBefore, OfAfter, OfFilter, OfSentinel}
-use Rattle.plain_machine.specs.Items.{Item, Top, Body, DoForm, MakeCall, Leave, GiveAnswer, Refuse, MakeChange, Hooks, Calm, CommitChange, Enter, Native, Called, Exit, Wait, Delete, Finish, WriteDump, Target, Nowhere, ToName, ToNative, KeptExcursion, KeptRestriction, KeptBuffer, KeptInhibition, Waiting, Config, Next, Step, Goes, Asks, Ended}
+use Rattle.plain_machine.specs.Items.{Item, Top, Body, DoForm, MakeCall, Leave, GiveAnswer, Refuse, MakeChange, Hooks, Calm, CommitChange, Enter, Native, Called, Exit, Wait, Delete, Finish, WriteDump, Target, Nowhere, ToName, ToNative, KeptExcursion, KeptRestriction, KeptBuffer, KeptInhibition, KeptLifting, Waiting, Config, Next, Step, Goes, Asks, Ended}
 use Rattle.plain_machine.specs.Refusals.{process_tests, may_ask, must_be_replaceable}
 use Rattle.plain_machine.specs.Arguments.{process_of, filter_of, sentinel_of, child_of, is_closed, encoded, handler_def, native_from, running_in, is_new_name, coding_of}
 use Rattle.plain_machine.specs.Calls.{on, answered, unless, call, process_effect, with_filter, with_sentinel, of_buffer, process_buffer, with_process_buffer, is_new_child, started, spawned, send, sent_answer, send_eof, closed_answer, with_input_closed, change_call, with_editor, call_by, end_of, spawned_child, unless_fault, with_coding}
-use Rattle.plain_machine.specs.Forms.{says, with_saved, saved_of, if_live, current, restored, evaluate, do_form, block, bounds_kept, assigned, scope_of, kept_reply, give, make_change, commit_change, at_kept, popped, bracket, after_commit, when_eq, call_with}
+use Rattle.plain_machine.specs.Forms.{says, with_saved, saved_of, if_live, current, restored, evaluate, do_form, block, bounds_kept, assigned, scope_of, kept_reply, give, make_change, commit_change, at_kept, popped, bracket, after_commit, when_eq, call_with, lifting}
 use Rattle.plain_machine.specs.Handling.{plain_text, second, sentinel_words, bound_params, unlisted, body_of, default_handler, put_in, output_in, put_output, process_buffer_of, mark_of_process, native, native_call, left_state, ended_handler, without_hooks_item, named_body, native_next, where_live}
 use Rattle.plain_machine.specs.Waits.{ask_process, read_answer, end_answer, drain, entry_of, asked_more, more_characters, is_room, counts, target_is_eligible, from_eligible, eligible, delete, kill_answer, ends, exit_text, kill_at_end, finish, wait, ask_if, ask_next, delete_one, delete_running, finish_one, finish_running, kill_live, wait_case, hear}
 use Rattle.plain_machine.specs.Step.{step, item_step}
@@ -190,6 +190,7 @@ block_well : (k : Block) (forms : Forms) (s : State) (rest : List Item) → Read
 block_well SaveExcursion forms s rest r = pushed_well s (Excursion s.editor.current (here s.editor).point) (Body forms ∷ Leave KeptExcursion ∷ rest) r.editor (λ id. point_fits s id r.editor) (tt, (tt, r.fine)) r.stacked
 block_well SaveRestriction forms s rest r = pushed_well s (Restriction s.editor.current (bounds_kept (here s.editor))) (Body forms ∷ Leave KeptRestriction ∷ rest) r.editor (λ id. bounds_fit s id r.editor) (tt, (tt, r.fine)) r.stacked
 block_well SaveCurrentBuffer forms s rest r = well_same s s (Body forms ∷ Leave (KeptBuffer s.editor.current) ∷ rest) r.editor refl (tt, (tt, r.fine)) r.stacked
+block_well InhibitReadOnly forms s rest r = well_settled s.editor (lifting true s) (Body forms ∷ Leave (KeptLifting s.editor.lifted) ∷ rest) r.editor (marks_settle s.editor (lifting true s).editor r.editor refl (λ id m. m)) (tt, (tt, r.fine)) r.stacked
 block_well InhibitHooks forms s rest r = well_same s (record s { inhibited = true }) (Body forms ∷ Leave (KeptInhibition s.inhibited) ∷ rest) r.editor refl (tt, (tt, r.fine)) r.stacked
 
 pair_well : (s : State) (rest : List Item) (o : Option (List Value)) (forms : Forms) → Ready s rest → StepWell s (when_eq o forms s rest)

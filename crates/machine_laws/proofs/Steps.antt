@@ -6,7 +6,7 @@ use Rattle.std.specs.List.{list_any}
 use Rattle.text_model.specs.Characters.{Ch}
 use Rattle.text_model.specs.Codings.{Coding, decoded, all_decoded}
 use Rattle.text_model.specs.Properties.{Cell, bare}
-use Rattle.editor_model.specs.Values.{Value, T, Int, at_place, Reply, Answered, Fault, Prim, StartProcess, KillBuffer, ProcessSendString, ProcessSendEof, DeleteProcess, Form, Forms, NoForms, Then, Do, Setq, In, WhenEq, Block, SaveExcursion, SaveRestriction, SaveCurrentBuffer, InhibitHooks, HandlerDef, equal}
+use Rattle.editor_model.specs.Values.{Value, T, Int, at_place, Reply, Answered, Fault, Prim, StartProcess, KillBuffer, ProcessSendString, ProcessSendEof, DeleteProcess, Form, Forms, NoForms, Then, Do, Setq, In, WhenEq, Block, SaveExcursion, SaveRestriction, SaveCurrentBuffer, InhibitHooks, InhibitReadOnly, HandlerDef, equal}
 use Rattle.editor_model.specs.Editor.{is_live, killed}
 use Rattle.editor_model.specs.Arguments.{arg, string_of, buffer_of}
 use Rattle.editor_model.specs.Answers.{Test, first_fault}
@@ -222,6 +222,7 @@ block_does SaveExcursion forms s rest r = ((tt, (tt, r)), tt)
 block_does SaveRestriction forms s rest r = ((tt, (tt, r)), tt)
 block_does SaveCurrentBuffer forms s rest r = ((tt, (tt, r)), tt)
 block_does InhibitHooks forms s rest r = ((tt, (tt, r)), tt)
+block_does InhibitReadOnly forms s rest r = ((tt, (tt, r)), tt)
 
 pair_does : (s : State) (rest : List Item) (o : Option (List Value)) (forms : Forms) → AllPlain rest → Does s (when_eq o forms s rest)
 pair_does s rest None forms r = ((tt, r), tt)

@@ -214,8 +214,8 @@ pub fn undo_returns()
 // BRACKETS
 
 /// Whenever a run comes to the forms of the top level, the depth is 0, there are no scopes and no
-/// kept places, and hooks aren't inhibited: no handler, no block and no change has left anything
-/// over.
+/// kept places, hooks aren't inhibited, and what is read-only counts as that: no handler, no block
+/// and no change has left anything over.
 #[tactic(auto, using(crate::proofs::Bracketing::top_is_clear))]
 pub fn nothing_is_left_at_the_top()
     ensures { (program : Program) (bound : ℕ) (script : Script) →
@@ -223,8 +223,8 @@ pub fn nothing_is_left_at_the_top()
 {}
 
 /// Behind a call, answered or refused, whatever handlers ran in it: as many handlers run as before,
-/// there are as many scopes, hooks are inhibited or not as before, and the same places are kept
-/// below. The buffer that was current is so again, unless it was killed, or the call names one.
+/// there are as many scopes, hooks are inhibited or not as before, so are the tests for what is
+/// read-only lifted, and the same places are kept below. The buffer that was current is so again, unless it was killed, or the call names one.
 pub fn calls_bracket()
     ensures { (program : Program) (bound : ℕ) (script : Script) →
         CallsBracket program bound (start script) }

@@ -13,7 +13,7 @@ struct Case {
     fault: Option<u32>,
 }
 
-const CASES: [Case; 69] = [
+const CASES: [Case; 70] = [
     Case {
         bytes: b"",
         fault: None,
@@ -174,6 +174,10 @@ const CASES: [Case; 69] = [
     Case {
         bytes: b"(point)\n(inhibit-hooks (poin))",
         fault: Some(2),
+    },
+    Case {
+        bytes: b"(inhibit-read-only (set-buffer-read-only t)\n(buffer-read-only-p))\n(inhibit-read-only (poin))",
+        fault: Some(3),
     },
     Case {
         bytes: b"(point)\n(setq a (poin))\n",

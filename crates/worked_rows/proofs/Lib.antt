@@ -1,5 +1,6 @@
 pub mod TextRows
 pub mod PropertyRows
+pub mod ReadOnlyRows
 pub mod OverlayRows
 pub mod UndoRows
 pub mod HookRows

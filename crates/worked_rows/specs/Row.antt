@@ -75,6 +75,9 @@ before_change_functions = 4
 abbrev pub after_change_functions : ℕ
 after_change_functions = 5
 
+abbrev pub read_only : ℕ
+read_only = 10
+
 -- EXCHANGES
 abbrev pub spawned : (program : List ℕ) → (args : List (List ℕ)) → (child : ℕ) → Exchange
 spawned program args child = record { ask = Ask.Spawn program args; answer = Answer.Started child }

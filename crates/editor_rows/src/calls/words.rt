@@ -16,6 +16,8 @@ pub const FRONT_STICKY: Word = Word::Sym(0);
 
 pub const PRIORITY: Word = Word::Sym(3);
 
+pub const READ_ONLY: Word = Word::Sym(10);
+
 pub const REAR_NONSTICKY: Word = Word::Sym(1);
 
 /// The names of the symbols by their numbers. The last three are those of these tests.
