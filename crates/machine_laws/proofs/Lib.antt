@@ -18,6 +18,7 @@ pub mod Moves
 pub mod Steps
 pub mod Traced
 pub mod Heard
+pub mod Coded
 pub mod Weights
 pub mod Falling
 pub mod Stopping

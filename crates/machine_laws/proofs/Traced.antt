@@ -361,7 +361,7 @@ hears_traced xs said cs p x k bytes may t g live undrained =
     let h : HoldsAt xs said Nobody p x = t.each p x g in
     let own : (x.child == x.child) ≡ true = is_same x.child x.child refl in
     let before : entered p said ≡ decoded k (so_far x) =
-        sym (append-nil (entered p said)) ∙ (h.text ∙ (ap (λ b. if b then all_decoded x.coding (so_far x) else decoded x.coding (so_far x)) undrained ∙ (same_decoded x.bytes x.coding k may).0)) in
+    sym (append-nil (entered p said)) ∙ (h.text ∙ (ap (λ b. if b then all_decoded x.coding (so_far x) else decoded x.coding (so_far x)) undrained ∙ (same_decoded x.bytes x.coding k may).0)) in
     set_traced xs (record { ask = Read x.child; answer = Bytes bytes } ∷ []) said cs p x x' g (output_of p text) t refl
     (λ c n. (read_more c xs (Read x.child) (Bytes bytes) ∙ (ap (λ b. read c xs ++ (if b then bytes else [])) (other_is x.child c n) ∙ append-nil (read c xs)), ended_more c xs (Read x.child) (Bytes bytes) ∙ or_nil (output_ended c xs)))
     (λ q n. other_text p q text n)
@@ -387,7 +387,7 @@ drains_traced xs said cs p x k answer may last t g live undrained =
     let own : (x.child == x.child) ≡ true = is_same x.child x.child refl in
     let same : (decoded x.coding (so_far x) ≡ decoded k (so_far x)) × (all_decoded x.coding (so_far x) ≡ all_decoded k (so_far x)) = same_decoded x.bytes x.coding k may in
     let before : entered p said ≡ decoded k (so_far x) =
-        sym (append-nil (entered p said)) ∙ (h.text ∙ (ap (λ b. if b then all_decoded x.coding (so_far x) else decoded x.coding (so_far x)) undrained ∙ same.0)) in
+    sym (append-nil (entered p said)) ∙ (h.text ∙ (ap (λ b. if b then all_decoded x.coding (so_far x) else decoded x.coding (so_far x)) undrained ∙ same.0)) in
     let l : (c : ℕ) → (read_bytes c (Read x.child) answer ≡ []) × (is_end c (Read x.child) answer ≡ (x.child == c)) = λ c. last_is c x.child answer last in
     set_traced xs (record { ask = Read x.child; answer = answer } ∷ []) said cs p x x' g (output_of p text) t refl
     (λ c n. (read_more c xs (Read x.child) answer ∙ (ap (λ t. read c xs ++ t) (l c).0 ∙ append-nil (read c xs)), ended_more c xs (Read x.child) answer ∙ (ap (λ b. output_ended c xs || b) ((l c).1 ∙ other_is x.child c n) ∙ or_nil (output_ended c xs))))

@@ -70,6 +70,12 @@ EntriesOfChildren program bound from =
     (exchanges : List Exchange) (said : List Said) (c : Config) → Reaches program bound from exchanges said c → IsBetweenEntries c →
     (p child : ℕ) → slice_get (children_started exchanges) p ≡ Some child → entered p said ≡ heard (coding_in c.state p) child exchanges
 
+-- once bytes were read of a process its coding stays
+abbrev pub CodingsStay : Program → ℕ → Config → Type 0
+CodingsStay program bound from =
+    (before after : List Exchange) (said more : List Said) (c d : Config) → Reaches program bound from before said c → Reaches program bound c after more d →
+    (p : ℕ) (x : Process) → process c.state p ≡ Some x → (read x.child before ≡ [] → ⊥) → (y : Process) × (process d.state p ≡ Some y) × (y.coding ≡ x.coding)
+
 -- at most one sentinel entry, and no filter entry of the process after it
 abbrev pub Sentinels : Program → ℕ → Config → Type 0
 Sentinels program bound from =
