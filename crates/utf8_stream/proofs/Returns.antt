@@ -1,15 +1,16 @@
 -- Steps of decoding with the line ends of DOS, and how many characters come of so many bytes.
 use Rattle.std.proofs.Common.{◌≡◌, ℕ, zero, suc, ◌+◌, ◌-◌, ◌<◌, ◌≤◌, ◌⊎◌, inl, inr, Bool, true, false, ◌&&◌, ◌==◌, map, List, [], ◌∷◌, ◌++◌, length, take, drop, slice_index, refl, ap, sym, ◌∙◌, subst, arith, length-append}
+use Rattle.std.specs.Prelude.{not}
 use Rattle.std.proofs.lemmas.Bool.Decides.{nat_tests}
 use Rattle.std.proofs.lemmas.List.{length-map}
 use Rattle.text_model.specs.Characters.{Ch, Scalar, Raw}
 use Rattle.text_model.specs.Decoding.{Front, Whole, Part, Neither, front, scalar_of, characters_after, tail_after, characters, tail}
-use Rattle.text_model.specs.Codings.{Coding, Utf8, Utf8Dos, Latin1, is_return, begins_with_feed, with_feeds, ends_in_return, without_last, settled, decoded, undecoded}
+use Rattle.text_model.specs.Codings.{Coding, Utf8, Utf8Dos, Latin1, is_return, begins_with_feed, with_feeds, ends_in_return, without_last, settled, decoded, undecoded, all_decoded}
 use Rattle.text_model.proofs.Decodings.{characters-whole, characters-part, characters-neither, tail-whole, tail-part, tail-neither}
 use Rattle.text_model.proofs.Ascii.{front_whole, front_part}
 use Rattle.text_model.proofs.Codings.{kept_if, left_of, with_return, settled_append, ends_more, no_feed_first, no_feed_settled}
 use Rattle.utf8_stream.specs.Returns.{is_lone_return, begins_by_feed, before_feed}
-use Rattle.utf8_stream.proofs.Tails.{append_none, tail_room, none_of}
+use Rattle.utf8_stream.proofs.Tails.{append_none, tail_room, none_of, all_of_tail}
 use Rattle.utf8_stream.proofs.Steps.{cut, cut_length, whole_first, whole_rest}
 
 -- HOW MANY
@@ -109,6 +110,10 @@ ends_from (suc n) (b ∷ x) h = by x (ends_from n x h) h
 all_dropped : (n : ℕ) (x : List ℕ) → length (drop n x) ≡ 0 → drop n x ≡ []
 all_dropped n x e = none_of (drop n x) e
 
+some_behind : (a : List Ch) → [] ≡ a ++ Scalar 13 ∷ [] → ⊥
+some_behind [] e = cc
+some_behind (c ∷ a) e = cc
+
 -- one whole sequence that is all there is ends in no carriage return, where it isn't one
 lone_end : (x s : List ℕ) (c : ℕ) → front x ≡ Whole s → scalar_of s ≡ c → characters x ≡ Scalar c ∷ [] → is_lone_return x ≡ false → ends_in_return x ≡ false
 lone_end [] s c f v w l = refl
@@ -132,7 +137,7 @@ lone_end (b ∷ d ∷ x) s c f v w l = by (ends_in_return (b ∷ d ∷ x)) refl
         wrong (inl h) =
             let more : characters (b ∷ d ∷ x) ≡ Scalar (scalar_of s) ∷ characters (d ∷ x) = characters-whole b (d ∷ x) s f ∙ ap (λ s. Scalar (scalar_of s) ∷ characters_after (Rattle.text_model.specs.Decoding.following s) (d ∷ x)) h.0 ∙ ap (λ s. Scalar (scalar_of s) ∷ characters (d ∷ x)) (sym h.0) in
             let none : characters (d ∷ x) ≡ [] = cc in
-            cc
+            some_behind (without_last (characters (d ∷ x))) (sym none ∙ (with_return (d ∷ x) k).0)
 
 module _ (x : List ℕ) where
   abbrev from : ℕ → List ℕ
@@ -166,6 +171,10 @@ dos_neither (b ∷ x) h f k =
     by [] = grind (arith, nat_tests)
     by (d ∷ y) = refl
 
+pub not_lone : (answer lone : Bool) → answer ≡ lone → not answer ≡ true → lone ≡ false
+not_lone true lone e h = cc
+not_lone false lone e h = sym e
+
 pub dos_part : (x : List ℕ) → front x ≡ Part → (decoded Utf8Dos x ≡ []) × (undecoded Utf8Dos x ≡ x)
 dos_part [] f = (refl, refl)
 dos_part (b ∷ x) f = by (ends_in_return (b ∷ x)) refl
@@ -178,3 +187,34 @@ pub dos_lone : (x : List ℕ) → is_lone_return x ≡ true → (decoded Utf8Dos
 dos_lone [] h = cc
 dos_lone (b ∷ []) h = let same : b ≡ 13 = grind (arith, nat_tests) in subst (λ n. (decoded Utf8Dos (n ∷ []) ≡ []) × (undecoded Utf8Dos (n ∷ []) ≡ n ∷ [])) (sym same) (refl, refl)
 dos_lone (b ∷ d ∷ x) h = cc
+
+-- WHAT IS HELD
+-- a carriage return that is held is all that is held
+pub held_return : (c : Coding) (h : List ℕ) → undecoded c h ≡ h → ends_in_return h ≡ true → h ≡ 13 ∷ []
+held_return Utf8 h e k = let none : h ≡ [] = sym e ∙ (with_return h k).1 in let wrong : false ≡ true = ap ends_in_return (sym none) ∙ k in cc
+held_return Utf8Dos h e k = sym e ∙ ap (λ b. left_of b (tail h)) k
+held_return Latin1 h e k = let wrong : false ≡ true = ap ends_in_return e ∙ k in cc
+
+pub no_return : (c : Coding) (h : List ℕ) → undecoded c h ≡ h → (length h ≡ 1 → ⊥) → ends_in_return h ≡ false
+no_return c h e other = by (ends_in_return h) refl
+  where
+    by : (b : Bool) → ends_in_return h ≡ b → ends_in_return h ≡ false
+    by false k = k
+    by true k = absurd (other (ap length (held_return c h e k)))
+
+-- of anything else that is held all characters are raw
+raw_feeds : (x : List ℕ) → with_feeds (map Raw x) ≡ map Raw x
+raw_feeds [] = refl
+raw_feeds (b ∷ x) = ap (λ cs. Raw b ∷ cs) (raw_feeds x)
+
+pub raw_held : (c : Coding) (h : List ℕ) → undecoded c h ≡ h → ends_in_return h ≡ false → all_decoded c h ≡ map Raw h
+raw_held Utf8 h e k = all_of_tail h e
+raw_held Utf8Dos h e k =
+    let is_tail : tail h ≡ h = sym (ap (λ b. left_of b (tail h)) k) ∙ e in
+    ap with_feeds (all_of_tail h is_tail) ∙ raw_feeds h
+raw_held Latin1 h e k = ap (map Scalar) (sym e) ∙ ap (map Raw) e
+
+pub held_tail : (c : Coding) (h : List ℕ) → undecoded c h ≡ h → ends_in_return h ≡ false → tail h ≡ h
+held_tail Utf8 h e k = e
+held_tail Utf8Dos h e k = sym (ap (λ b. left_of b (tail h)) k) ∙ e
+held_tail Latin1 h e k = ap tail (sym e) ∙ e

@@ -1,5 +1,5 @@
 //! The decoder, which holds what it can't decode yet between two pieces.
-ghost use Rattle.std.specs.Prelude.{◌≡◌, ◌+◌, ◌≤◌, [], ◌∷◌, ◌++◌, length};
+ghost use Rattle.std.specs.Prelude.{◌≡◌, ◌+◌, ◌≤◌, [], ◌∷◌, ◌++◌, length, false};
 ghost use Rattle.text_model.specs.Codings.{Utf8, decoded, undecoded, all_decoded, ends_in_return};
 ghost use Rattle.utf8_stream.specs.Codings.{coding_of};
 

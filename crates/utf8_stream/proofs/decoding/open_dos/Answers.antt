@@ -1,9 +1,10 @@
 use Rattle.std.proofs.Common.{◌≡◌, ◌+◌, ◌-◌, ◌≤◌, ◌++◌, ◌∷◌, ◌∙◌, ap, sym, length, take, drop, slice_index, append_assoc, length-append, arith}
 use Rattle.text_model.specs.Characters.{Scalar, Raw}
 use Rattle.text_model.specs.Codings.{Utf8Dos, decoded}
-use Rattle.utf8_stream.specs.Returns.{before_feed}
+use Rattle.std.proofs.Common.{false}
+use Rattle.utf8_stream.specs.Returns.{before_feed, is_lone_return}
 use Rattle.utf8_stream.proofs.Steps.{cut_length, put_first}
-use Rattle.utf8_stream.proofs.Returns.{before_length, dos_whole, dos_neither}
+use Rattle.utf8_stream.proofs.Returns.{before_length, not_lone, dos_whole, dos_neither}
 use Rattle.utf8_stream.proofs.decoding.open_dos.Goals as goal
 
 pub loop-c-preserved-in-Whole : goal.loop-c-preserved-in-Whole
@@ -12,7 +13,8 @@ loop-c-preserved-in-Whole c =
     let n = c.in-Whole.count in
     let read = c.in-Whole.ensures.encodes in
     let y = take (length x - n) (drop n x) in
-    let step = dos_whole x n c.in-Whole.c c.in-Whole.ensures.front read.0 read.1 read.2 c.if-loop-c.lone in
+    let lone : is_lone_return x ≡ false = not_lone c.is_return.result (is_lone_return x) c.is_return.ensures c.if-not-is_return.true in
+    let step = dos_whole x n c.in-Whole.c c.in-Whole.ensures.front read.0 read.1 read.2 lone in
     let first = before_feed (Scalar c.in-Whole.c) y in
     let count : length (decoded Utf8Dos x) ≡ length first + length (decoded Utf8Dos y) = ap length step.0 ∙ length-append first (decoded Utf8Dos y) in
     let shorter : length y ≡ length x - n = cut_length n x in
