@@ -1,6 +1,5 @@
 -- Steps of decoding with the line ends of DOS, and how many characters come of so many bytes.
 use Rattle.std.proofs.Common.{◌≡◌, ℕ, zero, suc, ◌+◌, ◌-◌, ◌<◌, ◌≤◌, ◌⊎◌, inl, inr, Bool, true, false, ◌&&◌, ◌==◌, map, List, [], ◌∷◌, ◌++◌, length, take, drop, slice_index, refl, ap, sym, ◌∙◌, subst, arith, length-append}
-use Rattle.std.specs.Prelude.{not}
 use Rattle.std.proofs.lemmas.Bool.Decides.{nat_tests}
 use Rattle.std.proofs.lemmas.List.{length-map}
 use Rattle.text_model.specs.Characters.{Ch, Scalar, Raw}
@@ -171,10 +170,6 @@ dos_neither (b ∷ x) h f k =
     by [] = grind (arith, nat_tests)
     by (d ∷ y) = refl
 
-pub not_lone : (answer lone : Bool) → answer ≡ lone → not answer ≡ true → lone ≡ false
-not_lone true lone e h = cc
-not_lone false lone e h = sym e
-
 pub dos_part : (x : List ℕ) → front x ≡ Part → (decoded Utf8Dos x ≡ []) × (undecoded Utf8Dos x ≡ x)
 dos_part [] f = (refl, refl)
 dos_part (b ∷ x) f = by (ends_in_return (b ∷ x)) refl
@@ -218,3 +213,11 @@ pub held_tail : (c : Coding) (h : List ℕ) → undecoded c h ≡ h → ends_in_
 held_tail Utf8 h e k = e
 held_tail Utf8Dos h e k = sym (ap (λ b. left_of b (tail h)) k) ∙ e
 held_tail Latin1 h e k = ap tail (sym e) ∙ e
+
+pub lone_decoded : (c : Coding) (h : List ℕ) → h ≡ 13 ∷ [] → all_decoded c h ≡ Scalar 13 ∷ []
+lone_decoded c h e = ap (all_decoded c) e ∙ by c
+  where
+    by : (c : Coding) → all_decoded c (13 ∷ []) ≡ Scalar 13 ∷ []
+    by Utf8 = refl
+    by Utf8Dos = refl
+    by Latin1 = refl

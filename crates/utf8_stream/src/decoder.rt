@@ -1,5 +1,5 @@
 //! The decoder, which holds what it can't decode yet between two pieces.
-ghost use Rattle.std.specs.Prelude.{◌≡◌, ◌+◌, ◌≤◌, [], ◌∷◌, ◌++◌, length, false};
+ghost use Rattle.std.specs.Prelude.{◌≡◌, ◌+◌, ◌≤◌, [], ◌∷◌, ◌++◌, length, false, true};
 ghost use Rattle.text_model.specs.Codings.{Utf8, decoded, undecoded, all_decoded, ends_in_return};
 ghost use Rattle.utf8_stream.specs.Codings.{coding_of};
 
@@ -98,17 +98,28 @@ impl Decoder {
             out.old.spare }
         ensures held { self.new ≡ record self.old { bytes = [] } }
     {
+        self.put_held(out);
+        self.count = 0;
+    }
+
+    /// Appends all characters of the bytes held.
+    fn put_held(&self, out: &mut Chars)
+        requires { length self.now.bytes ≤ out.old.spare }
+        ensures items { out.new.items ≡ out.old.items ++ all_decoded self.now.coding self.now.bytes }
+        ensures spare { out.new.spare + length (all_decoded self.now.coding self.now.bytes) ≡
+            out.old.spare }
+    {
         if self.holds_return() {
             out.push_spare(Ch::Scalar('\r'));
-        } else {
-            self.put_raw(out);
+            return;
         }
-        self.count = 0;
+        self.put_raw(out);
     }
 
     /// Whether it holds a carriage return, which is all that it holds then.
     fn holds_return(&self) -> bool
-        ensures { result ≡ ends_in_return self.now.bytes }
+        ensures answer { result ≡ ends_in_return self.now.bytes }
+        ensures lone { result ≡ true → self.now.bytes ≡ 13 ∷ [] }
     {
         self.count == 1 && self.bytes[0] == b'\r'
     }
