@@ -1,6 +1,6 @@
 -- Output that is read: what the program's decoder makes of the bytes it holds is what the machine makes of all bytes.
 use Rattle.std.proofs.Common.{◌≡◌, ℕ, ◌+◌, ◌<◌, Bool, true, false, List, [], ◌++◌, length, drop, get_or, refl, ap, sym, ◌∙◌, arith}
-use Rattle.std.specs.Prelude.{if◌then◌else◌, slice_set, not, is_some, Option, Some, None, option_map, unwrap_or}
+use Rattle.std.specs.Prelude.{if◌then◌else◌, slice_get, slice_set, not, is_some, Option, Some, None, option_map, unwrap_or}
 use Rattle.std.proofs.Common.{append-nil}
 use Rattle.std.proofs.Math.Seq.{drop-append_seam}
 use Rattle.std.proofs.lemmas.Option.{slice_get-map}

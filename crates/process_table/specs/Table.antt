@@ -1,5 +1,5 @@
 -- A table of processes beside the machine's list of them.
-use Rattle.std.specs.Prelude.{◌≡◌, ℕ, true, false, List, [], map, slice_get, if◌then◌else◌, Option, Some, None, option_map}
+use Rattle.std.specs.Prelude.{◌≡◌, ℕ, Bool, true, false, List, [], map, slice_get, if◌then◌else◌, Option, Some, None, option_map}
 use Rattle.text_model.specs.Codings.{Coding, Utf8, undecoded}
 use Rattle.editor_model.specs.Editor.{Name}
 use Rattle.plain_machine.specs.State.{State, Process, Status, Runs, Default, new_state, change_process, read_so_far}
