@@ -3,6 +3,7 @@ pub mod Changing
 pub mod Twice
 pub mod Loops
 pub mod Words
+pub mod Writable
 pub mod Making
 pub mod Evaporating
 pub mod Standing

@@ -6,7 +6,6 @@ pub mod HandingOn
 pub mod DrillForms
 pub mod DrillHost
 pub mod Drills
-pub mod NullSinks
 pub mod Unseen
 pub mod Sessions
 pub mod Replaying

@@ -6,7 +6,6 @@ mod counting;
 mod drill_child;
 mod drill_script;
 mod drilling;
-mod null_sink;
 mod reading;
 mod recording;
 mod replaying;
@@ -20,7 +19,6 @@ mod viewing;
 mod words;
 
 pub use drilling::drill;
-pub use null_sink::NullSink;
 pub use status::Status;
 pub use top::run;
 pub use words::drill_of;

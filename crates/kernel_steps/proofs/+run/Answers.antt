@@ -2,7 +2,7 @@ use Rattle.std.proofs.Common.{true, false, [], ◌∷◌, ◌≡◌, ◌+◌, �
 use Rattle.std.specs.Prelude.{Some, None}
 use Rattle.ek_types.specs.Listing.{items_of}
 use Rattle.ek_call.specs.Meaning.{arg_of, call_of, form_of, joined, view}
-use Rattle.editor_model.specs.Values.{Do, Setq, In, WhenEq, SaveExcursion, SaveRestriction, SaveCurrentBuffer, InhibitHooks}
+use Rattle.editor_model.specs.Values.{Do, Setq, In, WhenEq, SaveExcursion, SaveRestriction, SaveCurrentBuffer, InhibitHooks, InhibitReadOnly}
 use Rattle.plain_machine.specs.Items.{DoForm}
 use Rattle.kernel_steps.specs.Blocks.{block_of}
 use Rattle.kernel_steps.specs.Sizes.{form_size, forms_size}
@@ -64,7 +64,7 @@ use Rattle.kernel_steps.specs.Handlers.{code_of}
 use Rattle.kernel_steps.proofs.Works.{work_wants}
 use Rattle.std.proofs.Common.{◌-◌, length, option_map}
 use Rattle.kernel_steps.proofs.+run.Given.{Over}
-use Rattle.kernel_steps.proofs.Shapes.{nil_is, do_is, setq_is, excursion_is, restriction_is, keep_buffer_is, no_hooks_is, when_is}
+use Rattle.kernel_steps.proofs.Shapes.{nil_is, do_is, setq_is, excursion_is, restriction_is, keep_buffer_is, no_hooks_is, read_only_off_is, when_is}
 use Rattle.kernel_steps.proofs.+run.Goals as goal
 
 -- a world of these
@@ -190,6 +190,11 @@ pub forms::run_form-returns-in-NoHooks : goal.forms::run_form-returns-in-NoHooks
 forms::run_form-returns-in-NoHooks g t c = λ start.
     let form : form_of c.args.form.now ≡ In InhibitHooks (joined (map form_of (items_of c.in-NoHooks.forms))) = ap form_of c.in-NoHooks.is ∙ no_hooks_is c.in-NoHooks.forms in
     rw form (c.run_block-in-NoHooks.ensures start)
+
+pub forms::run_form-returns-in-ReadOnlyOff : goal.forms::run_form-returns-in-ReadOnlyOff
+forms::run_form-returns-in-ReadOnlyOff g t c = λ start.
+    let form : form_of c.args.form.now ≡ In InhibitReadOnly (joined (map form_of (items_of c.in-ReadOnlyOff.forms))) = ap form_of c.in-ReadOnlyOff.is ∙ read_only_off_is c.in-ReadOnlyOff.forms in
+    rw form (c.run_block-in-ReadOnlyOff.ensures start)
 
 pub forms::run_form-returns-in-WhenEq : goal.forms::run_form-returns-in-WhenEq
 forms::run_form-returns-in-WhenEq g t c = λ start.

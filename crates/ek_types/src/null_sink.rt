@@ -1,7 +1,7 @@
 //! A sink that keeps nothing.
-ghost use Rattle.kernel_top.specs.NullSinks.{null_state};
+ghost use Rattle.ek_types.specs.NullSinks.{null_state};
 
-use ek_types::{Sink, Wrote};
+use crate::io::{Sink, Wrote};
 
 /// Takes every byte and tells nothing. No call fails.
 #[derive(Clone, Copy, Debug, PartialEq, Eq)]

@@ -1,6 +1,6 @@
 use Rattle.std.proofs.Common.{◌≡◌, ◌+◌, ◌++◌, map, take}
 use Rattle.text_model.specs.Characters.{Raw}
-use Rattle.utf8_stream.proofs.decoder.Decoder.finish.Given as goal
+use Rattle.utf8_stream.proofs.decoder.Decoder.put_raw.Given as goal
 
 abbrev pub invariant-loop-byte : goal.invariant-loop-byte
 invariant-loop-byte l = record {

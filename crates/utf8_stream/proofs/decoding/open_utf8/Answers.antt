@@ -2,7 +2,7 @@ use Rattle.std.proofs.Common.{◌≡◌, ◌-◌, ◌++◌, ◌∷◌, ◌∙◌
 use Rattle.text_model.specs.Characters.{Scalar}
 use Rattle.text_model.specs.Decoding.{characters}
 use Rattle.utf8_stream.proofs.Steps.{cut_length, put_first, whole_first, whole_rest}
-use Rattle.utf8_stream.proofs.decoder.open.Goals as goal
+use Rattle.utf8_stream.proofs.decoding.open_utf8.Goals as goal
 
 pub loop-c-preserved-in-Whole : goal.loop-c-preserved-in-Whole
 loop-c-preserved-in-Whole c =

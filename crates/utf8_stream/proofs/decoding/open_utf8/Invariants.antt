@@ -1,6 +1,6 @@
 use Rattle.std.proofs.Common.{length, ◌≡◌, ◌+◌, ◌≤◌, ◌++◌}
 use Rattle.text_model.specs.Decoding.{characters, tail}
-use Rattle.utf8_stream.proofs.decoder.open.Given as goal
+use Rattle.utf8_stream.proofs.decoding.open_utf8.Given as goal
 
 abbrev pub invariant-loop-c : goal.invariant-loop-c
 invariant-loop-c l = record {
