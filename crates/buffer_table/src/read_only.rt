@@ -10,9 +10,9 @@ impl Editor {
     pub fn read_only(&self, id: u32) -> bool
         ensures { result ≡ is_read_only (editor_of self.now) id }
     {
-        match self.buffers.get(id as usize) {
-            Some(Some(live)) => live.read_only,
-            _ => false,
+        match self.text(id) {
+            Some(text) => text.read_only(),
+            None => false,
         }
     }
 
