@@ -12,7 +12,6 @@ ghost use Rattle.process_table.specs.Meaning.{status_of, filter_of};
 ghost use Rattle.process_table.specs.Table.{new_process, with_status, with_held, with_drained};
 ghost use Rattle.utf8_stream.specs.Codings.{coding_of};
 
-use crate::names::{Letters, are_same};
 use ek_types::{Chars, Sym};
 use std::marker::Model;
 use utf8_stream::{Coding, Decoder};
@@ -199,10 +198,10 @@ impl Process {
     }
 
     /// Whether it is on the process list under this name.
-    pub(crate) fn is_listed_as<N: Letters>(&self, name: &N) -> bool
-        ensures { result ≡ (self.now.listed && same_name self.now.name (N.letters name.now)) }
+    pub(crate) fn is_listed_as(&self, name: &Chars) -> bool
+        ensures { result ≡ (self.now.listed && same_name self.now.name name.now.items) }
     {
-        self.listed && are_same(&self.name, name)
+        self.listed && self.name.same(name)
     }
 
     pub(crate) fn set_filter(&mut self, filter: Filter)

@@ -18,7 +18,7 @@ ghost use Rattle.process_table.specs.Table.{with_drained};
 ghost use Rattle.utf8_stream.specs.Codings.{coding_of};
 ghost use Rattle.process_table.specs.Resolving.{Resolves, IsMade};
 
-use crate::names::{Letters, numbered};
+use crate::names::numbered;
 use crate::place::{Place, moved};
 use crate::process::{Filter, Process, Status};
 use ek_call::{Fault, Value};
@@ -129,14 +129,14 @@ impl Processes {
     {
         match v {
             Value::Process(p) => Ok(*p),
-            Value::Str(name) => self.find(name).ok_or(Fault::NoSuchProcess),
+            Value::Str(name) => self.named(name).ok_or(Fault::NoSuchProcess),
             _ => Err(Fault::WrongType),
         }
     }
 
     /// The number of the listed process of a name.
-    fn find<N: Letters>(&self, name: &N) -> Option<u32>
-        ensures { result ≡ find_process 0 self.now (N.letters name.now) }
+    fn find(&self, name: &Chars) -> Option<u32>
+        ensures { result ≡ find_process 0 self.now name.now.items }
     {
         for p in 0..self.list.len() {
             if self.list[p].is_listed_as(name) {
@@ -150,7 +150,7 @@ impl Processes {
     pub fn named(&self, name: &Piece) -> Option<u32>
         ensures { result ≡ find_process 0 self.now (map (λ c. c.0) name.now) }
     {
-        self.find(name)
+        self.find(name.text())
     }
 
     /// The name itself, or the first with `<1>`, `<2>` and so on behind it that no listed process has.
