@@ -5,3 +5,5 @@ pub mod Questions
 pub mod Waits
 pub mod Steps
 pub mod Turns
+pub mod Comparing
+pub mod Verdicts

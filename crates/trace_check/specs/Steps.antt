@@ -1,5 +1,5 @@
 -- What an item of the work comes to: one step of the machine, or none where the journal doesn't go on with it.
-use Rattle.std.specs.Prelude.{◌≡◌, ◌⊎◌, false, List, [], ◌∷◌, Option, Some, None, Result, Ok, Err}
+use Rattle.std.specs.Prelude.{◌≡◌, ◌⊎◌, Bool, true, false, List, [], ◌∷◌, Option, Some, None, Result, Ok, Err}
 use Rattle.std.specs.Io.KnownBytes.{Appends}
 use Rattle.editor_model.specs.Values.{Fault}
 use Rattle.plain_machine.specs.Exchanges.{Ask, Answer, Exchange}
@@ -68,3 +68,12 @@ Unheard result program next known known2 work left = (sink : SinkState) → Come
 -- a fault drops what it drops
 abbrev pub Drops : Fault → (known known2 : State) → (work left : List Item) → Type 0
 Drops f known known2 work left = (s : State) → Stands known s → (t : State) × Stands known2 t × (dropped f work s ≡ working t left)
+
+-- it drops so much of it first
+abbrev pub Sheds : Fault → (known known2 : State) → (work left : List Item) → Type 0
+Sheds f known known2 work left = (s : State) → Stands known s → (t : State) × Stands known2 t × (dropped f work s ≡ dropped f left t)
+
+-- it ends there, or goes on
+abbrev pub DropsBy : (ends : Bool) → Fault → (known known2 : State) → (work left : List Item) → Type 0
+DropsBy true f known known2 work left = Drops f known known2 work left
+DropsBy false f known known2 work left = Sheds f known known2 work left

@@ -1,13 +1,13 @@
 //! The replies of calls, and faults.
-ghost use Rattle.std.specs.Prelude.{◌≡◌, ◌∷◌, Err, OnOk};
+ghost use Rattle.std.specs.Prelude.{◌≡◌, ◌∷◌, Err, IfOk, OnOk};
 ghost use Rattle.plain_machine.specs.Items.{GiveAnswer, Refuse};
 ghost use Rattle.plain_machine.specs.Forms.{kept_reply};
 ghost use Rattle.ek_types.specs.Io.{HasCause};
 ghost use Rattle.ek_call.specs.Faults.{fault_of};
 ghost use Rattle.ek_call.specs.Meaning.{reply_of, view};
 ghost use Rattle.kernel_steps.specs.Work.{reply_item};
-ghost use Rattle.trace_check.specs.Meaning.{target_of};
-ghost use Rattle.trace_check.specs.Steps.{Aloud, Drops};
+ghost use Rattle.trace_check.specs.Meaning.{item_of, target_of};
+ghost use Rattle.trace_check.specs.Steps.{Aloud, Drops, DropsBy};
 
 use crate::item::{Item, Target};
 use crate::stepped::Stepped;
@@ -96,20 +96,37 @@ fn drop_work<M: Stepped>(kernel: &mut M, work: &mut Work, fault: Fault) -> Mem<(
         work.old.list work.new.list) }
 {
     while let Some(item) = work.take() {
-        match item {
-            Item::Top(forms, at) => return work.put(Item::Top(forms, at)),
-            Item::Called(native, args, past) => {
-                let mut past = past;
-                past.push(Reply::Fault(fault))?;
-                return work.put(Item::Native(native, args, past));
-            }
-            Item::Exit(kind, handler, current, _) => {
-                return work.put(Item::Exit(kind, handler, current, true));
-            }
-            Item::Leave(kept) => kernel.restore(kept),
-            Item::CommitChange(_) => kernel.forget_kept(),
-            _ => {}
+        if drop_item(kernel, work, item, fault)? {
+            return Ok(());
         }
     }
     Ok(())
+}
+
+/// Drops one item, or says that the fault ends there.
+fn drop_item<M: Stepped>(kernel: &mut M, work: &mut Work, item: Item, fault: Fault) -> Mem<bool>
+    ensures { IfOk result (λ ends. DropsBy ends (fault_of fault) (M.state kernel.old)
+        (M.state kernel.new) (item_of item ∷ work.old.list) work.new.list) }
+{
+    match item {
+        Item::Top(forms, at) => work.put(Item::Top(forms, at))?,
+        Item::Called(native, args, past) => {
+            let mut past = past;
+            past.push(Reply::Fault(fault))?;
+            work.put(Item::Native(native, args, past))?;
+        }
+        Item::Exit(kind, handler, current, _) => {
+            work.put(Item::Exit(kind, handler, current, true))?;
+        }
+        Item::Leave(kept) => {
+            kernel.restore(kept);
+            return Ok(false);
+        }
+        Item::CommitChange(_) => {
+            kernel.forget_kept();
+            return Ok(false);
+        }
+        _ => return Ok(false),
+    }
+    Ok(true)
 }
