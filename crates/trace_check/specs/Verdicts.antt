@@ -7,8 +7,8 @@ use Rattle.plain_machine.specs.Step.{step}
 use Rattle.plain_machine.specs.Run.{Reaches, lines}
 use Rattle.kernel_steps.specs.Outside.{deepest}
 use Rattle.trace_check.specs.Comparing.{common, line_feeds}
-use Rattle.trace_check.specs.declared.check.Verdict.{Verdict}
-use Rattle.trace_check.specs.declared.check.Verdict.TheVariants as verdict
+use Rattle.trace_check.specs.declared.checking.Verdict.{Verdict}
+use Rattle.trace_check.specs.declared.checking.Verdict.TheVariants as verdict
 
 -- the run on the first exchanges of a journal uses them all, and isn't off
 pub record Uses (program : Program) (from : Config) (journal : List Exchange) (i : ℕ) : Type 0 where

@@ -36,7 +36,8 @@ pub(crate) fn ask_editor<M: Kernel>(
         work.new.list) }
 {
     let reply = kernel.query(prim, args)?;
-    put_reply(work, reply, target)
+    put_reply(work, reply, target)?;
+    Ok(())
 }
 
 /// A call that sets state and is heard by no hook.
@@ -53,7 +54,8 @@ pub(crate) fn set_editor<M: Kernel>(
         work.new.list) }
 {
     let reply = kernel.apply(prim, args)?;
-    put_reply(work, reply, target)
+    put_reply(work, reply, target)?;
+    Ok(())
 }
 
 /// A call that changes a text.
@@ -72,14 +74,22 @@ pub(crate) fn change_text<M: Kernel>(
     match kernel.prepare(prim, args)? {
         Prepared::Change(change) => {
             work.put(Item::GiveAnswer(change.reply.copy()?, target))?;
-            work.put(Item::MakeChange(change))
+            work.put(Item::MakeChange(change))?;
+            Ok(())
         }
         Prepared::Quiet(change) => {
             kernel.commit_quiet(&change)?;
-            work.put(Item::GiveAnswer(change.reply.copy()?, target))
+            work.put(Item::GiveAnswer(change.reply.copy()?, target))?;
+            Ok(())
         }
-        Prepared::Nothing(value) => work.put(Item::GiveAnswer(value, target)),
-        Prepared::Fault(fault) => work.put(Item::Refuse(fault)),
+        Prepared::Nothing(value) => {
+            work.put(Item::GiveAnswer(value, target))?;
+            Ok(())
+        }
+        Prepared::Fault(fault) => {
+            work.put(Item::Refuse(fault))?;
+            Ok(())
+        }
     }
 }
 
@@ -101,7 +111,8 @@ pub(crate) fn call_silently<M: Kernel, P: Program>(
         work.new.list) }
 {
     let value = kernel.call_silently(program, prim, args)?;
-    work.put(Item::GiveAnswer(value, target))
+    work.put(Item::GiveAnswer(value, target))?;
+    Ok(())
 }
 
 /// A wait for output.
@@ -118,7 +129,8 @@ pub(crate) fn accept_output<M: Kernel, P: Program>(
         work.new.list) }
 {
     let waiting = Waiting::new(kernel, args);
-    work.put(Item::Wait(waiting, target))
+    work.put(Item::Wait(waiting, target))?;
+    Ok(())
 }
 
 /// The deletion of a process.
@@ -136,7 +148,8 @@ pub(crate) fn delete_process<M: Kernel, P: Program>(
 {
     let p = kernel.process_given(args);
     work.put(Item::GiveAnswer(Value::Nil, target))?;
-    work.put(Item::Delete(p))
+    work.put(Item::Delete(p))?;
+    Ok(())
 }
 
 /// The killing of a buffer, behind the deletions of its processes.
@@ -172,5 +185,6 @@ pub(crate) fn kill_live<M: Kernel>(
         (KillsBuffer buffer (target_of target) ∷ work.old.list) work.new.list) }
 {
     let reply = kernel.kill_live(buffer)?;
-    put_reply(work, reply, target)
+    put_reply(work, reply, target)?;
+    Ok(())
 }

@@ -27,7 +27,8 @@ pub(crate) fn make_change<M: Kernel>(kernel: &mut M, work: &mut Work, change: Ch
     let ends = M::ends(kernel.allocator(), &change)?;
     kernel.keep_ends(&change)?;
     work.put(Item::CommitChange(change))?;
-    put_hooks(kernel, work, kind, ends)
+    put_hooks(kernel, work, kind, ends)?;
+    Ok(())
 }
 
 /// Puts the functions of a kind in front, unless hooks are inhibited. They are meanwhile.
@@ -51,10 +52,14 @@ pub(crate) fn commit_change<M: Kernel>(kernel: &mut M, work: &mut Work, change: 
         (CommitChange (change_of change.now) ∷ work.old.list) work.new.list) }
 {
     match kernel.commit(change)? {
-        Committed::Fault(fault) => work.put(Item::Refuse(fault)),
+        Committed::Fault(fault) => {
+            work.put(Item::Refuse(fault))?;
+            Ok(())
+        }
         Committed::Done { from, to, old } => {
             let ends = M::ends_behind(kernel.allocator(), from, to, old)?;
-            put_hooks(kernel, work, Kind::After(change.buffer), ends)
+            put_hooks(kernel, work, Kind::After(change.buffer), ends)?;
+            Ok(())
         }
     }
 }
@@ -77,7 +82,8 @@ pub(crate) fn enter_hooks(
     let name = *names.at(at);
     let copies = args.copy()?;
     work.put(Item::Hooks(kind, names, at + 1, args))?;
-    work.put(Item::Enter(kind, Some(name), copies))
+    work.put(Item::Enter(kind, Some(name), copies))?;
+    Ok(())
 }
 
 /// Hooks are inhibited as before.

@@ -27,7 +27,8 @@ pub(crate) fn do_body(work: &mut Work, forms: Forms, at: usize) -> Mem<()>
     }
     let form = forms.at(at).copy()?;
     work.put(Item::Body(forms, at + 1))?;
-    work.put(Item::DoForm(form))
+    work.put(Item::DoForm(form))?;
+    Ok(())
 }
 
 /// The same of the top level. Without forms the run comes to its end.
@@ -37,11 +38,13 @@ pub(crate) fn do_top(work: &mut Work, forms: Forms, at: usize) -> Mem<()>
 {
     if at >= forms.len() {
         work.clear();
-        return work.put(Item::Finish(0));
+        work.put(Item::Finish(0))?;
+        return Ok(());
     }
     let form = forms.at(at).copy()?;
     work.put(Item::Top(forms, at + 1))?;
-    work.put(Item::DoForm(form))
+    work.put(Item::DoForm(form))?;
+    Ok(())
 }
 
 /// One form.
@@ -50,13 +53,34 @@ pub(crate) fn do_form<M: Kernel>(kernel: &mut M, work: &mut Work, form: Form) ->
         (DoForm (form_of form) ∷ work.old.list) work.new.list) }
 {
     match form {
-        Form::Do(call) => do_call(kernel, work, call, Target::Nowhere),
-        Form::Setq(name, call) => do_call(kernel, work, call, Target::Name(name)),
-        Form::Excursion(forms) => do_block(kernel, work, Block::Excursion, forms),
-        Form::Restriction(forms) => do_block(kernel, work, Block::Restriction, forms),
-        Form::KeepBuffer(forms) => do_block(kernel, work, Block::CurrentBuffer, forms),
-        Form::NoHooks(forms) => do_block(kernel, work, Block::NoHooks, forms),
-        Form::WhenEq(a, b, forms) => do_when(kernel, work, &a, &b, forms),
+        Form::Do(call) => {
+            do_call(kernel, work, call, Target::Nowhere)?;
+            Ok(())
+        }
+        Form::Setq(name, call) => {
+            do_call(kernel, work, call, Target::Name(name))?;
+            Ok(())
+        }
+        Form::Excursion(forms) => {
+            do_block(kernel, work, Block::Excursion, forms)?;
+            Ok(())
+        }
+        Form::Restriction(forms) => {
+            do_block(kernel, work, Block::Restriction, forms)?;
+            Ok(())
+        }
+        Form::KeepBuffer(forms) => {
+            do_block(kernel, work, Block::CurrentBuffer, forms)?;
+            Ok(())
+        }
+        Form::NoHooks(forms) => {
+            do_block(kernel, work, Block::NoHooks, forms)?;
+            Ok(())
+        }
+        Form::WhenEq(a, b, forms) => {
+            do_when(kernel, work, &a, &b, forms)?;
+            Ok(())
+        }
     }
 }
 
@@ -67,8 +91,14 @@ fn do_call<M: Kernel>(kernel: &mut M, work: &mut Work, call: Call, target: Targe
         (DoForm (call_form name (call_of call)) ∷ work.old.list) work.new.list) }
 {
     match values(kernel, &call.args)? {
-        None => work.put(Item::Refuse(Fault::VoidVariable)),
-        Some(args) => work.put(Item::MakeCall(call.prim, args, target)),
+        None => {
+            work.put(Item::Refuse(Fault::VoidVariable))?;
+            Ok(())
+        }
+        Some(args) => {
+            work.put(Item::MakeCall(call.prim, args, target))?;
+            Ok(())
+        }
     }
 }
 
@@ -80,7 +110,8 @@ fn do_block<M: Kernel>(kernel: &mut M, work: &mut Work, block: Block, forms: For
 {
     let kept = kernel.open(block)?;
     work.put(Item::Leave(kept))?;
-    work.put(Item::Body(forms, 0))
+    work.put(Item::Body(forms, 0))?;
+    Ok(())
 }
 
 /// Forms are done where two arguments are equal.
@@ -90,8 +121,14 @@ fn do_when<M: Kernel>(kernel: &M, work: &mut Work, a: &Arg, b: &Arg, forms: Form
         work.old.list) work.new.list) }
 {
     match are_equal(kernel, a, b) {
-        None => work.put(Item::Refuse(Fault::VoidVariable)),
-        Some(true) => work.put(Item::Body(forms, 0)),
+        None => {
+            work.put(Item::Refuse(Fault::VoidVariable))?;
+            Ok(())
+        }
+        Some(true) => {
+            work.put(Item::Body(forms, 0))?;
+            Ok(())
+        }
         Some(false) => Ok(()),
     }
 }

@@ -61,13 +61,18 @@ fn put_code<M: Kernel, P: Program>(
         (map view (items_of args)) (M.state kernel.old) work.old.list) }
 {
     let Some(name) = handler else {
-        return put_default(kernel, work, kind, &args);
+        put_default(kernel, work, kind, &args)?;
+        return Ok(());
     };
     match program.body(name) {
-        Some(body) => work.put(Item::Body(body.copy()?, 0)),
+        Some(body) => {
+            work.put(Item::Body(body.copy()?, 0))?;
+            Ok(())
+        }
         None => {
             let past = ListOf::new(kernel.allocator());
-            work.put(Item::Native(program.native(name), args, past))
+            work.put(Item::Native(program.native(name), args, past))?;
+            Ok(())
         }
     }
 }
@@ -78,8 +83,14 @@ fn put_default<M: Kernel>(kernel: &mut M, work: &mut Work, kind: Kind, args: &Va
         default_handler (M.state kernel.old) (kind_of kind) (map view (items_of args.now)) work.old.list) }
 {
     match kernel.prepare_default(kind, args)? {
-        Prepared::Change(change) => work.put(Item::MakeChange(change)),
-        Prepared::Fault(fault) => work.put(Item::Refuse(fault)),
+        Prepared::Change(change) => {
+            work.put(Item::MakeChange(change))?;
+            Ok(())
+        }
+        Prepared::Fault(fault) => {
+            work.put(Item::Refuse(fault))?;
+            Ok(())
+        }
         Prepared::Quiet(_) => Ok(()),
         Prepared::Nothing(_) => Ok(()),
     }
@@ -105,7 +116,8 @@ pub(crate) fn go_on<M: Kernel, P: Program>(
         Next::Done => Ok(()),
         Next::Call(asked) => {
             work.put(Item::Called(native, args, past))?;
-            put_call(kernel, program, work, asked)
+            put_call(kernel, program, work, asked)?;
+            Ok(())
         }
     }
 }
@@ -121,8 +133,14 @@ fn put_call<M: Kernel, P: Program>(
         (call_asked asked) ∷ work.old.list) }
 {
     match kernel.allowed(program, asked)? {
-        Some(made) => work.put(Item::MakeCall(made.prim, made.args, Target::Native)),
-        None => work.put(Item::Refuse(Fault::WrongType)),
+        Some(made) => {
+            work.put(Item::MakeCall(made.prim, made.args, Target::Native))?;
+            Ok(())
+        }
+        None => {
+            work.put(Item::Refuse(Fault::WrongType))?;
+            Ok(())
+        }
     }
 }
 
@@ -155,7 +173,10 @@ fn end_work(work: &mut Work, kind: Kind, faulted: bool) -> Mem<()>
     ensures { OnOk result (work.new.list ≡ ended_work (kind_of kind) faulted work.old.list) }
 {
     match kind {
-        Kind::Before(_) | Kind::After(_) if faulted => drop_hooks(work),
+        Kind::Before(_) | Kind::After(_) if faulted => {
+            drop_hooks(work)?;
+            Ok(())
+        }
         _ => Ok(()),
     }
 }
@@ -166,6 +187,9 @@ fn drop_hooks(work: &mut Work) -> Mem<()>
     match work.take() {
         None => Ok(()),
         Some(Item::Hooks(_, _, _, _)) => Ok(()),
-        Some(item) => work.put(item),
+        Some(item) => {
+            work.put(item)?;
+            Ok(())
+        }
     }
 }

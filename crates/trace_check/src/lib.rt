@@ -5,7 +5,7 @@ mod arguments;
 mod asks;
 mod calls;
 mod changes;
-mod check;
+mod checking;
 mod comparer;
 mod ending;
 mod forms;
@@ -23,7 +23,7 @@ mod waiting;
 mod waits;
 mod work;
 
-pub use check::{Verdict, check};
+pub use checking::{Verdict, check};
 pub use item::{Item, Target};
 pub use machine::Machine;
 pub use stepped::Stepped;

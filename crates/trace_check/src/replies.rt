@@ -22,8 +22,14 @@ pub(crate) fn put_reply(work: &mut Work, reply: Reply, target: Target) -> Mem<()
     ensures { OnOk result (work.new.list ≡ reply_item (reply_of reply) (target_of target) ∷ work.old.list) }
 {
     match reply {
-        Reply::Value(value) => work.put(Item::GiveAnswer(value, target)),
-        Reply::Fault(fault) => work.put(Item::Refuse(fault)),
+        Reply::Value(value) => {
+            work.put(Item::GiveAnswer(value, target))?;
+            Ok(())
+        }
+        Reply::Fault(fault) => {
+            work.put(Item::Refuse(fault))?;
+            Ok(())
+        }
     }
 }
 
@@ -65,9 +71,13 @@ fn keep_reply(work: &mut Work, reply: Reply) -> Mem<()>
         Some(Item::Called(native, args, past)) => {
             let mut past = past;
             past.push(reply)?;
-            work.put(Item::Native(native, args, past))
+            work.put(Item::Native(native, args, past))?;
+            Ok(())
         }
-        Some(item) => work.put(item),
+        Some(item) => {
+            work.put(item)?;
+            Ok(())
+        }
     }
 }
 

@@ -38,6 +38,7 @@ impl Work {
     }
 
     /// Puts an item in front. A refusal leaves the list as it was.
+    #[tactic(auto, using(crate::proofs::Listing::work_more))]
     pub fn put(&mut self, item: Item) -> Mem<()>
         ensures ok { OnOk result (self.new.list ≡ item_of item ∷ self.old.list) }
         ensures err { OnErr result (self.new.list ≡ self.old.list) }
@@ -47,6 +48,7 @@ impl Work {
     }
 
     /// Puts an item in front in the place of one that was taken. It takes no memory.
+    #[tactic(auto, using(crate::proofs::Listing::work_more))]
     pub(crate) fn put_back(&mut self, item: Item)
         requires { 0 < self.old.places }
         ensures { self.new.list ≡ item_of item ∷ self.old.list }
@@ -55,12 +57,14 @@ impl Work {
     }
 
     /// Takes the next item, if there is one.
+    #[tactic(auto, using(crate::proofs::Listing::work_more))]
     pub(crate) fn take(&mut self) -> Option<Item>
         ensures none { IfNone result ((self.old.list ≡ []) × (self.new.list ≡ [])) }
         ensures some { IfSome result (λ item. self.old.list ≡ item_of item ∷ self.new.list) }
         ensures place { IfSome result (λ item. 0 < self.new.places) }
     {
-        self.items.pop()
+        let item = self.items.pop()?;
+        Some(item)
     }
 
     /// Drops all work.

@@ -48,7 +48,7 @@ pub fn check<M: Stepped, P: Program>(
         sink.clear();
         match machine.step(program, journal, &mut sink) {
             Ok(Turn::Went) => comparer.take(sink.bytes()),
-            Ok(Turn::Ended) => return Ok(verdict(machine.used(), journal, &comparer)),
+            Ok(Turn::Ended) => return Ok(judge(machine.used(), journal, &comparer)),
             Ok(Turn::Waits) | Ok(Turn::Off) => return Ok(Verdict::Strayed(machine.used() as u32)),
             Err(StepFault::Sink) | Err(StepFault::NoMemory) => return Err(NoMemory),
         }
@@ -57,7 +57,7 @@ pub fn check<M: Stepped, P: Program>(
 }
 
 /// The verdict on a run that has ended with so many exchanges used.
-fn verdict(used: usize, journal: &Exchanges, comparer: &Comparer) -> Verdict {
+fn judge(used: usize, journal: &Exchanges, comparer: &Comparer) -> Verdict {
     if used < journal.len() {
         return Verdict::Strayed(used as u32);
     }
