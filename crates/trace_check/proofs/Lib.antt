@@ -7,3 +7,4 @@ pub mod HandlerItems
 pub mod Lines
 pub mod Agreement
 pub mod Asking
+pub mod CommonFronts

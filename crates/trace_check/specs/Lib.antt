@@ -1,4 +1,3 @@
-pub mod Work
 pub mod Meaning
 pub mod Answers
 pub mod Questions
@@ -6,4 +5,5 @@ pub mod Waits
 pub mod Steps
 pub mod Turns
 pub mod Comparing
+pub mod Comparers
 pub mod Verdicts

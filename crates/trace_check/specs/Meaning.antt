@@ -1,5 +1,5 @@
 -- What items and the list of work stand for.
-use Rattle.std.specs.Prelude.{List, [], ◌∷◌, map, drop, option_map}
+use Rattle.std.specs.Prelude.{ℕ, ◌-◌, List, [], ◌∷◌, map, drop, option_map, vec_len, vec_capacity}
 use Rattle.ek_types.specs.Listing.{items_of}
 use Rattle.ek_types.specs.Property.{number_of}
 use Rattle.ek_call.specs.Faults.{fault_of}
@@ -13,6 +13,7 @@ use Rattle.trace_check.specs.declared.item.Item.{Item}
 use Rattle.trace_check.specs.declared.item.Item.TheVariants as item
 use Rattle.trace_check.specs.declared.item.Target.{Target}
 use Rattle.trace_check.specs.declared.item.Target.TheVariants as target
+use Rattle.trace_check.specs.declared.work.Work.{Work}
 
 abbrev pub target_of : Target → plain.Target
 target_of target.Nowhere = plain.Nowhere
@@ -35,7 +36,7 @@ item_of (item.Enter kind handler args) = plain.Enter (kind_of kind) (option_map 
 item_of (item.Native native args past) = plain.Native native (map view (items_of args)) (map reply_of (items_of past))
 item_of (item.Called native args past) = plain.Called native (map view (items_of args)) (map reply_of (items_of past))
 item_of (item.Exit kind handler current faulted) = plain.Exit (kind_of kind) (option_map number_of handler) current faulted
-item_of (item.Wait wait to) = plain.Wait wait.waiting (target_of to)
+item_of (item.Wait wait to) = plain.Wait wait (target_of to)
 item_of (item.Delete p) = plain.Delete p
 item_of (item.KillBuffer buffer to) = plain.KillBuffer buffer (target_of to)
 item_of (item.Finish p) = plain.Finish p
@@ -48,3 +49,10 @@ in_front (x ∷ items) rest = in_front items (item_of x ∷ rest)
 
 abbrev pub work_of : List Item → List plain.Item
 work_of items = in_front items []
+
+-- the work that is left, and how many more items have a place with no memory taken
+abbrev pub list_of : Work → List plain.Item
+list_of w = work_of w.items.items
+
+abbrev pub places_of : Work → ℕ
+places_of w = vec_capacity w.items - vec_len w.items

@@ -3,7 +3,7 @@ ghost use Rattle.std.specs.Prelude.{◌≡◌, map, option_map, string_bytes};
 ghost use Rattle.plain_machine.specs.Run.{same_ask, same_bytes};
 ghost use Rattle.text_model.specs.Properties.{same_list};
 ghost use Rattle.host_link.specs.Meaning.{answer_of, ask_of, exchange_of, words_of};
-ghost use Rattle.trace_check.specs.Answers.{may_read, may_end, may_kill};
+ghost use Rattle.trace_check.specs.Answers.{may_end, may_hear, may_kill, may_read};
 ghost use Rattle.trace_check.specs.Questions.{Meets, asked};
 
 use host_link::{Answer, Ask, Exchange, WordList};
@@ -74,7 +74,7 @@ pub(crate) enum Met<'a> {
 
 /// What a question meets, where the journal has this next.
 pub(crate) fn meet<'a>(next: Option<&'a Exchange>, question: &Question) -> Met<'a>
-    ensures { Meets (asked question.now) (option_map (λ x. exchange_of x.now) next) result }
+    ensures { Meets (asked question.now) (option_map (λ x. exchange_of x.now) next.entry) result }
 {
     match next {
         None => Met::Nothing,
@@ -84,7 +84,7 @@ pub(crate) fn meet<'a>(next: Option<&'a Exchange>, question: &Question) -> Met<'
 }
 
 /// Whether a read may be answered so: it gives 1 to 4,096 bytes.
-pub(crate) fn may_read(answer: &Answer) -> bool
+fn may_read(answer: &Answer) -> bool
     ensures { result ≡ may_read (answer_of answer.now) }
 {
     match answer {
@@ -95,13 +95,24 @@ pub(crate) fn may_read(answer: &Answer) -> bool
 }
 
 /// Whether the question how a child has ended may be answered so.
-pub(crate) fn may_end(answer: &Answer) -> bool
+fn may_end(answer: &Answer) -> bool
     ensures { result ≡ may_end (answer_of answer.now) }
 {
     matches!(
         answer,
         Answer::Code(_) | Answer::Signal | Answer::Running | Answer::Failed
     )
+}
+
+/// Whether a process may be answered so: about its end, once its output has ended.
+pub(crate) fn may_hear(drained: bool, answer: &Answer) -> bool
+    ensures { result ≡ may_hear drained (answer_of answer.now) }
+{
+    if drained {
+        may_end(answer)
+    } else {
+        may_read(answer)
+    }
 }
 
 /// Whether a kill may be answered so.

@@ -10,7 +10,7 @@ ghost use Rattle.ek_call.specs.Meaning.{view};
 ghost use Rattle.ek_call.specs.Primitives.{prim_of};
 ghost use Rattle.kernel_steps.specs.Processes.{IsSilent};
 ghost use Rattle.kernel_steps.specs.Waits.{Passes};
-ghost use Rattle.trace_check.specs.Meaning.{target_of};
+ghost use Rattle.trace_check.specs.Meaning.{list_of, target_of};
 ghost use Rattle.trace_check.specs.Steps.{Quietly};
 
 use crate::item::{Item, Target};
@@ -32,8 +32,8 @@ pub(crate) fn ask_editor<M: Kernel>(
 ) -> Mem<()>
     requires { manner_of (prim_of prim) ≡ OnlyAsks }
     ensures { (program : Plain) → OnOk result (Quietly program (M.state kernel.now) (M.state kernel.now)
-        (MakeCall (prim_of prim) (map view (items_of args.now)) (target_of target) ∷ work.old.list)
-        work.new.list) }
+        (MakeCall (prim_of prim) (map view (items_of args.now)) (target_of target) ∷ (list_of work.old))
+        (list_of work.new)) }
 {
     let reply = kernel.query(prim, args)?;
     put_reply(work, reply, target)?;
@@ -50,8 +50,8 @@ pub(crate) fn set_editor<M: Kernel>(
 ) -> Mem<()>
     requires { manner_of (prim_of prim) ≡ SetsState }
     ensures { (program : Plain) → OnOk result (Quietly program (M.state kernel.old) (M.state kernel.new)
-        (MakeCall (prim_of prim) (map view (items_of args.now)) (target_of target) ∷ work.old.list)
-        work.new.list) }
+        (MakeCall (prim_of prim) (map view (items_of args.now)) (target_of target) ∷ (list_of work.old))
+        (list_of work.new)) }
 {
     let reply = kernel.apply(prim, args)?;
     put_reply(work, reply, target)?;
@@ -68,8 +68,8 @@ pub(crate) fn change_text<M: Kernel>(
 ) -> Mem<()>
     requires { manner_of (prim_of prim) ≡ ChangesText }
     ensures { (program : Plain) → OnOk result (Quietly program (M.state kernel.old) (M.state kernel.new)
-        (MakeCall (prim_of prim) (map view (items_of args.now)) (target_of target) ∷ work.old.list)
-        work.new.list) }
+        (MakeCall (prim_of prim) (map view (items_of args.now)) (target_of target) ∷ (list_of work.old))
+        (list_of work.new)) }
 {
     match kernel.prepare(prim, args)? {
         Prepared::Change(change) => {
@@ -107,8 +107,8 @@ pub(crate) fn call_silently<M: Kernel, P: Program>(
     requires passes { Passes (P.meant program.now) (M.state kernel.old) (prim_of prim)
         (map view (items_of args.now)) }
     ensures { OnOk result (Quietly (P.meant program.now) (M.state kernel.old) (M.state kernel.new)
-        (MakeCall (prim_of prim) (map view (items_of args.now)) (target_of target) ∷ work.old.list)
-        work.new.list) }
+        (MakeCall (prim_of prim) (map view (items_of args.now)) (target_of target) ∷ (list_of work.old))
+        (list_of work.new)) }
 {
     let value = kernel.call_silently(program, prim, args)?;
     work.put(Item::GiveAnswer(value, target))?;
@@ -125,8 +125,8 @@ pub(crate) fn accept_output<M: Kernel, P: Program>(
 ) -> Mem<()>
     requires { Passes (P.meant program.now) (M.state kernel.now) AcceptProcessOutput (map view (items_of args.now)) }
     ensures { OnOk result (Quietly (P.meant program.now) (M.state kernel.now) (M.state kernel.now)
-        (MakeCall AcceptProcessOutput (map view (items_of args.now)) (target_of target) ∷ work.old.list)
-        work.new.list) }
+        (MakeCall AcceptProcessOutput (map view (items_of args.now)) (target_of target) ∷ (list_of work.old))
+        (list_of work.new)) }
 {
     let waiting = Waiting::new(kernel, args);
     work.put(Item::Wait(waiting, target))?;
@@ -143,8 +143,8 @@ pub(crate) fn delete_process<M: Kernel, P: Program>(
 ) -> Mem<()>
     requires { Passes (P.meant program.now) (M.state kernel.now) DeleteProcess (map view (items_of args.now)) }
     ensures { OnOk result (Quietly (P.meant program.now) (M.state kernel.now) (M.state kernel.now)
-        (MakeCall DeleteProcess (map view (items_of args.now)) (target_of target) ∷ work.old.list)
-        work.new.list) }
+        (MakeCall DeleteProcess (map view (items_of args.now)) (target_of target) ∷ (list_of work.old))
+        (list_of work.new)) }
 {
     let p = kernel.process_given(args);
     work.put(Item::GiveAnswer(Value::Nil, target))?;
@@ -162,8 +162,8 @@ pub(crate) fn kill_buffer<M: Kernel, P: Program>(
 ) -> Mem<()>
     requires { Passes (P.meant program.now) (M.state kernel.now) KillBuffer (map view (items_of args.now)) }
     ensures { OnOk result (Quietly (P.meant program.now) (M.state kernel.now) (M.state kernel.now)
-        (MakeCall KillBuffer (map view (items_of args.now)) (target_of target) ∷ work.old.list)
-        work.new.list) }
+        (MakeCall KillBuffer (map view (items_of args.now)) (target_of target) ∷ (list_of work.old))
+        (list_of work.new)) }
 {
     let buffer = kernel.buffer_given(args);
     let doomed = kernel.running_in(buffer)?;
@@ -182,7 +182,7 @@ pub(crate) fn kill_live<M: Kernel>(
     target: Target,
 ) -> Mem<()>
     ensures { (program : Plain) → OnOk result (Quietly program (M.state kernel.old) (M.state kernel.new)
-        (KillsBuffer buffer (target_of target) ∷ work.old.list) work.new.list) }
+        (KillsBuffer buffer (target_of target) ∷ (list_of work.old)) (list_of work.new)) }
 {
     let reply = kernel.kill_live(buffer)?;
     put_reply(work, reply, target)?;

@@ -9,6 +9,7 @@ ghost use Rattle.ek_call.specs.Meaning.{view};
 ghost use Rattle.editor_prims.specs.Meaning.{change_of};
 ghost use Rattle.kernel_steps.specs.Handlers.{around, kind_of};
 ghost use Rattle.kernel_steps.specs.Work.{working};
+ghost use Rattle.trace_check.specs.Meaning.{list_of};
 ghost use Rattle.trace_check.specs.Steps.{Quietly};
 
 use crate::item::Item;
@@ -21,7 +22,7 @@ use kernel_steps::{Kernel, Kind};
 /// A change that was prepared: its ends are kept, and the functions before it come first.
 pub(crate) fn make_change<M: Kernel>(kernel: &mut M, work: &mut Work, change: Change) -> Mem<()>
     ensures { (program : Plain) → OnOk result (Quietly program (M.state kernel.old) (M.state kernel.new)
-        (MakeChange (change_of change) ∷ work.old.list) work.new.list) }
+        (MakeChange (change_of change) ∷ (list_of work.old)) (list_of work.new)) }
 {
     let kind = Kind::Before(change.buffer);
     let ends = M::ends(kernel.allocator(), &change)?;
@@ -33,8 +34,8 @@ pub(crate) fn make_change<M: Kernel>(kernel: &mut M, work: &mut Work, change: Ch
 
 /// Puts the functions of a kind in front, unless hooks are inhibited. They are meanwhile.
 fn put_hooks<M: Kernel>(kernel: &mut M, work: &mut Work, kind: Kind, args: Values) -> Mem<()>
-    ensures { OnOk result (working (M.state kernel.new) work.new.list ≡
-        around (kind_of kind) (map view (items_of args)) (M.state kernel.old) work.old.list) }
+    ensures { OnOk result (working (M.state kernel.new) (list_of work.new) ≡
+        around (kind_of kind) (map view (items_of args)) (M.state kernel.old) (list_of work.old)) }
 {
     if kernel.inhibited() {
         return Ok(());
@@ -49,7 +50,7 @@ fn put_hooks<M: Kernel>(kernel: &mut M, work: &mut Work, kind: Kind, args: Value
 /// A change is committed at its kept ends, and the functions behind it come first.
 pub(crate) fn commit_change<M: Kernel>(kernel: &mut M, work: &mut Work, change: &Change) -> Mem<()>
     ensures { (program : Plain) → OnOk result (Quietly program (M.state kernel.old) (M.state kernel.new)
-        (CommitChange (change_of change.now) ∷ work.old.list) work.new.list) }
+        (CommitChange (change_of change.now) ∷ (list_of work.old)) (list_of work.new)) }
 {
     match kernel.commit(change)? {
         Committed::Fault(fault) => {
@@ -74,7 +75,7 @@ pub(crate) fn enter_hooks(
 ) -> Mem<()>
     ensures { (program : Plain) (s : State) → OnOk result (Quietly program s s
         (Hooks (kind_of kind) (drop at (map number_of (items_of names))) (map view (items_of args)) ∷
-        work.old.list) work.new.list) }
+        (list_of work.old)) (list_of work.new)) }
 {
     if at >= names.len() {
         return Ok(());

@@ -1,8 +1,9 @@
 //! Whether claimed lines are those of a run on a journal.
-ghost use Rattle.std.specs.Prelude.{◌≡◌, ◌<◌, ◌^◌, IfOk, length};
+ghost use Rattle.std.specs.Prelude.{◌≡◌, ◌-◌, ◌<◌, ◌^◌, IfOk, length};
 ghost use Rattle.plain_machine.specs.State.{new_state};
 ghost use Rattle.host_link.specs.Meaning.{exchanges_of};
 ghost use Rattle.kernel_steps.specs.Work.{working};
+ghost use Rattle.trace_check.specs.Meaning.{list_of};
 ghost use Rattle.trace_check.specs.Verdicts.{IsVerdict};
 
 use crate::comparer::Comparer;
@@ -39,7 +40,7 @@ pub fn check<M: Stepped, P: Program>(
     requires unused { machine.old.used ≡ 0 }
     requires few { length (exchanges_of journal.now) < 2 ^ 32 }
     requires short { length claimed.now < 2 ^ 32 - 1 }
-    ensures { IfOk result (IsVerdict (P.meant program.now) (working new_state machine.old.work.list)
+    ensures { IfOk result (IsVerdict (P.meant program.now) (working new_state (list_of machine.old.work))
         (exchanges_of journal.now) claimed.now) }
 {
     let mut sink = LineSink::new(alloc);

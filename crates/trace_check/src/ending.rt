@@ -3,7 +3,7 @@ ghost use Rattle.std.specs.Prelude.{◌≡◌, ◌<◌, ◌∷◌, [], Err, opti
 ghost use Rattle.plain_machine.specs.Items.{Finish, WriteDump};
 ghost use Rattle.ek_types.specs.Io.{HasCause};
 ghost use Rattle.host_link.specs.Meaning.{exchange_of};
-ghost use Rattle.trace_check.specs.Meaning.{item_of};
+ghost use Rattle.trace_check.specs.Meaning.{item_of, list_of, places_of};
 ghost use Rattle.trace_check.specs.Steps.{Aloud, Comes};
 
 use crate::asks::{Met, Question, may_kill, meet};
@@ -17,7 +17,7 @@ use kernel_steps::{Kernel, Program};
 
 /// Nothing is left but this.
 fn leave_only(work: &mut Work, item: Item) -> Mem<()>
-    ensures { OnOk result (work.new.list ≡ item_of item ∷ []) }
+    ensures { OnOk result (list_of work.new ≡ item_of item ∷ []) }
 {
     work.clear();
     work.put(item)
@@ -32,9 +32,9 @@ pub(crate) fn finish<M: Kernel, P: Program, K: Sink>(
     p: u32,
     next: Option<&Exchange>,
 ) -> Result<Done, StepFault>
-    requires { 0 < work.old.places }
-    ensures step { Comes result (P.meant program.now) (option_map (λ x. exchange_of x.now) next)
-        (M.state kernel.now) (M.state kernel.now) (Finish p ∷ work.old.list) work.new.list
+    requires { 0 < places_of work.old }
+    ensures step { Comes result (P.meant program.now) (option_map (λ x. exchange_of x.now) next.entry)
+        (M.state kernel.now) (M.state kernel.now) (Finish p ∷ (list_of work.old)) (list_of work.new)
         (K.state sink.old) (K.state sink.new) }
     ensures cause { HasCause (K.state sink.old).faults (K.state sink.new).faults (result ≡
         Err StepFault.Sink) }
@@ -73,7 +73,7 @@ pub(crate) fn write_dump<M: Kernel, P: Program, K: Sink>(
     sink: &mut K,
 ) -> Result<(), StepFault>
     ensures step { OnOk result (Aloud (P.meant program.now) (M.state kernel.now) (M.state kernel.now)
-        (WriteDump ∷ work.old.list) work.new.list (K.state sink.old) (K.state sink.new)) }
+        (WriteDump ∷ (list_of work.old)) (list_of work.new) (K.state sink.old) (K.state sink.new)) }
     ensures cause { HasCause (K.state sink.old).faults (K.state sink.new).faults (result ≡
         Err StepFault.Sink) }
 {

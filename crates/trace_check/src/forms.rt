@@ -7,7 +7,7 @@ ghost use Rattle.ek_call.specs.Meaning.{arg_of, call_of, form_of, joined};
 ghost use Rattle.editor_model.specs.Values.{In, WhenEq};
 ghost use Rattle.kernel_steps.specs.Blocks.{block_of, kept_as};
 ghost use Rattle.kernel_steps.specs.Work.{call_form, target_of as form_target};
-ghost use Rattle.trace_check.specs.Meaning.{target_of};
+ghost use Rattle.trace_check.specs.Meaning.{list_of, target_of};
 ghost use Rattle.trace_check.specs.Steps.{Quietly};
 
 use crate::arguments::{are_equal, values};
@@ -20,7 +20,7 @@ use kernel_steps::{Block, Kept, Kernel};
 /// The first form that is left of a body, and the others behind it. Without forms the body is gone.
 pub(crate) fn do_body(work: &mut Work, forms: Forms, at: usize) -> Mem<()>
     ensures { (program : Plain) (s : State) → OnOk result (Quietly program s s
-        (Body (joined (drop at (map form_of (items_of forms)))) ∷ work.old.list) work.new.list) }
+        (Body (joined (drop at (map form_of (items_of forms)))) ∷ (list_of work.old)) (list_of work.new)) }
 {
     if at >= forms.len() {
         return Ok(());
@@ -34,7 +34,7 @@ pub(crate) fn do_body(work: &mut Work, forms: Forms, at: usize) -> Mem<()>
 /// The same of the top level. Without forms the run comes to its end.
 pub(crate) fn do_top(work: &mut Work, forms: Forms, at: usize) -> Mem<()>
     ensures { (program : Plain) (s : State) → OnOk result (Quietly program s s
-        (Top (joined (drop at (map form_of (items_of forms)))) ∷ work.old.list) work.new.list) }
+        (Top (joined (drop at (map form_of (items_of forms)))) ∷ (list_of work.old)) (list_of work.new)) }
 {
     if at >= forms.len() {
         work.clear();
@@ -50,7 +50,7 @@ pub(crate) fn do_top(work: &mut Work, forms: Forms, at: usize) -> Mem<()>
 /// One form.
 pub(crate) fn do_form<M: Kernel>(kernel: &mut M, work: &mut Work, form: Form) -> Mem<()>
     ensures { (program : Plain) → OnOk result (Quietly program (M.state kernel.old) (M.state kernel.new)
-        (DoForm (form_of form) ∷ work.old.list) work.new.list) }
+        (DoForm (form_of form) ∷ (list_of work.old)) (list_of work.new)) }
 {
     match form {
         Form::Do(call) => {
@@ -88,7 +88,7 @@ pub(crate) fn do_form<M: Kernel>(kernel: &mut M, work: &mut Work, form: Form) ->
 fn do_call<M: Kernel>(kernel: &mut M, work: &mut Work, call: Call, target: Target) -> Mem<()>
     ensures { (program : Plain) (name : Option ℕ) → form_target name ≡ target_of target → OnOk result
         (Quietly program (M.state kernel.old) (M.state kernel.new)
-        (DoForm (call_form name (call_of call)) ∷ work.old.list) work.new.list) }
+        (DoForm (call_form name (call_of call)) ∷ (list_of work.old)) (list_of work.new)) }
 {
     match values(kernel, &call.args)? {
         None => {
@@ -105,8 +105,8 @@ fn do_call<M: Kernel>(kernel: &mut M, work: &mut Work, call: Call, target: Targe
 /// A block keeps what it must, and restores it behind its forms.
 fn do_block<M: Kernel>(kernel: &mut M, work: &mut Work, block: Block, forms: Forms) -> Mem<()>
     ensures { (program : Plain) → OnOk result (Quietly program (M.state kernel.old) (M.state kernel.new)
-        (DoForm (In (block_of block) (joined (map form_of (items_of forms)))) ∷ work.old.list)
-        work.new.list) }
+        (DoForm (In (block_of block) (joined (map form_of (items_of forms)))) ∷ (list_of work.old))
+        (list_of work.new)) }
 {
     let kept = kernel.open(block)?;
     work.put(Item::Leave(kept))?;
@@ -118,7 +118,7 @@ fn do_block<M: Kernel>(kernel: &mut M, work: &mut Work, block: Block, forms: For
 fn do_when<M: Kernel>(kernel: &M, work: &mut Work, a: &Arg, b: &Arg, forms: Forms) -> Mem<()>
     ensures { (program : Plain) → OnOk result (Quietly program (M.state kernel.now) (M.state kernel.now)
         (DoForm (WhenEq (arg_of a.now) (arg_of b.now) (joined (map form_of (items_of forms)))) ∷
-        work.old.list) work.new.list) }
+        (list_of work.old)) (list_of work.new)) }
 {
     match are_equal(kernel, a, b) {
         None => {

@@ -9,6 +9,7 @@ ghost use Rattle.ek_call.specs.Meaning.{reply_of, view};
 ghost use Rattle.handler_code.specs.Calls.{call_asked};
 ghost use Rattle.kernel_steps.specs.Handlers.{code_of, ended_work, kind_of};
 ghost use Rattle.kernel_steps.specs.Work.{working};
+ghost use Rattle.trace_check.specs.Meaning.{list_of};
 ghost use Rattle.trace_check.specs.Steps.{Aloud, Quietly};
 
 use crate::item::{Item, Target};
@@ -34,8 +35,8 @@ pub(crate) fn enter<M: Kernel, P: Program, K: Sink>(
     args: Values,
 ) -> Result<(), StepFault>
     ensures step { OnOk result (Aloud (P.meant program.now) (M.state kernel.old) (M.state kernel.new)
-        (Enter (kind_of kind) (option_map number_of handler) (map view (items_of args)) ∷ work.old.list)
-        work.new.list (K.state sink.old) (K.state sink.new)) }
+        (Enter (kind_of kind) (option_map number_of handler) (map view (items_of args)) ∷ (list_of work.old))
+        (list_of work.new) (K.state sink.old) (K.state sink.new)) }
     ensures cause { HasCause (K.state sink.old).faults (K.state sink.new).faults (result ≡
         Err StepFault.Sink) }
 {
@@ -56,9 +57,9 @@ fn put_code<M: Kernel, P: Program>(
     handler: Option<Sym>,
     args: Values,
 ) -> Mem<()>
-    ensures { OnOk result (working (M.state kernel.new) work.new.list ≡
+    ensures { OnOk result (working (M.state kernel.new) (list_of work.new) ≡
         code_of (P.meant program.now) (kind_of kind) (option_map number_of handler)
-        (map view (items_of args)) (M.state kernel.old) work.old.list) }
+        (map view (items_of args)) (M.state kernel.old) (list_of work.old)) }
 {
     let Some(name) = handler else {
         put_default(kernel, work, kind, &args)?;
@@ -79,8 +80,8 @@ fn put_code<M: Kernel, P: Program>(
 
 /// Puts the insertion of a default handler in front, whose buffer becomes current.
 fn put_default<M: Kernel>(kernel: &mut M, work: &mut Work, kind: Kind, args: &Values) -> Mem<()>
-    ensures { OnOk result (working (M.state kernel.new) work.new.list ≡
-        default_handler (M.state kernel.old) (kind_of kind) (map view (items_of args.now)) work.old.list) }
+    ensures { OnOk result (working (M.state kernel.new) (list_of work.new) ≡
+        default_handler (M.state kernel.old) (kind_of kind) (map view (items_of args.now)) (list_of work.old)) }
 {
     match kernel.prepare_default(kind, args)? {
         Prepared::Change(change) => {
@@ -106,8 +107,8 @@ pub(crate) fn go_on<M: Kernel, P: Program>(
     past: Replies,
 ) -> Mem<()>
     ensures { OnOk result (Quietly (P.meant program.now) (M.state kernel.now) (M.state kernel.now)
-        (Native native (map view (items_of args)) (map reply_of (items_of past)) ∷ work.old.list)
-        work.new.list) }
+        (Native native (map view (items_of args)) (map reply_of (items_of past)) ∷ (list_of work.old))
+        (list_of work.new)) }
 {
     if past.len() >= MOST_REPLIES {
         return Ok(());
@@ -129,8 +130,8 @@ fn put_call<M: Kernel, P: Program>(
     work: &mut Work,
     asked: NativeCall,
 ) -> Mem<()>
-    ensures { OnOk result (work.new.list ≡ native_call (P.meant program.now) (M.state kernel.now)
-        (call_asked asked) ∷ work.old.list) }
+    ensures { OnOk result (list_of work.new ≡ native_call (P.meant program.now) (M.state kernel.now)
+        (call_asked asked) ∷ (list_of work.old)) }
 {
     match kernel.allowed(program, asked)? {
         Some(made) => {
@@ -156,8 +157,8 @@ pub(crate) fn exit<M: Kernel, P: Program, K: Sink>(
     faulted: bool,
 ) -> Result<(), StepFault>
     ensures step { OnOk result (Aloud (P.meant program.now) (M.state kernel.old) (M.state kernel.new)
-        (Exit (kind_of kind) (option_map number_of handler) current faulted ∷ work.old.list)
-        work.new.list (K.state sink.old) (K.state sink.new)) }
+        (Exit (kind_of kind) (option_map number_of handler) current faulted ∷ (list_of work.old))
+        (list_of work.new) (K.state sink.old) (K.state sink.new)) }
     ensures cause { HasCause (K.state sink.old).faults (K.state sink.new).faults (result ≡
         Err StepFault.Sink) }
 {
@@ -170,7 +171,7 @@ pub(crate) fn exit<M: Kernel, P: Program, K: Sink>(
 
 /// Drops the hook functions that are left, where a fault ended one of them.
 fn end_work(work: &mut Work, kind: Kind, faulted: bool) -> Mem<()>
-    ensures { OnOk result (work.new.list ≡ ended_work (kind_of kind) faulted work.old.list) }
+    ensures { OnOk result (list_of work.new ≡ ended_work (kind_of kind) faulted (list_of work.old)) }
 {
     match kind {
         Kind::Before(_) | Kind::After(_) if faulted => {
@@ -182,7 +183,7 @@ fn end_work(work: &mut Work, kind: Kind, faulted: bool) -> Mem<()>
 }
 
 fn drop_hooks(work: &mut Work) -> Mem<()>
-    ensures { OnOk result (work.new.list ≡ without_hooks_item work.old.list) }
+    ensures { OnOk result (list_of work.new ≡ without_hooks_item (list_of work.old)) }
 {
     match work.take() {
         None => Ok(()),

@@ -7,7 +7,7 @@ ghost use Rattle.ek_types.specs.Listing.{items_of};
 ghost use Rattle.ek_call.specs.Meaning.{view};
 ghost use Rattle.ek_call.specs.Primitives.{prim_of};
 ghost use Rattle.host_link.specs.Meaning.{exchange_of, exchanges_of};
-ghost use Rattle.trace_check.specs.Meaning.{item_of, target_of};
+ghost use Rattle.trace_check.specs.Meaning.{item_of, list_of, places_of, target_of};
 ghost use Rattle.trace_check.specs.Steps.{Comes, Unheard};
 ghost use Rattle.trace_check.specs.Turns.{Turns, alone_by, heard_by, seen, told_by};
 
@@ -69,12 +69,12 @@ fn call_process<M: Stepped, P: Program>(
     target: Target,
     next: Option<&Exchange>,
 ) -> Mem<Done>
-    requires place { 0 < work.old.places }
+    requires place { 0 < places_of work.old }
     requires manner { manner_of (prim_of prim) ≡ ConcernsHandlers }
-    ensures { Unheard result (P.meant program.now) (option_map (λ x. exchange_of x.now) next)
+    ensures { Unheard result (P.meant program.now) (option_map (λ x. exchange_of x.now) next.entry)
         (M.state kernel.old) (M.state kernel.new)
-        (MakeCall (prim_of prim) (map view (items_of args)) (target_of target) ∷ work.old.list)
-        work.new.list }
+        (MakeCall (prim_of prim) (map view (items_of args)) (target_of target) ∷ (list_of work.old))
+        (list_of work.new) }
 {
     if let Some(fault) = kernel.refusal(program, prim, &args) {
         work.put(Item::Refuse(fault))?;
@@ -106,11 +106,11 @@ fn call<M: Stepped, P: Program>(
     target: Target,
     next: Option<&Exchange>,
 ) -> Mem<Done>
-    requires { 0 < work.old.places }
-    ensures { Unheard result (P.meant program.now) (option_map (λ x. exchange_of x.now) next)
+    requires { 0 < places_of work.old }
+    ensures { Unheard result (P.meant program.now) (option_map (λ x. exchange_of x.now) next.entry)
         (M.state kernel.old) (M.state kernel.new)
-        (MakeCall (prim_of prim) (map view (items_of args)) (target_of target) ∷ work.old.list)
-        work.new.list }
+        (MakeCall (prim_of prim) (map view (items_of args)) (target_of target) ∷ (list_of work.old))
+        (list_of work.new) }
 {
     match M::manner(prim) {
         Manner::OnlyAsks => calls::ask_editor(kernel, work, prim, &args, target)?,
@@ -132,9 +132,9 @@ fn do_item<M: Stepped, P: Program, K: Sink>(
     item: Item,
     next: Option<&Exchange>,
 ) -> Result<Done, StepFault>
-    requires { 0 < work.old.places }
-    ensures step { Comes result (P.meant program.now) (option_map (λ x. exchange_of x.now) next)
-        (M.state kernel.old) (M.state kernel.new) (item_of item ∷ work.old.list) work.new.list
+    requires { 0 < places_of work.old }
+    ensures step { Comes result (P.meant program.now) (option_map (λ x. exchange_of x.now) next.entry)
+        (M.state kernel.old) (M.state kernel.new) (item_of item ∷ (list_of work.old)) (list_of work.new)
         (K.state sink.old) (K.state sink.new) }
     ensures cause { HasCause (K.state sink.old).faults (K.state sink.new).faults (result ≡
         Err StepFault.Sink) }
@@ -218,8 +218,8 @@ impl<M: Stepped> Machine<M> {
         sink: &mut K,
     ) -> Result<Turn, StepFault>
         ensures turn { Turns result (P.meant program.now) (exchanges_of journal.now)
-            (seen (M.state self.old.kernel) self.old.work.list self.old.used)
-            (seen (M.state self.new.kernel) self.new.work.list self.new.used)
+            (seen (M.state self.old.kernel) (list_of self.old.work) self.old.used)
+            (seen (M.state self.new.kernel) (list_of self.new.work) self.new.used)
             (K.state sink.old) (K.state sink.new) }
         ensures cause { HasCause (K.state sink.old).faults (K.state sink.new).faults (result ≡
             Err StepFault.Sink) }

@@ -8,7 +8,7 @@ ghost use Rattle.ek_call.specs.Meaning.{view};
 ghost use Rattle.ek_call.specs.Primitives.{prim_of};
 ghost use Rattle.host_link.specs.Meaning.{exchange_of};
 ghost use Rattle.kernel_steps.specs.Waits.{Passes};
-ghost use Rattle.trace_check.specs.Meaning.{target_of};
+ghost use Rattle.trace_check.specs.Meaning.{list_of, places_of, target_of};
 ghost use Rattle.trace_check.specs.Steps.{Unheard};
 
 use crate::asks::{Met, Question, meet};
@@ -22,10 +22,10 @@ use kernel_steps::{Kernel, Program};
 
 /// A call that met nothing, or nothing that answers it, is still to be made.
 fn unmade(work: &mut Work, prim: Primitive, args: Values, target: Target, done: Done) -> Mem<Done>
-    requires { 0 < work.old.places }
+    requires { 0 < places_of work.old }
     ensures result { result ≡ Ok done }
-    ensures work { work.new.list ≡ MakeCall (prim_of prim) (map view (items_of args))
-        (target_of target) ∷ work.old.list }
+    ensures work { list_of work.new ≡ MakeCall (prim_of prim) (map view (items_of args))
+        (target_of target) ∷ (list_of work.old) }
 {
     work.put_back(Item::MakeCall(prim, args, target));
     Ok(done)
@@ -53,13 +53,13 @@ pub(crate) fn start_process<M: Kernel, P: Program>(
     target: Target,
     next: Option<&Exchange>,
 ) -> Mem<Done>
-    requires place { 0 < work.old.places }
+    requires place { 0 < places_of work.old }
     requires passes { Passes (P.meant program.now) (M.state kernel.old) StartProcess
         (map view (items_of args)) }
-    ensures { Unheard result (P.meant program.now) (option_map (λ x. exchange_of x.now) next)
+    ensures { Unheard result (P.meant program.now) (option_map (λ x. exchange_of x.now) next.entry)
         (M.state kernel.old) (M.state kernel.new)
-        (MakeCall StartProcess (map view (items_of args)) (target_of target) ∷ work.old.list)
-        work.new.list }
+        (MakeCall StartProcess (map view (items_of args)) (target_of target) ∷ (list_of work.old))
+        (list_of work.new) }
 {
     let command = kernel.command(program, &args)?;
     match meet(next, &Question::Spawn(&command)) {
@@ -88,13 +88,13 @@ pub(crate) fn send_string<M: Kernel, P: Program>(
     target: Target,
     next: Option<&Exchange>,
 ) -> Mem<Done>
-    requires place { 0 < work.old.places }
+    requires place { 0 < places_of work.old }
     requires passes { Passes (P.meant program.now) (M.state kernel.old) ProcessSendString
         (map view (items_of args)) }
-    ensures { Unheard result (P.meant program.now) (option_map (λ x. exchange_of x.now) next)
+    ensures { Unheard result (P.meant program.now) (option_map (λ x. exchange_of x.now) next.entry)
         (M.state kernel.old) (M.state kernel.new)
-        (MakeCall ProcessSendString (map view (items_of args)) (target_of target) ∷ work.old.list)
-        work.new.list }
+        (MakeCall ProcessSendString (map view (items_of args)) (target_of target) ∷ (list_of work.old))
+        (list_of work.new) }
 {
     let bytes = kernel.bytes_given(&args)?;
     if bytes.is_empty() {
@@ -133,13 +133,13 @@ pub(crate) fn send_eof<M: Kernel, P: Program>(
     target: Target,
     next: Option<&Exchange>,
 ) -> Mem<Done>
-    requires place { 0 < work.old.places }
+    requires place { 0 < places_of work.old }
     requires passes { Passes (P.meant program.now) (M.state kernel.old) ProcessSendEof
         (map view (items_of args)) }
-    ensures { Unheard result (P.meant program.now) (option_map (λ x. exchange_of x.now) next)
+    ensures { Unheard result (P.meant program.now) (option_map (λ x. exchange_of x.now) next.entry)
         (M.state kernel.old) (M.state kernel.new)
-        (MakeCall ProcessSendEof (map view (items_of args)) (target_of target) ∷ work.old.list)
-        work.new.list }
+        (MakeCall ProcessSendEof (map view (items_of args)) (target_of target) ∷ (list_of work.old))
+        (list_of work.new) }
 {
     let p = kernel.process_given(&args);
     let process = kernel.processes().get(p);

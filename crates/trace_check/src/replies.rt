@@ -6,7 +6,7 @@ ghost use Rattle.ek_types.specs.Io.{HasCause};
 ghost use Rattle.ek_call.specs.Faults.{fault_of};
 ghost use Rattle.ek_call.specs.Meaning.{reply_of, view};
 ghost use Rattle.kernel_steps.specs.Work.{reply_item};
-ghost use Rattle.trace_check.specs.Meaning.{item_of, target_of};
+ghost use Rattle.trace_check.specs.Meaning.{item_of, list_of, target_of};
 ghost use Rattle.trace_check.specs.Steps.{Aloud, Drops, DropsBy};
 
 use crate::item::{Item, Target};
@@ -19,7 +19,7 @@ use kernel_steps::{Kernel, Program};
 
 /// Puts the item of a reply in front.
 pub(crate) fn put_reply(work: &mut Work, reply: Reply, target: Target) -> Mem<()>
-    ensures { OnOk result (work.new.list ≡ reply_item (reply_of reply) (target_of target) ∷ work.old.list) }
+    ensures { OnOk result (list_of work.new ≡ reply_item (reply_of reply) (target_of target) ∷ (list_of work.old)) }
 {
     match reply {
         Reply::Value(value) => {
@@ -43,7 +43,7 @@ pub(crate) fn give_answer<M: Kernel, P: Program, K: Sink>(
     target: Target,
 ) -> Result<(), StepFault>
     ensures step { OnOk result (Aloud (P.meant program.now) (M.state kernel.old) (M.state kernel.new)
-        (GiveAnswer (view value) (target_of target) ∷ work.old.list) work.new.list
+        (GiveAnswer (view value) (target_of target) ∷ (list_of work.old)) (list_of work.new)
         (K.state sink.old) (K.state sink.new)) }
     ensures cause { HasCause (K.state sink.old).faults (K.state sink.new).faults (result ≡
         Err StepFault.Sink) }
@@ -64,7 +64,7 @@ pub(crate) fn give_answer<M: Kernel, P: Program, K: Sink>(
 
 /// A reply is kept for the native that made the call.
 fn keep_reply(work: &mut Work, reply: Reply) -> Mem<()>
-    ensures { OnOk result (work.new.list ≡ kept_reply (reply_of reply) work.old.list) }
+    ensures { OnOk result (list_of work.new ≡ kept_reply (reply_of reply) (list_of work.old)) }
 {
     match work.take() {
         None => Ok(()),
@@ -90,7 +90,7 @@ pub(crate) fn refuse<M: Stepped, P: Program, K: Sink>(
     fault: Fault,
 ) -> Result<(), StepFault>
     ensures step { OnOk result (Aloud (P.meant program.now) (M.state kernel.old) (M.state kernel.new)
-        (Refuse (fault_of fault) ∷ work.old.list) work.new.list (K.state sink.old) (K.state sink.new)) }
+        (Refuse (fault_of fault) ∷ (list_of work.old)) (list_of work.new) (K.state sink.old) (K.state sink.new)) }
     ensures cause { HasCause (K.state sink.old).faults (K.state sink.new).faults (result ≡
         Err StepFault.Sink) }
 {
@@ -103,7 +103,7 @@ pub(crate) fn refuse<M: Stepped, P: Program, K: Sink>(
 /// change are kept no longer.
 fn drop_work<M: Stepped>(kernel: &mut M, work: &mut Work, fault: Fault) -> Mem<()>
     ensures { OnOk result (Drops (fault_of fault) (M.state kernel.old) (M.state kernel.new)
-        work.old.list work.new.list) }
+        (list_of work.old) (list_of work.new)) }
 {
     while let Some(item) = work.take() {
         if drop_item(kernel, work, item, fault)? {
@@ -116,7 +116,7 @@ fn drop_work<M: Stepped>(kernel: &mut M, work: &mut Work, fault: Fault) -> Mem<(
 /// Drops one item, or says that the fault ends there.
 fn drop_item<M: Stepped>(kernel: &mut M, work: &mut Work, item: Item, fault: Fault) -> Mem<bool>
     ensures { IfOk result (λ ends. DropsBy ends (fault_of fault) (M.state kernel.old)
-        (M.state kernel.new) (item_of item ∷ work.old.list) work.new.list) }
+        (M.state kernel.new) (item_of item ∷ (list_of work.old)) (list_of work.new)) }
 {
     match item {
         Item::Top(forms, at) => work.put(Item::Top(forms, at))?,

@@ -34,6 +34,7 @@ pub(crate) enum Done {
 }
 
 impl From<NoMemory> for StepFault {
+    ghost use Rattle.std.specs.Prelude.{◌≡◌};
     ghost use Rattle.trace_check.specs.declared.turn.StepFault.TheVariants as fault;
 
     ghost from_gives = { λ _ f. f ≡ fault.NoMemory };
@@ -44,6 +45,7 @@ impl From<NoMemory> for StepFault {
 }
 
 impl From<SinkFault> for StepFault {
+    ghost use Rattle.std.specs.Prelude.{◌≡◌};
     ghost use Rattle.trace_check.specs.declared.turn.StepFault.TheVariants as fault;
 
     ghost from_gives = { λ _ f. f ≡ fault.Sink };

@@ -6,11 +6,11 @@ ghost use Rattle.plain_machine.specs.State.{Program as Plain};
 ghost use Rattle.process_table.specs.Table.{with_table};
 ghost use Rattle.host_link.specs.Meaning.{exchange_of};
 ghost use Rattle.kernel_steps.specs.Waits.{entering};
-ghost use Rattle.trace_check.specs.Meaning.{target_of};
+ghost use Rattle.trace_check.specs.Meaning.{list_of, places_of, target_of};
 ghost use Rattle.trace_check.specs.Steps.{Unheard};
 ghost use Rattle.trace_check.specs.Waits.{ahead_of};
 
-use crate::asks::{Met, Question, may_end, may_kill, may_read, meet};
+use crate::asks::{Met, Question, may_hear, may_kill, meet};
 use crate::item::{Item, Target};
 use crate::stepped::Stepped;
 use crate::turn::Done;
@@ -30,10 +30,10 @@ pub(crate) fn wait<M: Stepped>(
     target: Target,
     next: Option<&Exchange>,
 ) -> Mem<Done>
-    requires { 0 < work.old.places }
-    ensures { (program : Plain) → Unheard result program (option_map (λ x. exchange_of x.now) next)
-        (M.state kernel.old) (M.state kernel.new) (Wait waiting (target_of target) ∷ work.old.list)
-        work.new.list }
+    requires { 0 < places_of work.old }
+    ensures { (program : Plain) → Unheard result program (option_map (λ x. exchange_of x.now) next.entry)
+        (M.state kernel.old) (M.state kernel.new) (Wait waiting (target_of target) ∷ (list_of work.old))
+        (list_of work.new) }
 {
     match waiting.ahead(kernel.processes()) {
         Ahead::Done(heard) => {
@@ -60,11 +60,11 @@ fn ask<M: Stepped>(
     p: u32,
     next: Option<&Exchange>,
 ) -> Mem<Done>
-    requires place { 0 < work.old.places }
+    requires place { 0 < places_of work.old }
     requires ahead { ahead_of (with_table (M.state kernel.old).processes) waiting ≡ Ahead.Ask p }
-    ensures { (program : Plain) → Unheard result program (option_map (λ x. exchange_of x.now) next)
-        (M.state kernel.old) (M.state kernel.new) (Wait waiting (target_of target) ∷ work.old.list)
-        work.new.list }
+    ensures { (program : Plain) → Unheard result program (option_map (λ x. exchange_of x.now) next.entry)
+        (M.state kernel.old) (M.state kernel.new) (Wait waiting (target_of target) ∷ (list_of work.old))
+        (list_of work.new) }
 {
     if !kernel.may_ask() {
         work.put(Item::Refuse(Fault::ExchangesSpent))?;
@@ -78,12 +78,7 @@ fn ask<M: Stepped>(
         Question::Read(process.child())
     };
     match meet(next, &question) {
-        Met::Answer(answer)
-            if if drained {
-                may_end(answer)
-            } else {
-                may_read(answer)
-            } => {
+        Met::Answer(answer) if may_hear(drained, answer) => {
             let mut waiting = waiting;
             waiting.drop_first(kernel.processes());
             let heard = kernel.take_answer(p, answer)?;
@@ -105,7 +100,7 @@ fn ask<M: Stepped>(
 
 /// Puts a filter or a sentinel in front, if there is one to be entered.
 fn put_entry(work: &mut Work, entry: Option<Entry>) -> Mem<()>
-    ensures { OnOk result (work.new.list ≡ entering entry work.old.list) }
+    ensures { OnOk result (list_of work.new ≡ entering entry (list_of work.old)) }
 {
     match entry {
         None => Ok(()),
@@ -128,9 +123,9 @@ pub(crate) fn delete<M: Stepped>(
     p: u32,
     next: Option<&Exchange>,
 ) -> Mem<Done>
-    requires { 0 < work.old.places }
-    ensures { (program : Plain) → Unheard result program (option_map (λ x. exchange_of x.now) next)
-        (M.state kernel.old) (M.state kernel.new) (Delete p ∷ work.old.list) work.new.list }
+    requires { 0 < places_of work.old }
+    ensures { (program : Plain) → Unheard result program (option_map (λ x. exchange_of x.now) next.entry)
+        (M.state kernel.old) (M.state kernel.new) (Delete p ∷ (list_of work.old)) (list_of work.new) }
 {
     if !is_running(kernel, p) {
         return Ok(Done::Alone);

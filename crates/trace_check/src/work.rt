@@ -1,11 +1,10 @@
 //! The list of work.
 ghost use Rattle.std.specs.Prelude.{◌≡◌, ◌<◌, [], ◌∷◌, OnOk, OnErr, IfNone, IfSome};
-ghost use Rattle.trace_check.specs.Meaning.{item_of};
+ghost use Rattle.trace_check.specs.Meaning.{item_of, list_of, places_of};
 
 use crate::item::Item;
 use ek_types::Mem;
 use std::alloc::Global;
-use std::marker::Model;
 
 /// The flat list of what is left to do, the next item first. Its items lie in the opposite order, so that the next one is
 /// taken and others are put in front without moving the rest.
@@ -14,23 +13,10 @@ pub struct Work {
     items: Vec<Item>,
 }
 
-impl Model for Work {
-    ghost use Rattle.std.specs.Prelude.{◌-◌, vec_len, vec_capacity};
-    ghost use Rattle.trace_check.specs.Meaning.{work_of};
-    ghost use Rattle.trace_check.specs.Work.{KeptWork};
-
-    ghost Value = { KeptWork };
-
-    ghost view = { λ w. record {
-      list = work_of w.items.items;
-      places = vec_capacity w.items - vec_len w.items;
-    } };
-}
-
 impl Work {
     /// No work.
     pub fn new(alloc: Global) -> Work
-        ensures { result.list ≡ [] }
+        ensures { list_of result ≡ [] }
     {
         Work {
             items: Vec::new(alloc),
@@ -40,8 +26,8 @@ impl Work {
     /// Puts an item in front. A refusal leaves the list as it was.
     #[tactic(auto, using(crate::proofs::Listing::work_more))]
     pub fn put(&mut self, item: Item) -> Mem<()>
-        ensures ok { OnOk result (self.new.list ≡ item_of item ∷ self.old.list) }
-        ensures err { OnErr result (self.new.list ≡ self.old.list) }
+        ensures ok { OnOk result (list_of self.new ≡ item_of item ∷ (list_of self.old)) }
+        ensures err { OnErr result (list_of self.new ≡ (list_of self.old)) }
     {
         self.items.push(item)?;
         Ok(())
@@ -50,8 +36,8 @@ impl Work {
     /// Puts an item in front in the place of one that was taken. It takes no memory.
     #[tactic(auto, using(crate::proofs::Listing::work_more))]
     pub(crate) fn put_back(&mut self, item: Item)
-        requires { 0 < self.old.places }
-        ensures { self.new.list ≡ item_of item ∷ self.old.list }
+        requires { 0 < places_of self.old }
+        ensures { list_of self.new ≡ item_of item ∷ (list_of self.old) }
     {
         self.items.push_reserved(item);
     }
@@ -59,9 +45,9 @@ impl Work {
     /// Takes the next item, if there is one.
     #[tactic(auto, using(crate::proofs::Listing::work_more))]
     pub(crate) fn take(&mut self) -> Option<Item>
-        ensures none { IfNone result ((self.old.list ≡ []) × (self.new.list ≡ [])) }
-        ensures some { IfSome result (λ item. self.old.list ≡ item_of item ∷ self.new.list) }
-        ensures place { IfSome result (λ item. 0 < self.new.places) }
+        ensures none { IfNone result ((list_of self.old ≡ []) × (list_of self.new ≡ [])) }
+        ensures some { IfSome result (λ item. (list_of self.old) ≡ item_of item ∷ (list_of self.new)) }
+        ensures place { IfSome result (λ item. 0 < (places_of self.new)) }
     {
         let item = self.items.pop()?;
         Some(item)
@@ -69,7 +55,7 @@ impl Work {
 
     /// Drops all work.
     pub(crate) fn clear(&mut self)
-        ensures { self.new.list ≡ [] }
+        ensures { list_of self.new ≡ [] }
     {
         self.items.clear();
     }
