@@ -12,3 +12,6 @@ pub mod Paths
 pub mod Following
 pub mod Strayed
 pub mod Replays
+pub mod Spoken
+pub mod LinedRuns
+pub mod RecordedRuns

@@ -10,3 +10,4 @@ pub mod Unseen
 pub mod Sessions
 pub mod Replaying
 pub mod Outcomes
+pub mod RecordedRuns

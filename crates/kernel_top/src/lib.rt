@@ -6,6 +6,7 @@ mod counting;
 mod drill_child;
 mod drill_script;
 mod drilling;
+mod laws;
 mod null_sink;
 mod reading;
 mod recording;
@@ -17,6 +18,7 @@ mod unseen;
 mod words;
 
 pub use drilling::drill;
+pub use laws::recorded_runs_replay;
 pub use null_sink::NullSink;
 pub use status::Status;
 pub use top::run;
