@@ -36,8 +36,8 @@ marker 0 #<marker in no buffer>
 process 0 #<process c> exit 0
 "#,
         exchanges: b"spawn cat: started 0
-read 0: bytes a\\r
-read 0: bytes \\nb\\r
+read 0: bytes a\r
+read 0: bytes \nb\r
 read 0: end
 end 0: code 0
 ",
@@ -96,7 +96,7 @@ marker 0 #<marker in no buffer>
 process 0 #<process c> run 0
 "#,
         exchanges: b"spawn cat: started 0
-read 0: bytes \\r\\r\\n
+read 0: bytes \r\r\n
 read 0: bytes \\r\\xff\\r
 read 0: bytes \\xe2\\x82\\r\\n
 kill 0: killed
@@ -138,7 +138,7 @@ process 0 #<process c> exit 0
 "#,
         exchanges: b"spawn cat: started 0
 read 0: nothing
-read 0: bytes a\\r
+read 0: bytes a\r
 read 0: end
 end 0: code 0
 ",
