@@ -45,23 +45,30 @@ CHANGES = [
     (
         "tail dropped at the end of the output",
         "plain_machine/specs/Waits.antt",
-        "(more_characters (characters x.bytes) (all_characters x.bytes))",
-        "(more_characters (characters x.bytes) (characters x.bytes))",
+        "(more_characters (decoded x.coding (read_so_far x)) (all_decoded x.coding (read_so_far x)))",
+        "(more_characters (decoded x.coding (read_so_far x)) (decoded x.coding (read_so_far x)))",
         ENTRIES,
     ),
     (
         "output entered once more at its end",
         "plain_machine/specs/Waits.antt",
-        "(more_characters (characters x.bytes) (all_characters x.bytes))",
-        "(all_characters x.bytes)",
+        "(more_characters (decoded x.coding (read_so_far x)) (all_decoded x.coding (read_so_far x)))",
+        "(all_decoded x.coding (read_so_far x))",
         ENTRIES,
     ),
     (
         "bytes of a read in the place of the earlier ones",
         "plain_machine/specs/Waits.antt",
-        "(λ y. record y { bytes = x.bytes ++ bytes })",
-        "(λ y. record y { bytes = bytes })",
+        "(λ y. record y { bytes = Some (read_so_far x ++ bytes) })",
+        "(λ y. record y { bytes = Some bytes })",
         ENTRIES,
+    ),
+    (
+        "coding set although bytes were read",
+        "plain_machine/specs/Calls.antt",
+        "with_coding c x = elim x.bytes [ Some bytes ↦ x | None ↦ record x { coding = c } ]",
+        "with_coding c x = record x { coding = c }",
+        ["codings_stay", "filters_hear_what_was_read"],
     ),
     (
         "end asked before the output has ended",
@@ -75,9 +82,9 @@ CHANGES = [
     (
         "sentinel entered before the tail",
         "plain_machine/specs/Waits.antt",
-        "(entry_of s p x (more_characters (characters x.bytes) (all_characters x.bytes)) (Wait w target ∷ rest))",
+        "(entry_of s p x (more_characters (decoded x.coding (read_so_far x)) (all_decoded x.coding (read_so_far x))) (Wait w target ∷ rest))",
         "(Enter (OfSentinel p) x.sentinel (TheProcess p ∷ Str [] ∷ [])"
-        " ∷ entry_of s p x (more_characters (characters x.bytes) (all_characters x.bytes)) (Wait w target ∷ rest))",
+        " ∷ entry_of s p x (more_characters (decoded x.coding (read_so_far x)) (all_decoded x.coding (read_so_far x))) (Wait w target ∷ rest))",
         ["sentinels_come_last", "sentinels_come_after_output"],
     ),
     (

@@ -19,6 +19,7 @@ COMMIT = "text_model/specs/Commit.antt"
 COMMITS = "editor_model/specs/Commits.antt"
 TEXT_CALLS = "editor_model/specs/TextCalls.antt"
 UNDO_CALLS = "editor_model/specs/UndoCalls.antt"
+READ_ONLY = "editor_model/specs/ReadOnly.antt"
 PROPERTY_CALLS = "editor_model/specs/PropertyCalls.antt"
 EDITOR = "editor_model/specs/Editor.antt"
 BUFFER_CALLS = "editor_model/specs/BufferCalls.antt"
@@ -166,6 +167,48 @@ HOOK_RULES = [
         "restored (KeptInhibition old) s = record s { inhibited = old }",
         "restored (KeptInhibition old) s = s",
         ["HookRows.hooks_inhibited_holds", "nothing_is_left_at_the_top"],
+    ),
+    (
+        "block in which nothing is read-only changes nothing",
+        FORMS,
+        "opened InhibitReadOnly s = lifting true s",
+        "opened InhibitReadOnly s = s",
+        ["ReadOnlyRows.what_is_read_only_holds"],
+    ),
+    (
+        "nothing is read-only behind that block",
+        FORMS,
+        "restored (KeptLifting old) s = lifting old s",
+        "restored (KeptLifting old) s = s",
+        ["ReadOnlyRows.block_ended_by_a_fault_holds", "nothing_is_left_at_the_top"],
+    ),
+    (
+        "read-only buffer bars output",
+        TEXT_CALLS,
+        "(is_tested e (nat_lt 0 (length text))) false (takes",
+        "(is_tested e (nat_lt 0 (length text))) (is_read_only e id) (takes",
+        ["ReadOnlyRows.output_where_it_is_read_only_holds"],
+    ),
+    (
+        "read-only buffer bars what would change nothing",
+        READ_ONLY,
+        "is_tested e changes = changes && not e.lifted",
+        "is_tested e changes = not e.lifted",
+        ["ReadOnlyRows.nothing_to_change_holds"],
+    ),
+    (
+        "read-only text bars its undoing",
+        UNDO_CALLS,
+        "must_be_writable_here e true false",
+        "must_be_writable_here e true true",
+        ["ReadOnlyRows.undoing_what_is_read_only_holds"],
+    ),
+    (
+        "insertion tested by the character before it alone",
+        TEXT_CALLS,
+        "takes_no_text e id at = bars (inherited_at (buffer_at e id) at)",
+        "takes_no_text e id at = bars (inherited (option_map (λ c. c.1) (if at == 0 then None else char_at (buffer_at e id) (at - 1))) None)",
+        ["ReadOnlyRows.neighbours_of_read_only_text_holds"],
     ),
     (
         "fault behind a change leaves the list of after-change functions",

@@ -45,6 +45,21 @@ done << 'SESSIONS'
 268435456 2 kernel_cli: script: line 0
 268435457 6 kernel_cli: journal: line 0
 SESSIONS
+# A run whose session would be longer: its child writes 134,217,728 bytes, and each of them has two digits. Each entry of the
+# filter waits twice, so that few forms read all.
+told="$("$program" record 2>&1 << 'SCRIPT'
+(defhandler more (process text)
+  (accept-process-output process)
+  (accept-process-output process))
+(setq zeros (start-process "zeros" nil "head" "-c" "134217728" "/dev/zero"))
+(set-process-filter zeros 'more)
+(accept-process-output zeros)
+SCRIPT
+)"
+if [ "$? $told" != "7 kernel_cli: journal too long" ]; then
+    echo "differs: a session that is too long"
+    failed=1
+fi
 while read -r number line; do
     if [ "$("$program" drill "$number" < /dev/null 2> /dev/null)" != "$line" ]; then
         echo "differs: drill $number"

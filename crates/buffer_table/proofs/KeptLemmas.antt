@@ -93,10 +93,10 @@ account_after (x ∷ buffers) zero n new h = (let e : x ≡ Some n = same_Some x
 account_after (None ∷ buffers) (suc id) n new h = account_after buffers id n new h
 account_after (Some m ∷ buffers) (suc id) n new h = let r : blocks_in (slice_set buffers id (Some new)) + length n.buffer.text.blocks ≡ blocks_in buffers + length new.buffer.text.blocks = account_after buffers id n new h in omega arith
 
-all_anew : (k : Kept) (id : ℕ) (n : Named) (name : List Ch) (after : Stored) (moved : Marks) (new : Pooled) → AreKept k → Lives k.buffers id n → ((other : ℕ) (m : Named) → other ≢ id → Lives k.buffers other m → m.name ≢ name)
-    → Changes id n.buffer after k.marks moved k.pool new → AreKept (after_change k id (record { name = name; buffer = after }) moved new)
-all_anew k id n name after moved new kept lives free c =
-    let changed : Named = record { name = name; buffer = after } in
+all_anew : (k : Kept) (id : ℕ) (n : Named) (name : List Ch) (on : Bool) (after : Stored) (moved : Marks) (new : Pooled) → AreKept k → Lives k.buffers id n → ((other : ℕ) (m : Named) → other ≢ id → Lives k.buffers other m → m.name ≢ name)
+    → Changes id n.buffer after k.marks moved k.pool new → AreKept (after_change k id (record { name = name; buffer = after; read_only = on }) moved new)
+all_anew k id n name on after moved new kept lives free c =
+    let changed : Named = record { name = name; buffer = after; read_only = on } in
     record {
       few = (let e = length-set k.buffers id (Some changed) in let f = kept.few in omega arith);
       names = λ a b x y differ l r. elim (cases_eq a id) [
@@ -143,14 +143,14 @@ all_anew k id n name after moved new kept lives free c =
       account = (let a = account_after k.buffers id n changed lives in let b = c.blocks.count in let d = kept.account in omega arith);
     }
 
-pub kept_anew : (k : Kept) (id : ℕ) (n : Named) (name : List Ch) (after : Stored) (moved : Marks) (new : Pooled) → IsKept k → Lives k.buffers id n → ((other : ℕ) (m : Named) → other ≢ id → Lives k.buffers other m → m.name ≢ name)
-    → Changes id n.buffer after k.marks moved k.pool new → IsKept (after_change k id (record { name = name; buffer = after }) moved new)
-kept_anew k id n name after moved new kept lives free c =
-    record { all = all_anew k id n name after moved new kept.all lives free c; here = live_changed k.buffers id (record { name = name; buffer = after }) k.current kept.here }
+pub kept_anew : (k : Kept) (id : ℕ) (n : Named) (name : List Ch) (on : Bool) (after : Stored) (moved : Marks) (new : Pooled) → IsKept k → Lives k.buffers id n → ((other : ℕ) (m : Named) → other ≢ id → Lives k.buffers other m → m.name ≢ name)
+    → Changes id n.buffer after k.marks moved k.pool new → IsKept (after_change k id (record { name = name; buffer = after; read_only = on }) moved new)
+kept_anew k id n name on after moved new kept lives free c =
+    record { all = all_anew k id n name on after moved new kept.all lives free c; here = live_changed k.buffers id (record { name = name; buffer = after; read_only = on }) k.current kept.here }
 
 pub kept_after : (k : Kept) (id : ℕ) (n : Named) (after : Stored) (moved : Marks) (new : Pooled) → IsKept k → Lives k.buffers id n → Changes id n.buffer after k.marks moved k.pool new
     → IsKept (after_change k id (record n { buffer = after }) moved new)
-kept_after k id n after moved new kept lives c = kept_anew k id n n.name after moved new kept lives (λ other m e l. kept.all.names other id m n e l lives) c
+kept_after k id n after moved new kept lives c = kept_anew k id n n.name n.read_only after moved new kept lives (λ other m e l. kept.all.names other id m n e l lives) c
 
 -- WHAT THE EDITOR IS THEN
 pub map_others : {A B : Type 0} (f g : A → B) (xs : List A) (id : ℕ) (y : A) → ((j : ℕ) (x : A) → j ≢ id → slice_get xs j ≡ Some x → f x ≡ g x) → map f (slice_set xs id y) ≡ slice_set (map g xs) id (f y)
@@ -164,7 +164,7 @@ map_others f g (x ∷ xs) (suc id) y h = ap (λ w. w ∷ map f (slice_set xs id 
 
 buffers_after : (k : Kept) (id : ℕ) (n : Named) (after : Stored) (moved : Marks) (new : Pooled) → IsKept k → Lives k.buffers id n → Changes id n.buffer after k.marks moved k.pool new
     → map (option_map (live_of new)) (slice_set k.buffers id (Some (record n { buffer = after })))
-    ≡ slice_set (map (option_map (live_of k.pool)) k.buffers) id (Some (record { name = n.name; buffer = buffer_of new after }))
+    ≡ slice_set (map (option_map (live_of k.pool)) k.buffers) id (Some (record { name = n.name; buffer = buffer_of new after; read_only = n.read_only }))
 buffers_after k id n after moved new kept lives c =
     map_others (option_map (live_of new)) (option_map (live_of k.pool)) k.buffers id (Some (record n { buffer = after })) (λ j x e l. other j x e l)
   where
@@ -172,7 +172,7 @@ buffers_after k id n after moved new kept lives c =
     other j None e l = refl
     other j (Some m) e l =
         let same : StaysAs k.pool new m.buffer.text = stays n.buffer.text.blocks after.text.blocks k.pool new m.buffer.text c.blocks (kept.all.lie j m l) (kept.all.apart j id m n e l lives) in
-        ap (λ (cs : List Ch). let b : Live = record { name = m.name; buffer = record (buffer_of k.pool m.buffer) { text = zip cs m.buffer.sets } } in Some b) same.characters
+        ap (λ (cs : List Ch). let b : Live = record { name = m.name; buffer = record (buffer_of k.pool m.buffer) { text = zip cs m.buffer.sets }; read_only = m.read_only } in Some b) same.characters
 
 pub live_is : (k : Kept) (id : ℕ) (n : Named) → Lives k.buffers id n → live (editor_of k) id ≡ Some (live_of k.pool n)
 live_is k id n h = ap (λ o. unwrap_or o None) (slice_get-map (option_map (live_of k.pool)) k.buffers id ∙ ap (option_map (option_map (live_of k.pool))) h)
@@ -184,7 +184,7 @@ pub editor_after : (k : Kept) (id : ℕ) (n : Named) (after : Stored) (moved : M
 editor_after k id n after moved new change kept lives c e =
     let old : Editor = editor_of k in
     ap (λ (bs : List (Option Live)). let x : Editor = record old { buffers = bs; marks = moved } in x) (buffers_after k id n after moved new kept lives c)
-    ∙ ap (λ (s : Site). let x : Editor = record old { buffers = slice_set old.buffers id (Some (record { name = n.name; buffer = s.buffer })); marks = s.marks } in x) e
+    ∙ ap (λ (s : Site). let x : Editor = record old { buffers = slice_set old.buffers id (Some (record { name = n.name; buffer = s.buffer; read_only = n.read_only })); marks = s.marks } in x) e
     ∙ sym (ap (λ (o : Option Live). let x : Editor = (elim o [
       | None ↦ old
       | Some l ↦
@@ -204,7 +204,7 @@ pub editor_same : (k : Kept) (id : ℕ) (n : Named) (after : Stored) (moved : Ma
 editor_same k id n after moved new kept lives c e =
     let old : Editor = editor_of k in
     ap (λ (bs : List (Option Live)). let x : Editor = record old { buffers = bs; marks = moved } in x) (buffers_after k id n after moved new kept lives c)
-    ∙ ap (λ (s : Site). let x : Editor = record old { buffers = slice_set old.buffers id (Some (record { name = n.name; buffer = s.buffer })); marks = s.marks } in x) e
+    ∙ ap (λ (s : Site). let x : Editor = record old { buffers = slice_set old.buffers id (Some (record { name = n.name; buffer = s.buffer; read_only = n.read_only })); marks = s.marks } in x) e
     ∙ ap (λ (bs : List (Option Live)). let x : Editor = record old { buffers = bs } in x)
     (set_itself old.buffers id (Some (live_of k.pool n)) (slice_get-map (option_map (live_of k.pool)) k.buffers id ∙ ap (option_map (option_map (live_of k.pool))) lives))
 
@@ -304,14 +304,20 @@ pub kept_with : (k : Kept) (new : Named) → IsKept k → length k.buffers < 256
     → IsKept (record k { buffers = k.buffers ++ Some new ∷ [] })
 kept_with k new kept few free blocks sets lies = record { all = all_with k new kept.all few free blocks sets lies; here = live_behind k.buffers (Some new) k.current kept.here }
 
-pub editor_with : (k : Kept) (name : List Ch) (b : Stored) → buffer_of k.pool b ≡ shown.empty_buffer → editor_of (record k { buffers = k.buffers ++ Some (record { name = name; buffer = b }) ∷ [] }) ≡ shown.with_buffer name (editor_of k)
+pub editor_with : (k : Kept) (name : List Ch) (b : Stored) → buffer_of k.pool b ≡ shown.empty_buffer → editor_of (record k { buffers = k.buffers ++ Some (record { name = name; buffer = b; read_only = false }) ∷ [] }) ≡ shown.with_buffer name (editor_of k)
 editor_with k name b e =
     ap (λ (bs : List (Option Live)). let x : Editor = record (editor_of k) { buffers = bs } in x)
-    (map-append (option_map (live_of k.pool)) k.buffers (Some (record { name = name; buffer = b }) ∷ [])
-    ∙ ap (λ (c : Buffer). let l : Live = record { name = name; buffer = c } in map (option_map (live_of k.pool)) k.buffers ++ Some l ∷ []) e)
+    (map-append (option_map (live_of k.pool)) k.buffers (Some (record { name = name; buffer = b; read_only = false }) ∷ [])
+    ∙ ap (λ (c : Buffer). let l : Live = record { name = name; buffer = c; read_only = false } in map (option_map (live_of k.pool)) k.buffers ++ Some l ∷ []) e)
 
 -- ANOTHER NAME
 pub editor_renamed : (k : Kept) (id : ℕ) (n : Named) (name : List Ch) → Lives k.buffers id n → editor_of (record k { buffers = slice_set k.buffers id (Some (record n { name = name })) }) ≡ shown.renamed id name (editor_of k)
 editor_renamed k id n name h =
     ap (λ (bs : List (Option Live)). let x : Editor = record (editor_of k) { buffers = bs } in x) (map-set (option_map (live_of k.pool)) k.buffers id (Some (record n { name = name })))
     ∙ sym (ap (λ (o : Option Live). let x : Editor = record (editor_of k) { buffers = slice_set (map (option_map (live_of k.pool)) k.buffers) id (shown.named_as name o) } in x) (live_is k id n h))
+
+-- READ-ONLY, OR WRITABLE
+pub editor_protected : (k : Kept) (id : ℕ) (n : Named) (on : Bool) → Lives k.buffers id n → editor_of (record k { buffers = slice_set k.buffers id (Some (record n { read_only = on })) }) ≡ shown.protected id on (editor_of k)
+editor_protected k id n on h =
+    ap (λ (bs : List (Option Live)). let x : Editor = record (editor_of k) { buffers = bs } in x) (map-set (option_map (live_of k.pool)) k.buffers id (Some (record n { read_only = on })))
+    ∙ sym (ap (λ (o : Option Live). let x : Editor = elim o [ None ↦ editor_of k | Some l ↦ record (editor_of k) { buffers = slice_set (map (option_map (live_of k.pool)) k.buffers) id (Some (record l { read_only = on })) } ] in x) (live_is k id n h))

@@ -106,7 +106,7 @@ editor_without k id n new kept lives g =
     other : (j : ℕ) (x : Option Named) → j ≢ id → slice_get k.buffers j ≡ Some x → option_map (live_of new) x ≡ option_map (live_of k.pool) x
     other j None e l = refl
     other j (Some m) e l =
-        ap (λ (cs : List Ch). let b : Live = record { name = m.name; buffer = record (buffer_of k.pool m.buffer) { text = zip cs m.buffer.sets } } in Some b)
+        ap (λ (cs : List Ch). let b : Live = record { name = m.name; buffer = record (buffer_of k.pool m.buffer) { text = zip cs m.buffer.sets }; read_only = m.read_only } in Some b)
         (same_characters k.pool new m.buffer.text m.buffer.text (text_elsewhere k.pool new m.buffer.text n.buffer.text.blocks g.others (kept.all.apart j id m n e l lives) (kept.all.lie j m l)))
 
 -- THE OTHERS THAT LIVE
@@ -146,7 +146,7 @@ lives_within e id h = go e.buffers id h
 pub only_killed : (old less : Editor) (id new : ℕ) (name : List Ch) → None ≡ first (live_from 0 (slice_set old.buffers id None)) → name ≡ shown.scratch → new ≡ length old.buffers
     → less ≡ shown.with_buffer name (gone id old) → ◌≡◌ {A = Editor} (record less { current = new }) (shown.killed id old)
 only_killed old less id new name none is_name is_new is_less =
-    let made : Option Live = Some (record { name = shown.scratch; buffer = shown.empty_buffer }) in
+    let made : Option Live = Some (shown.new_live shown.scratch) in
     let rest : List (Option Live) = slice_set old.buffers id None in
     ap (λ (e : Editor). let x : Editor = record e { current = new } in x) (is_less ∙ ap (λ (n : List Ch). shown.with_buffer n (gone id old)) is_name)
     ∙ ap (λ n. let x : Editor = record old { buffers = rest ++ made ∷ []; marks = leave_buffer id old.marks; current = n } in x) (is_new ∙ sym (length-set old.buffers id None))
@@ -191,9 +191,9 @@ kept_instead k id n made new kept lives none g few blocks sets lies =
     })
 
 pub editor_instead : (k : Kept) (id : ℕ) (n : Named) (name : List Ch) (b : Stored) (new : Pooled) → IsKept k → Lives k.buffers id n → None ≡ first (live_from 0 (slice_set (editor_of k).buffers id None))
-    → GivesBack n.buffer.text.blocks k.pool new → buffer_of new b ≡ shown.empty_buffer → name ≡ shown.scratch → editor_of (instead k id (record { name = name; buffer = b }) new) ≡ shown.killed id (editor_of k)
+    → GivesBack n.buffer.text.blocks k.pool new → buffer_of new b ≡ shown.empty_buffer → name ≡ shown.scratch → editor_of (instead k id (record { name = name; buffer = b; read_only = false }) new) ≡ shown.killed id (editor_of k)
 editor_instead k id n name b new kept lives none g empty is_name =
-    let made : Named = record { name = name; buffer = b } in
+    let made : Named = record { name = name; buffer = b; read_only = false } in
     let less : Kept = record (without k id new) { buffers = slice_set k.buffers id None ++ Some made ∷ [] } in
     ap (λ (bs : List (Option Named)). editor_of (record k { buffers = bs; current = length k.buffers; marks = leave_buffer id k.marks; pool = new }))
     (set-append_left k.buffers (Some made ∷ []) id None (slice_get_within k.buffers id (Some n) lives))

@@ -19,6 +19,7 @@ use Rattle.buffer_table.specs.Standing.{StandIn}
 pub record Named : Type 0 where
   pub name : List Ch
   pub buffer : Stored
+  pub read_only : Bool
 
 -- the buffers by number, where a killed one is None, and all else beside the pool
 pub record Kept : Type 0 where
@@ -27,15 +28,16 @@ pub record Kept : Type 0 where
   pub marks : Marks
   pub registers : List (Sym × Value)
   pub pool : Pooled
+  pub lifted : Bool
 
 abbrev pub live_of : Pooled → Named → Live
-live_of pool n = record { name = n.name; buffer = buffer_of pool n.buffer }
+live_of pool n = record { name = n.name; buffer = buffer_of pool n.buffer; read_only = n.read_only }
 
 abbrev pub registers_of : List (Sym × Value) → List (ℕ × Meant)
 registers_of registers = map (λ r. (number_of r.0, view r.1)) registers
 
 abbrev pub editor_of : Kept → Editor
-editor_of k = record { buffers = map (option_map (live_of k.pool)) k.buffers; current = k.current; marks = k.marks; registers = registers_of k.registers }
+editor_of k = record { buffers = map (option_map (live_of k.pool)) k.buffers; current = k.current; marks = k.marks; registers = registers_of k.registers; lifted = k.lifted }
 
 -- the text of a buffer can be read with its property sets
 pub record IsReadable (pool : Pooled) (b : Stored) : Type 0 where
@@ -56,7 +58,7 @@ cells_in pool (Some n ∷ rest) = (length (characters pool n.buffer.text) + n.bu
 
 -- the live buffer of a number, and whether there is one
 abbrev pub nobody : Named
-nobody = record { name = []; buffer = record { text = record { blocks = []; gap = 0; spare = 0 }; sets = []; begin = 0; end = 0; point = 0; modified = false; undo = record { state = new_undo; spare = 0 } } }
+nobody = record { name = []; buffer = record { text = record { blocks = []; gap = 0; spare = 0 }; sets = []; begin = 0; end = 0; point = 0; modified = false; undo = record { state = new_undo; spare = 0 } }; read_only = false }
 
 abbrev pub is_live : List (Option Named) → (id : ℕ) → Bool
 is_live buffers id = is_some (unwrap_or (slice_get buffers id) None)

@@ -15,6 +15,7 @@ use text_pool::Pool;
 pub struct Live {
     pub name: Chars,
     pub buffer: Buffer,
+    pub read_only: bool,
 }
 
 impl Model for Live {
@@ -22,7 +23,7 @@ impl Model for Live {
 
     ghost Value = { Named };
 
-    ghost view = { λ l. record { name = l.name.items; buffer = l.buffer } };
+    ghost view = { λ l. record { name = l.name.items; buffer = l.buffer; read_only = l.read_only } };
 }
 
 /// All buffers by number, from 0 in the order in which they were made; a killed one keeps its number. It is seen with the
@@ -33,6 +34,7 @@ pub struct Editor {
     pub(crate) marks: Marks,
     pub(crate) registers: Vec<(Sym, Value)>,
     pub(crate) pool: Pool,
+    pub(crate) lifted: bool,
     pub(crate) alloc: Global,
 }
 
@@ -51,6 +53,7 @@ impl Model for Editor {
       marks = e.marks;
       registers = e.registers.items;
       pool = e.pool;
+      lifted = e.lifted;
     } };
 
     ghost invariant = { λ e. IsKept (record {
@@ -59,6 +62,7 @@ impl Model for Editor {
       marks = e.marks;
       registers = e.registers.items;
       pool = e.pool;
+      lifted = e.lifted;
     }) };
 }
 

@@ -21,6 +21,7 @@ pub struct BufferText<'a> {
     name: &'a Chars,
     buffer: &'a Buffer,
     pool: &'a Pool,
+    read_only: bool,
 }
 
 impl<'a> Model for BufferText<'a> {
@@ -33,6 +34,7 @@ impl<'a> Model for BufferText<'a> {
     ghost view = { λ t. record {
       name = t.name.now.items;
       buffer = buffer_of t.pool.now t.buffer.now;
+      read_only = t.read_only;
     } };
 
     ghost invariant = { λ t. IsReadable t.pool.now t.buffer.now };
@@ -51,6 +53,7 @@ impl<'a> BufferText<'a> {
             name: &live.name,
             buffer,
             pool,
+            read_only: live.read_only,
         }
     }
 
@@ -128,6 +131,13 @@ impl<'a> BufferText<'a> {
         ensures { result ≡ self.now.buffer.modified }
     {
         self.buffer.modified()
+    }
+
+    /// Whether the buffer is read-only.
+    pub fn read_only(&self) -> bool
+        ensures { result ≡ self.now.read_only }
+    {
+        self.read_only
     }
 
     /// The undo records, whether they are recorded, and which are pending.

@@ -8,6 +8,7 @@ mod on_marks;
 mod previews;
 mod properties;
 mod questions;
+mod read_only;
 mod registers;
 mod room;
 mod table;

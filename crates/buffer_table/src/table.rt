@@ -91,7 +91,11 @@ impl Editor {
         let number = self.buffers.len() as u32;
         move_to(&mut self.buffers, buffers);
         let buffer = Buffer::new(self.alloc);
-        self.buffers.push_reserved(Some(Live { name, buffer }));
+        self.buffers.push_reserved(Some(Live {
+            name,
+            buffer,
+            read_only: false,
+        }));
         number
     }
 

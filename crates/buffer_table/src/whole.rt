@@ -24,7 +24,11 @@ fn release(entry: Option<Live>, pool: &mut Pool)
 {
     match entry {
         Some(live) => {
-            let Live { name: _, buffer } = live;
+            let Live {
+                name: _,
+                buffer,
+                read_only: _,
+            } = live;
             buffer.release(pool);
         }
         None => {}
@@ -46,13 +50,18 @@ impl Editor {
             }
         }
         let buffer = Buffer::new(alloc);
-        buffers.push_reserved(Some(Live { name, buffer }));
+        buffers.push_reserved(Some(Live {
+            name,
+            buffer,
+            read_only: false,
+        }));
         Ok(Editor {
             buffers,
             current: 0,
             marks: Marks::new(alloc),
             registers: Vec::new(alloc),
             pool: Pool::new(alloc),
+            lifted: false,
             alloc,
         })
     }
@@ -82,7 +91,11 @@ impl Editor {
     {
         match mem::replace(&mut self.buffers[id as usize], None) {
             Some(live) => {
-                let Live { name: _, buffer } = live;
+                let Live {
+                    name: _,
+                    buffer,
+                    read_only: _,
+                } = live;
                 buffer.release(&mut self.pool);
             }
             None => unreachable!(),
@@ -121,13 +134,18 @@ impl Editor {
         self.buffers.reserve(1)?;
         let number = self.buffers.len() as u32;
         let new = Buffer::new(self.alloc);
-        self.buffers.push_reserved(Some(Live { name, buffer: new }));
+        self.buffers.push_reserved(Some(Live {
+            name,
+            buffer: new,
+            read_only: false,
+        }));
         self.current = number;
         match mem::replace(&mut self.buffers[only as usize], None) {
             Some(live) => {
                 let Live {
                     name: _,
                     buffer: killed,
+                    read_only: _,
                 } = live;
                 killed.release(&mut self.pool);
             }
@@ -166,6 +184,7 @@ impl Editor {
             marks: _,
             registers: _,
             mut pool,
+            lifted: _,
             alloc: _,
         } = self;
         while let Some(entry) = buffers.pop() {

@@ -1,8 +1,8 @@
 -- The calls on buffers. GNU Emacs Lisp Reference Manual, sections "Current Buffer", "Buffer Names",
--- "Buffer Modification", "Buffer List", "Creating Buffers".
+-- "Buffer Modification", "Read Only Buffers", "Buffer List", "Creating Buffers".
 use Rattle.std.specs.Prelude.{ℕ, [], ◌∷◌, map, length, Option, Some, None}
 use Rattle.editor_model.specs.Values.{Value, Nil, Str, TheBuffer, list, plain, truth, WrongType, Reply, Answered, Refused}
-use Rattle.editor_model.specs.Editor.{Editor, Name, Live, live, is_live, find, live_from, buffer_at, change_buffer, with_buffer, renamed, free_name, others}
+use Rattle.editor_model.specs.Editor.{Editor, Name, Live, live, is_live, find, live_from, buffer_at, is_read_only, change_buffer, with_buffer, renamed, protected, free_name, others}
 use Rattle.editor_model.specs.Answers.{Applied, applied, answer}
 use Rattle.editor_model.specs.Arguments.{flag, name_of, buffer_of, must_be_buffer, must_be_buffer_or_nil, must_be_name, must_be_short, must_be_fewer, buffer_there}
 use Rattle.editor_model.specs.Limits.{most_buffers}
@@ -38,6 +38,11 @@ buffer_modified_p e b =
     answer (must_be_buffer_or_nil b ∷ buffer_there e b ∷ [])
     (truth (buffer_at e (buffer_of e b)).modified)
 
+abbrev pub buffer_read_only_p : Editor → Value → Reply
+buffer_read_only_p e b =
+    answer (must_be_buffer_or_nil b ∷ buffer_there e b ∷ [])
+    (truth (is_read_only e (buffer_of e b)))
+
 -- SETTING
 abbrev pub set_buffer : Editor → Value → Applied
 set_buffer e b =
@@ -69,3 +74,6 @@ abbrev pub set_buffer_modified_p : Editor → Value → Applied
 set_buffer_modified_p e v =
     applied e []
     (change_buffer e.current (λ b. record b { modified = flag v }) e) (truth (flag v))
+
+abbrev pub set_buffer_read_only : Editor → Value → Applied
+set_buffer_read_only e v = applied e [] (protected e.current (flag v) e) (truth (flag v))

@@ -26,21 +26,27 @@ empty_buffer = record { text = []; begin = 0; end = 0; point = 0; modified = fal
 pub record Live : Type 0 where
   pub name : Name
   pub buffer : Buffer
+  pub read_only : Bool
 
--- buffers by number, where a killed one is None
+abbrev pub new_live : Name → Live
+new_live name = record { name = name; buffer = empty_buffer; read_only = false }
+
+-- buffers by number, where a killed one is None; `lifted`: nothing counts as read-only
 pub record Editor : Type 0 where
   pub buffers : List (Option Live)
   pub current : ℕ
   pub marks : Marks
   pub registers : List (ℕ × Value)
+  pub lifted : Bool
 
 abbrev pub new_editor : Editor
 new_editor =
     record {
-      buffers = Some (record { name = scratch; buffer = empty_buffer }) ∷ [];
+      buffers = Some (new_live scratch) ∷ [];
       current = 0;
       marks = record { markers = []; overlays = []; saved = [] };
       registers = [];
+      lifted = false;
     }
 
 abbrev pub live : Editor → ℕ → Option Live
@@ -55,6 +61,9 @@ buffer_at e id = elim (live e id) [ Some l ↦ l.buffer | None ↦ empty_buffer 
 
 abbrev pub here : Editor → Buffer
 here e = buffer_at e e.current
+
+abbrev pub is_read_only : Editor → ℕ → Bool
+is_read_only e id = elim (live e id) [ Some l ↦ l.read_only | None ↦ false ]
 
 abbrev pub find_from : ℕ → List (Option Live) → Name → Option ℕ
 find_from id [] name = None
@@ -84,7 +93,7 @@ abbrev pub change_buffer : (id : ℕ) → (Buffer → Buffer) → Editor → Edi
 change_buffer id change e = change_site id (λ site. record site { buffer = change site.buffer }) e
 
 abbrev pub with_buffer : Name → Editor → Editor
-with_buffer name e = record e { buffers = e.buffers ++ Some (record { name = name; buffer = empty_buffer }) ∷ [] }
+with_buffer name e = record e { buffers = e.buffers ++ Some (new_live name) ∷ [] }
 
 abbrev pub named_as : Name → Option Live → Option Live
 named_as name None = None
@@ -92,6 +101,13 @@ named_as name (Some l) = Some (record l { name = name })
 
 abbrev pub renamed : (id : ℕ) → Name → Editor → Editor
 renamed id name e = record e { buffers = slice_set e.buffers id (named_as name (live e id)) }
+
+-- a buffer made read-only, or writable
+abbrev pub protected : (id : ℕ) → Bool → Editor → Editor
+protected id on e = elim (live e id) [
+  | None ↦ e
+  | Some l ↦ record e { buffers = slice_set e.buffers id (Some (record l { read_only = on })) }
+]
 
 -- the name, or the first of name<2>, name<3> .. that none of the buffers has
 abbrev pub numbered_name : Name → ℕ → Name

@@ -1,11 +1,11 @@
 -- The table of the calls on buffers, texts, markers, properties, overlays and undo: the editor without handlers and
 -- processes. The calls that concern those stand in the machine.
 use Rattle.std.specs.Prelude.{true, false, List}
-use Rattle.editor_model.specs.Values.{Value, TheBuffer, at_place, truth, WrongType, Reply, Answered, Refused, Prim, CurrentBuffer, SetBuffer, GetBuffer, GetBufferCreate, GenerateNewBuffer, RenameBuffer, BufferLiveP, BufferName, BufferList, BufferModifiedP, SetBufferModifiedP, PointAt, PointMin, PointMax, BufferSize, BufferNarrowedP, GotoChar, CharAfter, BufferString, BufferSubstring, BufferSubstringNoProperties, Insert, InsertAndInherit, InsertBeforeMarkers, InsertBeforeMarkersAndInherit, InsertBufferSubstring, DeleteRegion, DeleteAndExtractRegion, EraseBuffer, NarrowToRegion, Widen, MakeMarker, PointMarker, CopyMarker, SetMarker, MarkerPosition, MarkerBuffer, MarkerInsertionType, SetMarkerInsertionType, GetTextProperty, TextPropertiesAt, PutTextProperty, AddTextProperties, RemoveTextProperties, SetTextProperties, NextPropertyChange, NextSinglePropertyChange, PreviousPropertyChange, PreviousSinglePropertyChange, TextPropertyAny, TextPropertyNotAll, MakeOverlay, OverlayStart, OverlayEnd, OverlayBuffer, OverlayPut, OverlayGet, OverlayProperties, MoveOverlay, DeleteOverlay, OverlaysAt, OverlaysIn, GetCharProperty, NextOverlayChange, PreviousOverlayChange, UndoBoundary, UndoStart, UndoMore, BufferUndoList, BufferDisableUndo, BufferEnableUndo}
+use Rattle.editor_model.specs.Values.{Value, TheBuffer, at_place, truth, WrongType, Reply, Answered, Refused, Prim, CurrentBuffer, SetBuffer, GetBuffer, GetBufferCreate, GenerateNewBuffer, RenameBuffer, BufferLiveP, BufferName, BufferList, BufferModifiedP, SetBufferModifiedP, BufferReadOnlyP, SetBufferReadOnly, PointAt, PointMin, PointMax, BufferSize, BufferNarrowedP, GotoChar, CharAfter, BufferString, BufferSubstring, BufferSubstringNoProperties, Insert, InsertAndInherit, InsertBeforeMarkers, InsertBeforeMarkersAndInherit, InsertBufferSubstring, DeleteRegion, DeleteAndExtractRegion, EraseBuffer, NarrowToRegion, Widen, MakeMarker, PointMarker, CopyMarker, SetMarker, MarkerPosition, MarkerBuffer, MarkerInsertionType, SetMarkerInsertionType, GetTextProperty, TextPropertiesAt, PutTextProperty, AddTextProperties, RemoveTextProperties, SetTextProperties, NextPropertyChange, NextSinglePropertyChange, PreviousPropertyChange, PreviousSinglePropertyChange, TextPropertyAny, TextPropertyNotAll, MakeOverlay, OverlayStart, OverlayEnd, OverlayBuffer, OverlayPut, OverlayGet, OverlayProperties, MoveOverlay, DeleteOverlay, OverlaysAt, OverlaysIn, GetCharProperty, NextOverlayChange, PreviousOverlayChange, UndoBoundary, UndoStart, UndoMore, BufferUndoList, BufferDisableUndo, BufferEnableUndo}
 use Rattle.editor_model.specs.Editor.{Editor, here}
 use Rattle.editor_model.specs.Answers.{Applied, Prepared, Barred}
 use Rattle.editor_model.specs.Arguments.{arg}
-use Rattle.editor_model.specs.BufferCalls.{set_buffer, get_buffer, get_buffer_create, generate_new_buffer, rename_buffer, buffer_live_p, buffer_name, buffer_list, buffer_modified_p, set_buffer_modified_p}
+use Rattle.editor_model.specs.BufferCalls.{set_buffer, get_buffer, get_buffer_create, generate_new_buffer, rename_buffer, buffer_live_p, buffer_name, buffer_list, buffer_modified_p, set_buffer_modified_p, buffer_read_only_p, set_buffer_read_only}
 use Rattle.editor_model.specs.TextCalls.{buffer_size, is_narrowed, goto_char, char_after, buffer_string, buffer_substring, buffer_substring_no_properties, insert, insert_buffer_substring, delete_region, delete_and_extract_region, erase_buffer, narrow_to_region, widen}
 use Rattle.editor_model.specs.MarkerCalls.{make_marker, point_marker, copy_marker, set_marker, marker_position, marker_buffer, marker_insertion_type, set_marker_insertion_type}
 use Rattle.editor_model.specs.PropertyCalls.{get_text_property, text_properties_at, put_text_property, add_text_properties, remove_text_properties, set_text_properties, next_property_change, next_single_property_change, previous_property_change, previous_single_property_change, text_property_any, text_property_not_all}
@@ -24,6 +24,7 @@ query e BufferLiveP args = buffer_live_p e (arg args 0)
 query e BufferName args = buffer_name e (arg args 0)
 query e BufferList args = buffer_list e
 query e BufferModifiedP args = buffer_modified_p e (arg args 0)
+query e BufferReadOnlyP args = buffer_read_only_p e (arg args 0)
 -- texts
 query e PointAt args = Answered (at_place (here e).point)
 query e PointMin args = Answered (at_place (here e).begin)
@@ -70,6 +71,7 @@ apply e GetBufferCreate args = get_buffer_create e (arg args 0)
 apply e GenerateNewBuffer args = generate_new_buffer e (arg args 0)
 apply e RenameBuffer args = rename_buffer e (arg args 0)
 apply e SetBufferModifiedP args = set_buffer_modified_p e (arg args 0)
+apply e SetBufferReadOnly args = set_buffer_read_only e (arg args 0)
 -- texts
 apply e GotoChar args = goto_char e (arg args 0)
 apply e NarrowToRegion args = narrow_to_region e (arg args 0) (arg args 1)

@@ -11,6 +11,7 @@ use Rattle.text_model.specs.Commit.{Buffer}
 use Rattle.editor_model.specs.Values.{Value, Nil, Int, Str, plain, Reply, Answered}
 use Rattle.editor_model.specs.Editor.{Editor, buffer_at, here, change_buffer, marker_of}
 use Rattle.editor_model.specs.Answers.{Test, Applied, applied, answer, Put, Prepared, Changes, Nothing, prepared}
+use Rattle.editor_model.specs.ReadOnly.{bars, has_read_only, is_tested, must_be_writable, must_be_writable_here}
 use Rattle.editor_model.specs.Arguments.{string_of, buffer_of, position, place, place_or, from_of, to_of, must_be_position, must_be_position_or_nil, must_be_string, must_be_buffer, must_be_buffer_or_nil, buffer_there, must_point_somewhere, must_be_accessible, must_be_nil_or_accessible, must_lie_in, must_fit_a_string, must_have_room}
 
 -- ASKING
@@ -95,6 +96,14 @@ inherited_at b p = inherited (option_map (λ c. c.1) (if p == 0 then None else c
 abbrev pub with_inherited : PropSet → List Cell → List Cell
 with_inherited set piece = map (λ c. (c.0, put_all set c.1)) piece
 
+-- text that is put in at a place would inherit `read-only`
+abbrev pub takes_no_text : Editor → (id at : ℕ) → Bool
+takes_no_text e id at = bars (inherited_at (buffer_at e id) at)
+
+-- so many characters may be put in at point
+abbrev pub must_take_text : Editor → (n : ℕ) → Test
+must_take_text e n = must_be_writable_here e (nat_lt 0 n) (takes_no_text e e.current (here e).point)
+
 -- an empty piece changes nothing
 abbrev pub insertion : (id at : ℕ) → List Cell → (all : Bool) → Prepared
 insertion id at [] all = Nothing Nil
@@ -111,7 +120,7 @@ inserted_piece e inherit piece = with_inherited (if inherit then inherited_at (h
 
 abbrev pub insert : Editor → (all inherit : Bool) → List Value → Prepared
 insert e all inherit args =
-    prepared (map must_be_string args ++ must_have_room e e.current (length (joined args)) ∷ [])
+    prepared (map must_be_string args ++ must_take_text e (length (joined args)) ∷ must_have_room e e.current (length (joined args)) ∷ [])
     (insertion e.current (here e).point (inserted_piece e inherit (joined args)) all)
 
 -- nil is that end of the other buffer's accessible portion
@@ -123,13 +132,13 @@ insert_buffer_substring e buffer a b =
     prepared (
     must_be_buffer buffer ∷ must_be_position_or_nil a ∷ must_be_position_or_nil b ∷ buffer_there e buffer ∷
     must_be_nil_or_accessible source e a ∷ must_be_nil_or_accessible source e b ∷
-    must_fit_a_string (to - from) ∷ must_have_room e e.current (to - from) ∷ []
+    must_take_text e (to - from) ∷ must_fit_a_string (to - from) ∷ must_have_room e e.current (to - from) ∷ []
     ) (insertion e.current (here e).point (part from to source.text) false)
 
--- the insertion of a process's output at a place: its mark goes behind the text
+-- the insertion of a process's output at a place: its mark goes behind the text; a read-only buffer takes it
 abbrev pub output : Editor → (id mark at : ℕ) → List Cell → Prepared
 output e id mark at text =
-    prepared (must_have_room e id (length text) ∷ [])
+    prepared (must_be_writable (is_tested e (nat_lt 0 (length text))) false (takes_no_text e id at) ∷ must_have_room e id (length text) ∷ [])
     (Changes (record { buffer = id; from = at; to = at; what = Put text true false false (Some mark); reply = Nil }))
 
 -- a mark that isn't in the buffer counts as the end of the accessible portion
@@ -147,14 +156,25 @@ deletion id from to widen reply =
     if from == to then Nothing reply
     else Changes (record { buffer = id; from = from; to = to; what = Put [] false false widen None; reply = reply })
 
+-- a part of the current buffer may be taken out
+abbrev pub must_give_text : Editor → (from to : ℕ) → Test
+must_give_text e from to = must_be_writable_here e (not (from == to)) (has_read_only (part from to (here e).text))
+
+abbrev pub must_give_region : Editor → (a b : Value) → Test
+must_give_region e a b = must_give_text e (from_of e a b) (to_of e a b)
+
 abbrev pub region_deletion : Editor → (a b reply : Value) → Prepared
 region_deletion e a b reply = deletion e.current (from_of e a b) (to_of e a b) false reply
 
 abbrev pub delete_region : Editor → (a b : Value) → Prepared
-delete_region e a b = prepared (must_be_a_region e a b []) (region_deletion e a b Nil)
+delete_region e a b = prepared (must_be_a_region e a b (must_give_region e a b ∷ [])) (region_deletion e a b Nil)
 
 abbrev pub delete_and_extract_region : Editor → (a b : Value) → Prepared
-delete_and_extract_region e a b = prepared (must_fit_a_region e a b) (region_deletion e a b (Str (region_text e a b)))
+delete_and_extract_region e a b =
+    prepared (must_be_a_region e a b (must_give_region e a b ∷ must_fit_a_string (to_of e a b - from_of e a b) ∷ []))
+    (region_deletion e a b (Str (region_text e a b)))
 
 abbrev pub erase_buffer : Editor → Prepared
-erase_buffer e = deletion e.current 0 (length (here e).text) true Nil
+erase_buffer e =
+    prepared (must_give_text e 0 (length (here e).text) ∷ [])
+    (deletion e.current 0 (length (here e).text) true Nil)

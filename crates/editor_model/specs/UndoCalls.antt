@@ -5,6 +5,7 @@ use Rattle.text_model.specs.Commit.{Buffer}
 use Rattle.editor_model.specs.Values.{Value, Nil, T, Int, Sym, Str, Dotted, TheMarker, list, values, at_place, of_prop, ArgsOutOfRange, UndoDisabled, NoFurtherUndo, UndoOutside, Reply, Answered}
 use Rattle.editor_model.specs.Editor.{Editor, here, change_buffer}
 use Rattle.editor_model.specs.Answers.{Test, refuse, Applied, applied, UndoGroups, Change, Prepared, Changes, Quiet, prepared}
+use Rattle.editor_model.specs.ReadOnly.{must_be_writable_here}
 use Rattle.editor_model.specs.Arguments.{count_of, must_be_integer}
 use Rattle.editor_model.specs.Limits.{most_groups}
 
@@ -55,9 +56,12 @@ abbrev pub undo_change : List Entry → Change → Prepared
 undo_change [] c = Quiet c
 undo_change (r ∷ records) c = Changes c
 
+-- a read-only buffer bars it also where no record is undone; read-only text doesn't bar it
 abbrev pub undo_more : Editor → Value → Prepared
 undo_more e v =
     let b = here e in
     let n : ℕ = count_of v in
-    prepared (must_be_integer v ∷ refuse ArgsOutOfRange (nat_le 1 n && nat_le n most_groups) ∷ undo_tests b n)
+    prepared (
+    must_be_integer v ∷ refuse ArgsOutOfRange (nat_le 1 n && nat_le n most_groups) ∷
+    must_be_writable_here e true false ∷ undo_tests b n)
     (undo_change (undone n b.undo) (record { buffer = e.current; from = b.begin; to = b.end; what = UndoGroups n; reply = Nil }))

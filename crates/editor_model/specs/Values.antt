@@ -129,7 +129,7 @@ as_pairs _ = None
 
 -- why a call is refused
 pub data Fault : Type 0 where
-  ArgsOutOfRange WrongType VoidVariable NoSuchBuffer BufferKilled NoFurtherUndo UndoOutside UndoDisabled NoSuchProcess ProcessEnded BrokenPipe SpawnFailed Nesting ExchangesSpent BufferFull TooMany : Fault
+  ArgsOutOfRange WrongType VoidVariable NoSuchBuffer BufferKilled NoFurtherUndo UndoOutside UndoDisabled NoSuchProcess ProcessEnded BrokenPipe SpawnFailed Nesting ExchangesSpent BufferFull TooMany BufferReadOnly TextReadOnly CodingFixed : Fault
 
 -- what a call comes to
 pub data Reply : Type 0 where
@@ -140,7 +140,7 @@ pub data Reply : Type 0 where
 pub data Prim : Type 0 where
   -- buffers
   CurrentBuffer SetBuffer GetBuffer GetBufferCreate GenerateNewBuffer RenameBuffer KillBuffer BufferLiveP : Prim
-  BufferName BufferList BufferModifiedP SetBufferModifiedP : Prim
+  BufferName BufferList BufferModifiedP SetBufferModifiedP BufferReadOnlyP SetBufferReadOnly : Prim
   -- texts
   PointAt PointMin PointMax BufferSize BufferNarrowedP GotoChar CharAfter BufferString BufferSubstring : Prim
   BufferSubstringNoProperties Insert InsertAndInherit InsertBeforeMarkers InsertBeforeMarkersAndInherit : Prim
@@ -163,6 +163,7 @@ pub data Prim : Type 0 where
   StartProcess ProcessList GetProcess ProcessName ProcessStatus ProcessBuffer ProcessMark ProcessLiveP : Prim
   ProcessExitStatus ProcessFilter ProcessSentinel SetProcessFilter SetProcessSentinel SetProcessBuffer : Prim
   ProcessSendString ProcessSendEof DeleteProcess AcceptProcessOutput : Prim
+  SetProcessCodingSystem ProcessCodingSystem : Prim
 
 -- FORMS
 -- an argument of a call: a constant, or a name, which stands for a parameter or a register
@@ -175,7 +176,7 @@ pub record Call : Type 0 where
   pub args : List Arg
 
 pub data Block : Type 0 where
-  SaveExcursion SaveRestriction SaveCurrentBuffer InhibitHooks : Block
+  SaveExcursion SaveRestriction SaveCurrentBuffer InhibitHooks InhibitReadOnly : Block
 
 -- a call; a call whose answer is kept under a name; a block; forms that are done where two arguments are equal
 mutual

@@ -3,12 +3,14 @@ pub mod Changing
 pub mod Twice
 pub mod Loops
 pub mod Words
+pub mod Writable
 pub mod Making
 pub mod Evaporating
 pub mod Standing
 pub mod TextChanges
 pub mod NameLemmas
 pub mod Strings
+pub mod Refusing
 pub mod Inheriting
 pub mod Sets
 pub mod Pairing

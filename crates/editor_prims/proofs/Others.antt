@@ -1,6 +1,6 @@
 -- A call that is in no subject.
 use Rattle.std.proofs.Common.{◌≡◌, false, List, refl}
-use Rattle.editor_model.specs.Values.{Value, WrongType, Refused, Prim, CurrentBuffer, SetBuffer, GetBuffer, GetBufferCreate, GenerateNewBuffer, RenameBuffer, KillBuffer, BufferLiveP, BufferName, BufferList, BufferModifiedP, SetBufferModifiedP, PointAt, PointMin, PointMax, BufferSize, BufferNarrowedP, GotoChar, CharAfter, BufferString, BufferSubstring, BufferSubstringNoProperties, Insert, InsertAndInherit, InsertBeforeMarkers, InsertBeforeMarkersAndInherit, InsertBufferSubstring, DeleteRegion, DeleteAndExtractRegion, EraseBuffer, NarrowToRegion, Widen, MakeMarker, PointMarker, CopyMarker, SetMarker, MarkerPosition, MarkerBuffer, MarkerInsertionType, SetMarkerInsertionType, GetTextProperty, TextPropertiesAt, PutTextProperty, AddTextProperties, RemoveTextProperties, SetTextProperties, NextPropertyChange, NextSinglePropertyChange, PreviousPropertyChange, PreviousSinglePropertyChange, TextPropertyAny, TextPropertyNotAll, MakeOverlay, OverlayStart, OverlayEnd, OverlayBuffer, OverlayPut, OverlayGet, OverlayProperties, MoveOverlay, DeleteOverlay, OverlaysAt, OverlaysIn, GetCharProperty, NextOverlayChange, PreviousOverlayChange, AddHook, RemoveHook, UndoBoundary, UndoStart, UndoMore, BufferUndoList, BufferDisableUndo, BufferEnableUndo, StartProcess, ProcessList, GetProcess, ProcessName, ProcessStatus, ProcessBuffer, ProcessMark, ProcessLiveP, ProcessExitStatus, ProcessFilter, ProcessSentinel, SetProcessFilter, SetProcessSentinel, SetProcessBuffer, ProcessSendString, ProcessSendEof, DeleteProcess, AcceptProcessOutput}
+use Rattle.editor_model.specs.Values.{Value, WrongType, Refused, Prim, CurrentBuffer, SetBuffer, GetBuffer, GetBufferCreate, GenerateNewBuffer, RenameBuffer, KillBuffer, BufferLiveP, BufferName, BufferList, BufferModifiedP, SetBufferModifiedP, BufferReadOnlyP, SetBufferReadOnly, PointAt, PointMin, PointMax, BufferSize, BufferNarrowedP, GotoChar, CharAfter, BufferString, BufferSubstring, BufferSubstringNoProperties, Insert, InsertAndInherit, InsertBeforeMarkers, InsertBeforeMarkersAndInherit, InsertBufferSubstring, DeleteRegion, DeleteAndExtractRegion, EraseBuffer, NarrowToRegion, Widen, MakeMarker, PointMarker, CopyMarker, SetMarker, MarkerPosition, MarkerBuffer, MarkerInsertionType, SetMarkerInsertionType, GetTextProperty, TextPropertiesAt, PutTextProperty, AddTextProperties, RemoveTextProperties, SetTextProperties, NextPropertyChange, NextSinglePropertyChange, PreviousPropertyChange, PreviousSinglePropertyChange, TextPropertyAny, TextPropertyNotAll, MakeOverlay, OverlayStart, OverlayEnd, OverlayBuffer, OverlayPut, OverlayGet, OverlayProperties, MoveOverlay, DeleteOverlay, OverlaysAt, OverlaysIn, GetCharProperty, NextOverlayChange, PreviousOverlayChange, AddHook, RemoveHook, UndoBoundary, UndoStart, UndoMore, BufferUndoList, BufferDisableUndo, BufferEnableUndo, StartProcess, ProcessList, GetProcess, ProcessName, ProcessStatus, ProcessBuffer, ProcessMark, ProcessLiveP, ProcessExitStatus, ProcessFilter, ProcessSentinel, SetProcessFilter, SetProcessSentinel, SetProcessBuffer, ProcessSendString, ProcessSendEof, DeleteProcess, AcceptProcessOutput, SetProcessCodingSystem, ProcessCodingSystem}
 use Rattle.editor_model.specs.Answers.{Barred}
 use Rattle.editor_model.specs.Editor.{Editor}
 use Rattle.editor_model.specs.Table.{query, apply, prepare}
@@ -19,6 +19,8 @@ nobody_asks e BufferName args h0 h1 h2 h3 h4 h5 = absurd cc
 nobody_asks e BufferList args h0 h1 h2 h3 h4 h5 = absurd cc
 nobody_asks e BufferModifiedP args h0 h1 h2 h3 h4 h5 = absurd cc
 nobody_asks e SetBufferModifiedP args h0 h1 h2 h3 h4 h5 = refl
+nobody_asks e BufferReadOnlyP args h0 h1 h2 h3 h4 h5 = absurd cc
+nobody_asks e SetBufferReadOnly args h0 h1 h2 h3 h4 h5 = refl
 nobody_asks e PointAt args h0 h1 h2 h3 h4 h5 = absurd cc
 nobody_asks e PointMin args h0 h1 h2 h3 h4 h5 = absurd cc
 nobody_asks e PointMax args h0 h1 h2 h3 h4 h5 = absurd cc
@@ -99,6 +101,8 @@ nobody_asks e ProcessSendString args h0 h1 h2 h3 h4 h5 = refl
 nobody_asks e ProcessSendEof args h0 h1 h2 h3 h4 h5 = refl
 nobody_asks e DeleteProcess args h0 h1 h2 h3 h4 h5 = refl
 nobody_asks e AcceptProcessOutput args h0 h1 h2 h3 h4 h5 = refl
+nobody_asks e SetProcessCodingSystem args h0 h1 h2 h3 h4 h5 = refl
+nobody_asks e ProcessCodingSystem args h0 h1 h2 h3 h4 h5 = refl
 
 pub nobody_sets : (e : Editor) (p : Prim) (args : List Value) → sets_in_buffers p ≡ false → sets_in_texts p ≡ false → sets_in_markers p ≡ false → sets_in_overlays p ≡ false → sets_in_undo p ≡ false → apply e p args ≡ record { editor = e; reply = Refused WrongType }
 nobody_sets e CurrentBuffer args h0 h1 h2 h3 h4 = refl
@@ -113,6 +117,8 @@ nobody_sets e BufferName args h0 h1 h2 h3 h4 = refl
 nobody_sets e BufferList args h0 h1 h2 h3 h4 = refl
 nobody_sets e BufferModifiedP args h0 h1 h2 h3 h4 = refl
 nobody_sets e SetBufferModifiedP args h0 h1 h2 h3 h4 = absurd cc
+nobody_sets e BufferReadOnlyP args h0 h1 h2 h3 h4 = refl
+nobody_sets e SetBufferReadOnly args h0 h1 h2 h3 h4 = absurd cc
 nobody_sets e PointAt args h0 h1 h2 h3 h4 = refl
 nobody_sets e PointMin args h0 h1 h2 h3 h4 = refl
 nobody_sets e PointMax args h0 h1 h2 h3 h4 = refl
@@ -193,6 +199,8 @@ nobody_sets e ProcessSendString args h0 h1 h2 h3 h4 = refl
 nobody_sets e ProcessSendEof args h0 h1 h2 h3 h4 = refl
 nobody_sets e DeleteProcess args h0 h1 h2 h3 h4 = refl
 nobody_sets e AcceptProcessOutput args h0 h1 h2 h3 h4 = refl
+nobody_sets e SetProcessCodingSystem args h0 h1 h2 h3 h4 = refl
+nobody_sets e ProcessCodingSystem args h0 h1 h2 h3 h4 = refl
 
 pub nobody_changes : (e : Editor) (p : Prim) (args : List Value) → changes_of_texts p ≡ false → changes_of_properties p ≡ false → changes_of_undo p ≡ false → prepare e p args ≡ Barred WrongType
 nobody_changes e CurrentBuffer args h0 h1 h2 = refl
@@ -207,6 +215,8 @@ nobody_changes e BufferName args h0 h1 h2 = refl
 nobody_changes e BufferList args h0 h1 h2 = refl
 nobody_changes e BufferModifiedP args h0 h1 h2 = refl
 nobody_changes e SetBufferModifiedP args h0 h1 h2 = refl
+nobody_changes e BufferReadOnlyP args h0 h1 h2 = refl
+nobody_changes e SetBufferReadOnly args h0 h1 h2 = refl
 nobody_changes e PointAt args h0 h1 h2 = refl
 nobody_changes e PointMin args h0 h1 h2 = refl
 nobody_changes e PointMax args h0 h1 h2 = refl
@@ -287,3 +297,5 @@ nobody_changes e ProcessSendString args h0 h1 h2 = refl
 nobody_changes e ProcessSendEof args h0 h1 h2 = refl
 nobody_changes e DeleteProcess args h0 h1 h2 = refl
 nobody_changes e AcceptProcessOutput args h0 h1 h2 = refl
+nobody_changes e SetProcessCodingSystem args h0 h1 h2 = refl
+nobody_changes e ProcessCodingSystem args h0 h1 h2 = refl

@@ -1,6 +1,6 @@
 -- Which calls a subject has, and what the calls of one subject come to.
 use Rattle.std.specs.Prelude.{◌≡◌, Bool, true, false, Option, Some, None, Result}
-use Rattle.editor_model.specs.Values.{Reply, Prim, CurrentBuffer, GetBuffer, BufferLiveP, BufferName, BufferList, BufferModifiedP, PointAt, PointMin, PointMax, BufferSize, BufferNarrowedP, CharAfter, BufferString, BufferSubstring, BufferSubstringNoProperties, MarkerPosition, MarkerBuffer, MarkerInsertionType, GetTextProperty, TextPropertiesAt, NextPropertyChange, NextSinglePropertyChange, PreviousPropertyChange, PreviousSinglePropertyChange, TextPropertyAny, TextPropertyNotAll, OverlayStart, OverlayEnd, OverlayBuffer, OverlayGet, OverlayProperties, OverlaysAt, OverlaysIn, GetCharProperty, NextOverlayChange, PreviousOverlayChange, BufferUndoList, SetBuffer, GetBufferCreate, GenerateNewBuffer, RenameBuffer, SetBufferModifiedP, GotoChar, NarrowToRegion, Widen, MakeMarker, PointMarker, CopyMarker, SetMarker, SetMarkerInsertionType, MakeOverlay, OverlayPut, MoveOverlay, DeleteOverlay, UndoBoundary, UndoStart, BufferDisableUndo, BufferEnableUndo, Insert, InsertAndInherit, InsertBeforeMarkers, InsertBeforeMarkersAndInherit, InsertBufferSubstring, DeleteRegion, DeleteAndExtractRegion, EraseBuffer, PutTextProperty, AddTextProperties, RemoveTextProperties, SetTextProperties, UndoMore}
+use Rattle.editor_model.specs.Values.{Reply, Prim, CurrentBuffer, GetBuffer, BufferLiveP, BufferName, BufferList, BufferModifiedP, BufferReadOnlyP, PointAt, PointMin, PointMax, BufferSize, BufferNarrowedP, CharAfter, BufferString, BufferSubstring, BufferSubstringNoProperties, MarkerPosition, MarkerBuffer, MarkerInsertionType, GetTextProperty, TextPropertiesAt, NextPropertyChange, NextSinglePropertyChange, PreviousPropertyChange, PreviousSinglePropertyChange, TextPropertyAny, TextPropertyNotAll, OverlayStart, OverlayEnd, OverlayBuffer, OverlayGet, OverlayProperties, OverlaysAt, OverlaysIn, GetCharProperty, NextOverlayChange, PreviousOverlayChange, BufferUndoList, SetBuffer, GetBufferCreate, GenerateNewBuffer, RenameBuffer, SetBufferModifiedP, SetBufferReadOnly, GotoChar, NarrowToRegion, Widen, MakeMarker, PointMarker, CopyMarker, SetMarker, SetMarkerInsertionType, MakeOverlay, OverlayPut, MoveOverlay, DeleteOverlay, UndoBoundary, UndoStart, BufferDisableUndo, BufferEnableUndo, Insert, InsertAndInherit, InsertBeforeMarkers, InsertBeforeMarkersAndInherit, InsertBufferSubstring, DeleteRegion, DeleteAndExtractRegion, EraseBuffer, PutTextProperty, AddTextProperties, RemoveTextProperties, SetTextProperties, UndoMore}
 use Rattle.editor_model.specs.Answers as answers
 use Rattle.editor_model.specs.Editor.{Editor}
 use Rattle.ek_call.specs.declared.value.Value.{Value}
@@ -29,6 +29,7 @@ asks_of_buffers BufferLiveP = true
 asks_of_buffers BufferName = true
 asks_of_buffers BufferList = true
 asks_of_buffers BufferModifiedP = true
+asks_of_buffers BufferReadOnlyP = true
 asks_of_buffers _ = false
 
 abbrev pub asks_of_texts : Prim → Bool
@@ -84,6 +85,7 @@ sets_in_buffers GetBufferCreate = true
 sets_in_buffers GenerateNewBuffer = true
 sets_in_buffers RenameBuffer = true
 sets_in_buffers SetBufferModifiedP = true
+sets_in_buffers SetBufferReadOnly = true
 sets_in_buffers _ = false
 
 abbrev pub sets_in_texts : Prim → Bool

@@ -1,7 +1,7 @@
 //! The calls on buffers.
 ghost use Rattle.std.specs.Prelude.{◌≡◌, map, IfOk, None};
 ghost use Rattle.editor_model.specs.Values.{TheBuffer, Answered};
-ghost use Rattle.editor_model.specs.Editor.{live, live_from, find, change_buffer};
+ghost use Rattle.editor_model.specs.Editor.{live, live_from, find, change_buffer, protected};
 ghost use Rattle.editor_model.specs.Arguments.{name_of};
 ghost use Rattle.editor_model.specs.BufferCalls as calls;
 ghost use Rattle.ek_types.specs.Listing.{items_of};
@@ -96,6 +96,14 @@ pub(crate) fn buffer_modified_p(editor: &Editor, b: &Value) -> Result<Value, Fai
     Ok(truth(editor.is_modified(id)))
 }
 
+pub(crate) fn buffer_read_only_p(editor: &Editor, b: &Value) -> Result<Value, Failure>
+    ensures { Answers result (calls.buffer_read_only_p (editor_of editor.now) (view b.now)) }
+{
+    must_be_buffer_or_nil(b)?;
+    let id = objects::buffer(editor, b)?;
+    Ok(truth(editor.read_only(id)))
+}
+
 pub(crate) fn set_buffer(editor: &mut Editor, b: &Value) -> Result<Value, Failure>
     ensures { Applies result (editor_of editor.old) (editor_of editor.new)
         (calls.set_buffer (editor_of editor.old) (view b.now)) }
@@ -120,6 +128,23 @@ pub(crate) fn set_buffer_modified_p(editor: &mut Editor, v: &Value) -> Result<Va
         (calls.set_buffer_modified_p (editor_of editor.old) (view v.now)) }
 {
     set_modified(editor, flag(v));
+    Ok(truth(flag(v)))
+}
+
+/// Makes the current buffer read-only, or writable.
+fn set_read_only(editor: &mut Editor, on: bool)
+    ensures { editor_of editor.new ≡ protected (editor_of editor.old).current on
+        (editor_of editor.old) }
+{
+    let id = editor.current();
+    editor.set_read_only(id, on);
+}
+
+pub(crate) fn set_buffer_read_only(editor: &mut Editor, v: &Value) -> Result<Value, Failure>
+    ensures { Applies result (editor_of editor.old) (editor_of editor.new)
+        (calls.set_buffer_read_only (editor_of editor.old) (view v.now)) }
+{
+    set_read_only(editor, flag(v));
     Ok(truth(flag(v)))
 }
 

@@ -6,6 +6,7 @@ ghost use Rattle.text_model.specs.Properties.{put_all};
 ghost use Rattle.text_model.specs.Ordered.{IsProper};
 ghost use Rattle.editor_model.specs.Answers.{first_fault};
 ghost use Rattle.editor_model.specs.Arguments.{must_be_string, must_have_room, string_of};
+ghost use Rattle.editor_model.specs.TextCalls.{must_take_text};
 ghost use Rattle.editor_model.specs.Editor.{here};
 ghost use Rattle.editor_model.specs.TextCalls as calls;
 ghost use Rattle.ek_types.specs.Listing.{items_of};
@@ -18,6 +19,7 @@ use crate::failure::Failure;
 use crate::kinds::string;
 use crate::limits::must_have_room;
 use crate::properties::set_at;
+use crate::read_only::must_take_text;
 use crate::texts::insertion;
 use buffer_table::Editor;
 use ek_call::{Fault, Value, Values};
@@ -140,13 +142,23 @@ fn inherited_here(editor: &Editor, inherit: bool) -> Mem<PropSet>
 /// The tests of an insertion of strings.
 fn must_fit(editor: &Editor, args: &Values) -> Result<(), Fault>
     ensures { fault_in result ≡ first_fault (map must_be_string (map view (items_of args.now)) ++
-        must_have_room (editor_of editor.now) (editor_of editor.now).current
+        must_take_text (editor_of editor.now) (length (calls.joined (map view (items_of args.now))))
+        ∷ must_have_room (editor_of editor.now) (editor_of editor.now).current
         (length (calls.joined (map view (items_of args.now)))) ∷ []) }
 {
     match must_be_strings(args) {
-        Ok(total) => must_have_room(editor, editor.current(), total),
+        Ok(total) => must_take(editor, total),
         Err(fault) => Err(fault),
     }
+}
+
+/// So many characters may be put in at point, and there is room for them.
+fn must_take(editor: &Editor, n: u128) -> Result<(), Fault>
+    ensures { fault_in result ≡ first_fault (must_take_text (editor_of editor.now) n ∷
+        must_have_room (editor_of editor.now) (editor_of editor.now).current n ∷ []) }
+{
+    must_take_text(editor, n)?;
+    must_have_room(editor, editor.current(), n)
 }
 
 /// Inserts strings at point of the current buffer. All markers and overlays there may advance, and the text may inherit

@@ -18,6 +18,7 @@ mod properties;
 mod property_changes;
 mod property_lists;
 mod property_values;
+mod read_only;
 mod replies;
 mod table;
 mod texts;

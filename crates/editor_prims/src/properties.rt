@@ -261,7 +261,7 @@ pub(crate) fn previous_single_property_change(
 }
 
 /// The first place of a part of the current buffer whose character has a value of a property, or has another.
-fn first_place(
+pub(crate) fn first_place(
     editor: &Editor,
     from: usize,
     to: usize,

@@ -1,7 +1,8 @@
 //! The calls that change text properties ("Changing Properties" in the GNU Emacs Lisp Reference Manual).
-ghost use Rattle.std.specs.Prelude.{◌≡◌, ◌≤◌, length, IfOk, option_map, map, [], None};
+ghost use Rattle.std.specs.Prelude.{◌≡◌, ◌≤◌, length, IfOk, option_map, map, [], ◌∷◌, None};
 ghost use Rattle.text_model.specs.Properties.{Add, Remove, Replace};
 ghost use Rattle.text_model.specs.Commit.{property_records};
+ghost use Rattle.editor_model.specs.Answers.{prepared};
 ghost use Rattle.editor_model.specs.Arguments.{must_be_accessible};
 ghost use Rattle.editor_model.specs.Editor.{here};
 ghost use Rattle.editor_model.specs.PropertyCalls as calls;
@@ -11,7 +12,7 @@ ghost use Rattle.ek_call.specs.Meaning.{view};
 ghost use Rattle.prop_intervals.specs.Edits.{edit_of};
 ghost use Rattle.overlay_set.specs.Numbered.{given_of};
 ghost use Rattle.buffer_table.specs.Kept.{editor_of};
-ghost use Rattle.editor_prims.specs.Meaning.{Prepares, prepared_of};
+ghost use Rattle.editor_prims.specs.Meaning.{Prepares};
 ghost use Rattle.editor_prims.specs.PropertyArguments.{backwards};
 
 use crate::change::{Change, Prepared, What};
@@ -21,21 +22,28 @@ use crate::places::{from_of, must_be_accessible, to_of};
 use crate::properties::must_be_value_in_region;
 use crate::property_lists::{Pairs, must_be_pairs, names_of_pairs, nil_names, pairs, set_of_pairs};
 use crate::property_values::property_value;
+use crate::read_only::must_take_change;
 use buffer_table::Editor;
 use ek_call::Value;
 use ek_types::{Mem, PropSet, PropVal, Sym, SymList};
 use prop_intervals::PropEdit;
 use std::alloc::Global;
 
-/// The change of the properties of a region; where it would change nothing, there is none.
-fn change(editor: &Editor, a: &Value, b: &Value, edit: PropEdit, changed: Value) -> Mem<Prepared>
+/// The change of the properties of a region, which may not be read-only; where it would change nothing, there is none.
+fn change(
+    editor: &Editor,
+    a: &Value,
+    b: &Value,
+    edit: PropEdit,
+    changed: Value,
+) -> Result<Prepared, Failure>
     requires from { must_be_accessible (here (editor_of editor.now)) (editor_of editor.now)
         (view a.now) ≡ None }
     requires to { must_be_accessible (here (editor_of editor.now)) (editor_of editor.now)
         (view b.now) ≡ None }
-    ensures { IfOk result (λ p. prepared_of p ≡
-        calls.property_change (editor_of editor.now) (view a.now) (view b.now) (edit_of edit)
-        (view changed)) }
+    ensures { Prepares result (prepared (calls.must_take_properties (editor_of editor.now)
+        (view a.now) (view b.now) (edit_of edit) ∷ []) (calls.property_change
+        (editor_of editor.now) (view a.now) (view b.now) (edit_of edit) (view changed))) }
 {
     let buffer = editor.current();
     // Read for what it ensures: the accessible portion lies in the text.
@@ -45,6 +53,7 @@ fn change(editor: &Editor, a: &Value, b: &Value, edit: PropEdit, changed: Value)
     if !editor.would_change(buffer, from, to, &edit)? {
         return Ok(Prepared::Nothing(Value::Nil));
     }
+    must_take_change(editor, true, from, to)?;
     Ok(Prepared::Change(Change {
         buffer,
         from,
@@ -84,7 +93,7 @@ pub(crate) fn put_text_property(
 {
     let name = must_be_value_in_region(editor, a, b, name, v)?;
     let edit = put_edit(editor.allocator(), name, property_value(v)?)?;
-    Ok(change(editor, a, b, edit, Value::Nil)?)
+    change(editor, a, b, edit, Value::Nil)
 }
 
 /// The change that gives the properties of a list their values.
@@ -129,7 +138,7 @@ pub(crate) fn add_text_properties(
     must_be_accessible(editor.current(), editor, a)?;
     must_be_accessible(editor.current(), editor, b)?;
     let edit = adding(editor.allocator(), &list)?;
-    Ok(change(editor, a, b, edit, Value::T)?)
+    change(editor, a, b, edit, Value::T)
 }
 
 pub(crate) fn remove_text_properties(
@@ -147,7 +156,7 @@ pub(crate) fn remove_text_properties(
     must_be_accessible(editor.current(), editor, a)?;
     must_be_accessible(editor.current(), editor, b)?;
     let edit = removing(editor.allocator(), &list)?;
-    Ok(change(editor, a, b, edit, Value::T)?)
+    change(editor, a, b, edit, Value::T)
 }
 
 pub(crate) fn set_text_properties(
@@ -165,5 +174,5 @@ pub(crate) fn set_text_properties(
     must_be_accessible(editor.current(), editor, a)?;
     must_be_accessible(editor.current(), editor, b)?;
     let edit = replacing(editor.allocator(), &list)?;
-    Ok(change(editor, a, b, edit, Value::T)?)
+    change(editor, a, b, edit, Value::T)
 }

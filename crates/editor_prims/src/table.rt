@@ -60,6 +60,7 @@ fn ask_buffers(editor: &Editor, prim: Prim, args: &Values) -> Option<Result<Valu
         Prim::BufferName => Some(buffers::buffer_name(editor, a)),
         Prim::BufferList => Some(buffers::buffer_list(editor)),
         Prim::BufferModifiedP => Some(buffers::buffer_modified_p(editor, a)),
+        Prim::BufferReadOnlyP => Some(buffers::buffer_read_only_p(editor, a)),
         _ => None,
     }
 }
@@ -206,6 +207,7 @@ fn set_buffers(editor: &mut Editor, prim: Prim, args: &Values) -> Option<Result<
         Prim::GenerateNewBuffer => Some(buffers::generate_new_buffer(editor, a)),
         Prim::RenameBuffer => Some(buffers::rename_buffer(editor, a)),
         Prim::SetBufferModifiedP => Some(buffers::set_buffer_modified_p(editor, a)),
+        Prim::SetBufferReadOnly => Some(buffers::set_buffer_read_only(editor, a)),
         _ => None,
     }
 }

@@ -1,12 +1,14 @@
 //! The calls on point, on the text and on the accessible portion of a buffer.
-ghost use Rattle.std.specs.Prelude.{◌≡◌, ◌≤◌, [], length, IfOk, None};
+ghost use Rattle.std.specs.Prelude.{◌≡◌, ◌≤◌, ◌-◌, nat_lt, false, [], ◌∷◌, length, IfOk, None};
 ghost use Rattle.editor_model.specs.Values.{at_place, truth, Answered};
 ghost use Rattle.editor_model.specs.Editor.{here, buffer_at, change_buffer, marker_of};
 ghost use Rattle.narrow_region.specs.Positions.{place_of};
 ghost use Rattle.text_model.specs.Properties.{part};
 ghost use Rattle.editor_model.specs.Answers.{first_fault};
 ghost use Rattle.editor_model.specs.TextCalls as calls;
-ghost use Rattle.editor_model.specs.Arguments.{place_or};
+ghost use Rattle.editor_model.specs.Arguments.{place_or, from_of, to_of, must_fit_a_string};
+ghost use Rattle.editor_model.specs.Arguments.{must_have_room as room};
+ghost use Rattle.editor_model.specs.ReadOnly.{must_be_writable, is_tested as tested};
 ghost use Rattle.ek_call.specs.Meaning.{view};
 ghost use Rattle.buffer_table.specs.Kept.{editor_of};
 ghost use Rattle.editor_prims.specs.Meaning.{Answers, Applies, Prepares, fault_in, prepared_of};
@@ -22,6 +24,7 @@ use crate::places::{
     from_of, is_before_text, must_be_accessible, must_be_nil_or_accessible, must_lie_in,
     must_point_somewhere, place, position, spot, to_of,
 };
+use crate::read_only::{must_give_text, must_take, must_take_text};
 use crate::values::{at_place, count, plain, truth};
 use buffer_table::Editor;
 use ek_call::{Fault, Value};
@@ -180,7 +183,7 @@ pub(crate) fn delete_and_extract_region(
     ensures { Prepares result (calls.delete_and_extract_region (editor_of editor.now) (view a.now)
         (view b.now)) }
 {
-    must_fit_a_region(editor, a, b)?;
+    must_give_and_fit(editor, a, b)?;
     let text = Value::Str(region_text(editor, a, b)?);
     Ok(deletion(
         editor.allocator(),
@@ -190,6 +193,32 @@ pub(crate) fn delete_and_extract_region(
         false,
         text,
     ))
+}
+
+/// The text of a region may be taken out.
+fn must_give_region(editor: &Editor, a: &Value, b: &Value) -> Result<(), Fault>
+    requires { first_fault (calls.must_be_a_region (editor_of editor.now) (view a.now) (view b.now)
+        []) ≡ None }
+    ensures { fault_in result ≡ calls.must_give_region (editor_of editor.now) (view a.now)
+        (view b.now) }
+{
+    // Read for what it ensures: the accessible portion lies in the text.
+    let _portion = editor.bounds(editor.current());
+    must_give_text(editor, from_of(editor, a, b), to_of(editor, a, b))
+}
+
+/// A region that may be taken out, and whose text fits in a string.
+fn must_give_and_fit(editor: &Editor, a: &Value, b: &Value) -> Result<(), Fault>
+    ensures whole { fault_in result ≡ first_fault (calls.must_be_a_region (editor_of editor.now)
+        (view a.now) (view b.now) (calls.must_give_region (editor_of editor.now) (view a.now)
+        (view b.now) ∷ must_fit_a_string (to_of (editor_of editor.now) (view a.now) (view b.now) -
+        from_of (editor_of editor.now) (view a.now) (view b.now)) ∷ [])) }
+    ensures fits { IfOk result (λ _. first_fault (calls.must_fit_a_region (editor_of editor.now)
+        (view a.now) (view b.now)) ≡ None) }
+{
+    must_be_a_region(editor, a, b)?;
+    must_give_region(editor, a, b)?;
+    must_fit_a_string(to_of(editor, a, b) - from_of(editor, a, b))
 }
 
 /// The change that takes a part out; an empty part changes nothing.
@@ -225,6 +254,7 @@ pub(crate) fn delete_region(editor: &Editor, a: &Value, b: &Value) -> Result<Pre
     ensures { Prepares result (calls.delete_region (editor_of editor.now) (view a.now) (view b.now)) }
 {
     must_be_a_region(editor, a, b)?;
+    must_give_region(editor, a, b)?;
     Ok(deletion(
         editor.allocator(),
         editor.current(),
@@ -239,7 +269,9 @@ pub(crate) fn erase_buffer(editor: &Editor) -> Result<Prepared, Failure>
     ensures { Prepares result (calls.erase_buffer (editor_of editor.now)) }
 {
     let id = editor.current();
-    Ok(deletion(editor.allocator(), id, 0, editor.size(id), true, Value::Nil))
+    let size = editor.size(id);
+    must_give_text(editor, 0, size)?;
+    Ok(deletion(editor.allocator(), id, 0, size, true, Value::Nil))
 }
 
 /// Point of the current buffer goes to a position, or to the nearer end of the accessible portion.
@@ -351,6 +383,7 @@ pub(crate) fn insert_buffer_substring(
     let other = place_or(portion.end, editor, b);
     let from = one.min(other);
     let to = one.max(other);
+    must_take_text(editor, (to - from) as u128)?;
     must_fit_a_string(to - from)?;
     must_have_room(editor, editor.current(), (to - from) as u128)?;
     let piece = part(editor, source, from, to)?;
@@ -369,15 +402,25 @@ fn place_in(editor: &Editor, id: u32, mark: u32) -> usize
     }
 }
 
-/// Prepares the insertion of a process's output at its mark, which goes behind the text.
+/// The tests of an output of so many characters at a place: a read-only buffer doesn't bar it, but read-only text does.
+fn must_take_output(editor: &Editor, id: u32, at: usize, n: u128) -> Result<(), Fault>
+    ensures { fault_in result ≡ first_fault (must_be_writable (tested (editor_of editor.now)
+        (nat_lt 0 n)) false (calls.takes_no_text (editor_of editor.now) id at) ∷
+        room (editor_of editor.now) id n ∷ []) }
+{
+    must_take(editor, false, id, at, n)?;
+    must_have_room(editor, id, n)
+}
+
+/// Prepares the insertion of a process's output at its mark, which goes behind the text. A read-only buffer takes it, too.
 pub fn prepare_output(editor: &Editor, id: u32, mark: u32, text: Piece) -> Prepared
     ensures { prepared_of result ≡ calls.prepare_output (editor_of editor.now) id mark text }
 {
-    match must_have_room(editor, id, text.len() as u128) {
+    let at = place_in(editor, id, mark);
+    match must_take_output(editor, id, at, text.len() as u128) {
         Ok(()) => {}
         Err(fault) => return Prepared::Fault(fault),
     }
-    let at = place_in(editor, id, mark);
     Prepared::Change(Change {
         buffer: id,
         from: at,

@@ -16,6 +16,7 @@ ghost use Rattle.editor_prims.specs.Planning.{Planned};
 use crate::change::{Change, Prepared, What};
 use crate::failure::Failure;
 use crate::kinds::must;
+use crate::read_only::must_be_undoable;
 use buffer_table::Editor;
 use ek_call::{Fault, Value};
 use ek_types::NoMemory;
@@ -66,6 +67,7 @@ pub(crate) fn undo_more(editor: &Editor, v: &Value) -> Result<Prepared, Failure>
 {
     let groups = groups(integer(v)?)?;
     let buffer = editor.current();
+    must_be_undoable(editor)?;
     let plan = plan(editor, buffer, groups)?;
     let portion = editor.bounds(buffer);
     let change = Change {

@@ -9,6 +9,7 @@ mod output;
 mod overlays;
 mod playing;
 mod properties;
+mod read_only;
 mod shown;
 mod texts;
 mod undo;

@@ -55,6 +55,9 @@ impl Symbols {
         symbols.intern("invisible")?;
         symbols.intern("before-string")?;
         symbols.intern("after-string")?;
+        symbols.intern("utf-8-unix")?;
+        symbols.intern("utf-8-dos")?;
+        symbols.intern("latin-1-unix")?;
         Ok(symbols)
     }
 

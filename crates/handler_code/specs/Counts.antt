@@ -1,5 +1,6 @@
 -- How many symbols and objects were made in a run.
 use Rattle.std.specs.Prelude.{◌≡◌, [], false, length, replicate, None}
+use Rattle.text_model.specs.Codings.{Utf8}
 use Rattle.editor_model.specs.Editor.{new_editor}
 use Rattle.plain_machine.specs.State.{State, Program, Runs, Default, new_state}
 use Rattle.handler_code.specs.declared.made.Made.{Made}
@@ -25,5 +26,5 @@ state_with made =
           saved = [];
         };
       };
-      processes = replicate made.processes (record { name = []; child = 0; status = Runs; buffer = None; mark = 0; filter = Default; sentinel = None; bytes = []; drained = false; closed = false; listed = false });
+      processes = replicate made.processes (record { name = []; child = 0; status = Runs; buffer = None; mark = 0; filter = Default; sentinel = None; coding = Utf8; bytes = None; drained = false; closed = false; listed = false });
     }

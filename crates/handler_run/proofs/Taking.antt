@@ -6,10 +6,10 @@ use Rattle.std.specs.declared.option.Option.{Option}
 use Rattle.std.proofs.lemmas.Bool.{le-leb, lt-ltb}
 use Rattle.text_model.specs.Characters.{Ch, Scalar}
 use Rattle.text_model.specs.Properties.{bare}
-use Rattle.text_model.specs.Decoding.{characters, all_characters}
+use Rattle.text_model.specs.Codings.{decoded, all_decoded}
 use Rattle.editor_model.specs.Values.{Str, TheProcess}
 use Rattle.plain_machine.specs.Exchanges.{Answer, Bytes}
-use Rattle.plain_machine.specs.State.{State, Process, Status, Exited, Signalled, Lost, change_process}
+use Rattle.plain_machine.specs.State.{State, Process, Status, Exited, Signalled, Lost, change_process, read_so_far}
 use Rattle.plain_machine.specs.Lines.{OfSentinel}
 use Rattle.plain_machine.specs.Items.{Item, Enter, Wait, Waiting, Target}
 use Rattle.plain_machine.specs.Calls.{silent}
@@ -55,27 +55,27 @@ take_all (suc n) (b ∷ bytes) e = ap (λ l. b ∷ l) (take_all n bytes (omega (
 
 module _ (s : State) (p : ℕ) (x : Process) (table : List Process) (text : List Ch) where
   abbrev heard : List ℕ → State
-  heard bytes = change_process p (λ y. record y { bytes = x.bytes ++ bytes }) (asked_more s)
+  heard bytes = change_process p (λ y. record y { bytes = Some (read_so_far x ++ bytes) }) (asked_more s)
 
   abbrev drained : State
   drained = change_process p (λ y. record y { drained = true }) (asked_more s)
 
-  takes_bytes : (bytes : List ℕ) → is_room bytes ≡ true → StandsFor table (heard bytes).processes → text ≡ more_characters (characters x.bytes) (characters (x.bytes ++ bytes)) → Takes s p x (Bytes bytes) table text
+  takes_bytes : (bytes : List ℕ) → is_room bytes ≡ true → StandsFor table (heard bytes).processes → text ≡ more_characters (decoded x.coding (read_so_far x)) (decoded x.coding (read_so_far x ++ bytes)) → Takes s p x (Bytes bytes) table text
   takes_bytes bytes room stands came = record {
     now = heard bytes;
     stands = stands;
-    apart = apart_alone (asked_more s) p (λ y. record y { bytes = x.bytes ++ bytes });
+    apart = apart_alone (asked_more s) p (λ y. record y { bytes = Some (read_so_far x ++ bytes) });
     goes = λ w target rest. ap (λ b. hear b s w target rest p x bytes) room ∙ ap (λ t. Some (silent (heard bytes) (entry_of s p x t (Wait (noted p true w) target ∷ rest)))) (sym came);
   }
 
-  pub took_bytes : (g : Got) (n : ℕ) (bytes : List ℕ) → g ≡ got.Bytes n → IsRead g bytes → All (λ b. b < 256) bytes → StandsFor table (heard bytes).processes → text ≡ more_characters (characters x.bytes) (characters (x.bytes ++ bytes)) → Takes s p x (got_answer bytes g) table text
+  pub took_bytes : (g : Got) (n : ℕ) (bytes : List ℕ) → g ≡ got.Bytes n → IsRead g bytes → All (λ b. b < 256) bytes → StandsFor table (heard bytes).processes → text ≡ more_characters (decoded x.coding (read_so_far x)) (decoded x.coding (read_so_far x ++ bytes)) → Takes s p x (got_answer bytes g) table text
   took_bytes g n bytes is read small stands came =
       let size = subst (λ a. IsRead a bytes) is read in
       let room : is_room bytes ≡ true = rw (le-leb 1 (length bytes) (omega (arith, size)), le-leb (length bytes) 4096 (omega (arith, size)), all_bytes bytes small) refl in
       subst (λ a. Takes s p x a table text) (sym (ap (got_answer bytes) is ∙ ap Bytes (take_all n bytes size.0))) (takes_bytes bytes room stands came)
 
   -- the output has ended, or the read failed
-  pub took_end : (g : Got) (bytes : List ℕ) → (g ≡ got.End) ⊎ (g ≡ got.Failed) → StandsFor table drained.processes → text ≡ more_characters (characters x.bytes) (all_characters x.bytes) → Takes s p x (got_answer bytes g) table text
+  pub took_end : (g : Got) (bytes : List ℕ) → (g ≡ got.End) ⊎ (g ≡ got.Failed) → StandsFor table drained.processes → text ≡ more_characters (decoded x.coding (read_so_far x)) (all_decoded x.coding (read_so_far x)) → Takes s p x (got_answer bytes g) table text
   took_end g bytes (inl is) stands came = subst (λ a. Takes s p x a table text) (sym (ap (got_answer bytes) is)) (record {
     now = drained;
     stands = stands;

@@ -1,13 +1,13 @@
 -- Answers of a process: what they need, what they change in the table, and what the machine comes to by them.
 use Rattle.std.specs.Prelude.{◌≡◌, ℕ, ◌+◌, ◌≤◌, Bool, true, false, List, [], ◌∷◌, ◌++◌, length, codes, Option, Some, None}
 use Rattle.text_model.specs.Characters.{Ch}
-use Rattle.text_model.specs.Decoding.{characters, tail, all_characters}
+use Rattle.text_model.specs.Codings.{Coding, decoded, undecoded, all_decoded}
 use Rattle.plain_machine.specs.Exchanges.{Answer, Bytes}
 use Rattle.plain_machine.specs.State.{State, Process, Status, Exited, Signalled, Lost}
 use Rattle.plain_machine.specs.Items.{Item, Wait, Waiting, Target}
 use Rattle.plain_machine.specs.Calls.{silent}
 use Rattle.plain_machine.specs.Waits.{entry_of, read_answer, end_answer, ends, exit_text}
-use Rattle.process_table.specs.Table.{StandsFor, changed, held_by, with_held, with_drained, with_status}
+use Rattle.process_table.specs.Table.{StandsFor, changed, coding_by, held_by, with_held, with_drained, with_status}
 use Rattle.wait_loop.specs.KeptWaits.{noted}
 use Rattle.host_link.specs.Hosts.{ended_answer}
 use Rattle.host_link.specs.declared.host.Got.{Got}
@@ -23,16 +23,16 @@ abbrev pub IsRead : Got → (bytes : List ℕ) → Type 0
 IsRead (got.Bytes n) bytes = (length bytes ≡ n) × (1 ≤ n) × (n ≤ 4096)
 IsRead _ bytes = bytes ≡ []
 
--- the characters that come out, by the bytes that were held
-abbrev pub heard_of : Got → (bytes held : List ℕ) → List Ch
-heard_of (got.Bytes n) bytes held = characters (held ++ bytes)
-heard_of got.Nothing bytes held = []
-heard_of got.End bytes held = all_characters held
-heard_of got.Failed bytes held = all_characters held
+-- the characters that come out, by the coding and the bytes that were held
+abbrev pub heard_of : Coding → Got → (bytes held : List ℕ) → List Ch
+heard_of c (got.Bytes n) bytes held = decoded c (held ++ bytes)
+heard_of c got.Nothing bytes held = []
+heard_of c got.End bytes held = all_decoded c held
+heard_of c got.Failed bytes held = all_decoded c held
 
 -- the table behind a read
 abbrev pub after_read : (p : ℕ) → Got → (bytes : List ℕ) → List Process → List Process
-after_read p (got.Bytes n) bytes table = changed p (with_held (tail (held_by table p ++ bytes))) table
+after_read p (got.Bytes n) bytes table = changed p (with_held (undecoded (coding_by table p) (held_by table p ++ bytes))) table
 after_read p got.Nothing bytes table = table
 after_read p got.End bytes table = changed p with_drained table
 after_read p got.Failed bytes table = changed p with_drained table

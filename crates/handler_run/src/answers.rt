@@ -4,7 +4,7 @@ ghost use Rattle.std.specs.Prelude.{Some, None, option_map};
 ghost use Rattle.text_model.specs.Characters.{Ch as Character};
 ghost use Rattle.plain_machine.specs.State.{State, Process as Meant, process};
 ghost use Rattle.process_table.specs.Meaning.{status_of};
-ghost use Rattle.process_table.specs.Table.{StandsFor, held_by};
+ghost use Rattle.process_table.specs.Table.{StandsFor, coding_by, held_by};
 ghost use Rattle.host_link.specs.Hosts.{got_answer};
 ghost use Rattle.handler_run.specs.Answers.{Deletes, Ends, IsRead, Reads, Takes, after_end};
 ghost use Rattle.handler_run.specs.Answers.{after_read, came_to, heard_of};
@@ -18,14 +18,15 @@ use process_table::{Processes, Status};
 
 /// Process `p` answered a read: decodes the bytes, which are those given or none, and says what is entered: its filter,
 /// the one set now, with the characters that came out, or nothing exactly where none did. Once its output has ended, or
-/// where that failed, the bytes held come out as raw bytes. It takes no memory; the slot was made for `p` as it stands.
+/// where that failed, what was held back comes out too. It takes no memory; the slot was made for `p` as it stands.
 pub fn enter(table: &mut Processes, p: u32, slot: Slot, got: &Got, bytes: &[u8]) -> Entry
     requires made { p < length table.old }
     requires room { 4099 ≤ slot }
     requires read { IsRead got.now bytes.now }
     ensures count { length table.new ≡ length table.old }
     ensures table { table.new ≡ after_read p got.now bytes.now table.old }
-    ensures none { (result ≡ Entry.None) ↔ (heard_of got.now bytes.now (held_by table.old p) ≡ []) }
+    ensures none { (result ≡ Entry.None) ↔ (heard_of (coding_by table.old p) got.now bytes.now
+        (held_by table.old p) ≡ []) }
     ensures machine { (s : State) (x : Meant) → StandsFor table.old s.processes →
         process s p ≡ Some x → x.drained ≡ false →
         Reads s p x (got_answer bytes.now got.now) table.new result }
@@ -45,7 +46,8 @@ fn decode(table: &mut Processes, p: u32, got: &Got, bytes: &[u8], out: &mut Char
     requires read { IsRead got.now bytes.now }
     ensures count { length table.new ≡ length table.old }
     ensures table { table.new ≡ after_read p got.now bytes.now table.old }
-    ensures items { out.new.items ≡ out.old.items ++ heard_of got.now bytes.now (held_by table.old p) }
+    ensures items { out.new.items ≡ out.old.items ++ heard_of (coding_by table.old p) got.now bytes.now
+        (held_by table.old p) }
     ensures machine { out.old.items ≡ [] → (s : State) (x : Meant) →
         StandsFor table.old s.processes → process s p ≡ Some x → x.drained ≡ false →
         Takes s p x (got_answer bytes.now got.now) table.new out.new.items }

@@ -1,6 +1,7 @@
 pub mod Answers
 pub mod Arguments
 pub mod Asks
+pub mod Called
 pub mod Codes
 pub mod Digits
 pub mod Finding

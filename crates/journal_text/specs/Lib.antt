@@ -3,3 +3,4 @@ pub mod Allowed
 pub mod Replayed
 pub mod Reading
 pub mod Journals
+pub mod Lined

@@ -6,6 +6,7 @@ mod exchange;
 mod hex;
 mod journal;
 mod line;
+mod lined;
 mod pieces;
 mod replay;
 mod reply;
@@ -15,4 +16,5 @@ mod told;
 
 pub use journal::{JournalFault, LONGEST_SESSION, read_journal};
 pub use line::write_journal;
+pub use lined::LinedHost;
 pub use replay::Replay;

@@ -4,6 +4,8 @@
 #[cfg(test)]
 mod acting;
 #[cfg(test)]
+mod codings;
+#[cfg(test)]
 mod cuts;
 #[cfg(test)]
 mod drills;
@@ -23,6 +25,8 @@ mod natives;
 mod nesting;
 #[cfg(test)]
 mod playing;
+#[cfg(test)]
+mod read_only;
 #[cfg(test)]
 mod recording;
 #[cfg(test)]

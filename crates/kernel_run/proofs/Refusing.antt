@@ -1,18 +1,18 @@
 -- What the tests of a call read: words one by one, hook functions, one process.
 use Rattle.std.proofs.Common.{◌≡◌, ℕ, zero, suc, ◌+◌, ◌<◌, ◌≤◌, Bool, true, false, ◌&&◌, ◌||◌, not, List, [], ◌∷◌, ◌++◌, length, get_or, map, drop, refl, sym, ap, ◌∙◌, arith}
-use Rattle.std.specs.Prelude.{slice_get, Option, Some, None, nat_le, ◌==◌, if◌then◌else◌}
+use Rattle.std.specs.Prelude.{slice_get, Option, Some, None, is_some, nat_le, nat_lt, ◌==◌, if◌then◌else◌}
 use Rattle.std.specs.List.{list_any, list_all}
-use Rattle.std.proofs.lemmas.Bool.{le-leb}
+use Rattle.std.proofs.lemmas.Bool.{le-leb, le-ltb}
 use Rattle.std.proofs.lemmas.List.{drop_all}
 use Rattle.text_model.proofs.Lists.{drop_at}
 use Rattle.text_model.specs.Properties.{Cell}
-use Rattle.editor_model.specs.Values.{Value, Fault, WrongType, ProcessEnded, TooMany, StartProcess}
+use Rattle.editor_model.specs.Values.{Value, Fault, WrongType, ProcessEnded, TooMany, CodingFixed, StartProcess}
 use Rattle.editor_model.specs.Answers.{Test, first_fault, refuse}
 use Rattle.editor_model.specs.Limits.{most_buffers, most_markers}
 use Rattle.editor_model.specs.Arguments.{arg, symbol_of, must_be_fewer, must_be_name, must_be_short}
 use Rattle.plain_machine.specs.State.{State, Process, HookLists, Program}
 use Rattle.plain_machine.specs.Hooks.{hook_list, hook_here, hook_added}
-use Rattle.plain_machine.specs.Arguments.{encoded, is_closed, is_running, is_new_name, is_process_buffer, is_word}
+use Rattle.plain_machine.specs.Arguments.{encoded, is_closed, is_running, is_fed, is_coding, is_new_name, is_process_buffer, is_word, process_of}
 use Rattle.plain_machine.specs.Refusals.{must_be_word, must_be_process, process_there, must_live_or_be_named, only_where, most_processes, most_sent, must_ask}
 use Rattle.change_hooks.specs.Hooked.{hook}
 use Rattle.kernel_steps.specs.Waits.{Passes}
@@ -78,6 +78,15 @@ closed_past s n p is l = le-leb n p l ∙ ap closed_in (sym (nobody_there s.proc
 pub closed_at : (s : State) (p : ℕ) (x : Process) → slice_get s.processes p ≡ Some x → x.closed ≡ is_closed s p
 closed_at s p x at = ap closed_in (sym at)
 
+abbrev fed_in : Option Process → Bool
+fed_in o = elim o [ None ↦ false | Some x ↦ is_some x.bytes ]
+
+pub fed_past : (s : State) (n p : ℕ) → n ≡ length s.processes → n ≤ p → nat_lt p n ≡ is_fed s p
+fed_past s n p is l = le-ltb p n l ∙ ap fed_in (sym (nobody_there s.processes p (omega (arith, is, l))))
+
+pub fed_at : (s : State) (p : ℕ) (x : Process) → slice_get s.processes p ≡ Some x → is_some x.bytes ≡ is_fed s p
+fed_at s p x at = ap fed_in (sym at)
+
 -- ONE TEST AFTER THE OTHER
 pub stops : (t : Test) (rest : List Test) (f : Fault) → Some f ≡ t → Some f ≡ first_fault (t ∷ rest)
 stops t rest f h = ap (λ u. first_fault (u ∷ rest)) h
@@ -102,6 +111,13 @@ sent_tests s p text = refuse ProcessEnded (is_running s p && not (is_closed s p)
 abbrev pub send_tests : (empty : Bool) → State → (p : ℕ) → List Cell → List Test
 send_tests empty s p text =
     only_where (not empty) (refuse ProcessEnded (is_running s p && not (is_closed s p))) ∷ only_where (not empty) (refuse TooMany (nat_le (s.sent + length (encoded text)) most_sent)) ∷ only_where (not empty) (must_ask s) ∷ []
+
+-- those of a coding behind the process's own
+abbrev pub unfed_tests : State → (p : Value) → List Test
+unfed_tests s p = refuse CodingFixed (not (is_fed s (process_of s p))) ∷ []
+
+abbrev pub coding_tests : State → (p coding : Value) → List Test
+coding_tests s p coding = refuse WrongType (is_coding coding) ∷ process_there s p ∷ unfed_tests s p
 
 -- A START THAT NO TEST REFUSES
 none_front : (t : Test) (ts : List Test) → first_fault (t ∷ ts) ≡ None → t ≡ None

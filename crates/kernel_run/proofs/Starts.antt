@@ -7,7 +7,7 @@ use Rattle.marker_set.specs.Numbered.{nowhere}
 use Rattle.machine_laws.proofs.Tests.{no_fault, append_passes, refuse_ok}
 use Rattle.editor_model.specs.Values.{Value, Nil, Str, TheBuffer, WrongType, BufferKilled, TooMany, ExchangesSpent, StartProcess}
 use Rattle.editor_model.specs.Answers.{Test, refuse, first_fault}
-use Rattle.editor_model.specs.Editor.{Editor, Name, Live, empty_buffer, find, find_from, same_name, is_live, live, with_buffer, with_marker}
+use Rattle.editor_model.specs.Editor.{Editor, Name, Live, new_live, find, find_from, same_name, is_live, live, with_buffer, with_marker}
 use Rattle.editor_model.specs.Limits.{most_buffers, most_markers}
 use Rattle.editor_model.specs.Arguments.{arg, name_of, must_be_name, must_be_fewer, must_be_short}
 use Rattle.plain_machine.specs.State.{State, Program, Process}
@@ -128,7 +128,7 @@ after e name o = if not (is_some o) then with_buffer name e else e
 named_lives : (e : Editor) (name : Name) (o : Option ℕ) → find e name ≡ o → is_live (after e name o) (unwrap_or (find (after e name o) name) 0) ≡ true
 named_lives e name (Some id) h = ap (λ o. is_live e (unwrap_or o 0)) h ∙ find_lives e name id h
 named_lives e name None h =
-    let new : Live = record { name = name; buffer = empty_buffer } in
+    let new : Live = new_live name in
     ap (λ o. is_live (with_buffer name e) (unwrap_or o 0)) (found_last 0 e.buffers new name h (same_name-same name) ∙ ap Some (zero-add (length e.buffers)))
     ∙ ap (λ o. is_some (unwrap_or o None)) (get_last e.buffers (Some new))
 

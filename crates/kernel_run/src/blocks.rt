@@ -63,6 +63,7 @@ pub(crate) fn open(kernel: &mut Kernel, block: Block) -> Mem<Kept>
         }
         Block::CurrentBuffer => Ok(Kept::Buffer(kernel.editor.current())),
         Block::NoHooks => Ok(Kept::Hooks(kernel.hooks.inhibit(true))),
+        Block::ReadOnlyOff => Ok(Kept::Lifting(kernel.editor.lift_tests(true))),
     }
 }
 
@@ -140,6 +141,9 @@ pub(crate) fn restore(kernel: &mut Kernel, kept: Kept)
         Kept::Buffer(buffer) => make_current(kernel, buffer),
         Kept::Hooks(inhibited) => {
             kernel.hooks.inhibit(inhibited);
+        }
+        Kept::Lifting(lifted) => {
+            kernel.editor.lift_tests(lifted);
         }
     }
 }

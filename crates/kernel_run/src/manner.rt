@@ -17,6 +17,7 @@ pub(crate) fn manner(prim: Primitive) -> Manner
         | Primitive::GenerateNewBuffer
         | Primitive::RenameBuffer
         | Primitive::SetBufferModifiedP
+        | Primitive::SetBufferReadOnly
         | Primitive::GotoChar
         | Primitive::NarrowToRegion
         | Primitive::Widen
@@ -66,7 +67,9 @@ pub(crate) fn manner(prim: Primitive) -> Manner
         | Primitive::ProcessSendString
         | Primitive::ProcessSendEof
         | Primitive::DeleteProcess
-        | Primitive::AcceptProcessOutput => Manner::ConcernsHandlers,
+        | Primitive::AcceptProcessOutput
+        | Primitive::SetProcessCodingSystem
+        | Primitive::ProcessCodingSystem => Manner::ConcernsHandlers,
         _ => Manner::OnlyAsks,
     }
 }

@@ -6,7 +6,7 @@ ghost use Rattle.editor_model.specs.Values.{Prim, WrongType, ArgsOutOfRange, Pro
 ghost use Rattle.editor_model.specs.Values.{AddHook, RemoveHook, KillBuffer, StartProcess};
 ghost use Rattle.editor_model.specs.Values.{SetProcessFilter, SetProcessSentinel, SetProcessBuffer};
 ghost use Rattle.editor_model.specs.Values.{ProcessSendString, ProcessSendEof, DeleteProcess};
-ghost use Rattle.editor_model.specs.Values.{AcceptProcessOutput};
+ghost use Rattle.editor_model.specs.Values.{AcceptProcessOutput, SetProcessCodingSystem, CodingFixed};
 ghost use Rattle.editor_model.specs.Answers.{first_fault, refuse};
 ghost use Rattle.editor_model.specs.Limits.{most_buffers, most_markers};
 ghost use Rattle.editor_model.specs.Arguments.{arg, buffer_there, must_be_fewer, must_be_name};
@@ -18,7 +18,7 @@ ghost use Rattle.plain_machine.specs.Refusals.{must_be_word, must_live_or_be_nam
 ghost use Rattle.plain_machine.specs.Refusals.{only_where, process_there, rounds_of};
 ghost use Rattle.plain_machine.specs.Arguments.{encoded, is_closed, is_filter_place};
 ghost use Rattle.plain_machine.specs.Arguments.{is_handler_place, is_new_name, is_process_buffer};
-ghost use Rattle.plain_machine.specs.Arguments.{is_running};
+ghost use Rattle.plain_machine.specs.Arguments.{is_running, is_coding, is_fed, process_of};
 ghost use Rattle.plain_machine.specs.Hooks.{hook_added, is_hook};
 ghost use Rattle.plain_machine.specs.State.{State, Program as Plain};
 ghost use Rattle.ek_types.specs.Listing.{items_of};
@@ -98,6 +98,17 @@ fn must_be_filter_place(v: &Value) -> Result<(), Fault>
         matches!(v, Value::Nil | Value::T | Value::Sym(_)),
         Fault::WrongType,
     )
+}
+
+/// The name of a coding.
+fn must_be_coding(v: &Value) -> Result<(), Fault>
+    ensures { fault_in result ≡ refuse WrongType (is_coding (view v.now)) }
+{
+    let is_coding = match v {
+        Value::Sym(name) => name.0 == 14 || name.0 == 15 || name.0 == 16,
+        _ => false,
+    };
+    must(is_coding, Fault::WrongType)
 }
 
 fn must_be_process(v: &Value) -> Result<(), Fault>
@@ -388,6 +399,32 @@ fn test_set_buffer(kernel: &Kernel, p: &Value, b: &Value) -> Result<(), Fault>
     buffer_there(&kernel.editor, b)
 }
 
+/// Whether a process was made and a read of it gave bytes.
+fn is_fed(kernel: &Kernel, p: u32) -> bool
+    ensures { result ≡ is_fed (state_of kernel.now) p }
+{
+    p < kernel.processes.count() && kernel.processes.get(p).fed()
+}
+
+/// No bytes were read of a process.
+fn must_be_unfed(kernel: &Kernel, v: &Value) -> Result<(), Fault>
+    ensures { fault_in result ≡ refuse CodingFixed
+        (not (is_fed (state_of kernel.now) (process_of (state_of kernel.now) (view v.now)))) }
+{
+    must(!is_fed(kernel, process(kernel, v)), Fault::CodingFixed)
+}
+
+fn test_set_coding(kernel: &Kernel, p: &Value, coding: &Value) -> Result<(), Fault>
+    ensures { (machine : Plain) → fault_in result ≡
+        refusal_of machine (state_of kernel.now) SetProcessCodingSystem
+        (view p.now ∷ view coding.now ∷ []) }
+{
+    must_be_process(p)?;
+    must_be_coding(coding)?;
+    process_there(kernel, p)?;
+    must_be_unfed(kernel, p)
+}
+
 /// Whether the input of a process was closed. Where there is none it counts as closed.
 pub(crate) fn is_closed(kernel: &Kernel, p: u32) -> bool
     ensures { result ≡ is_closed (state_of kernel.now) p }
@@ -487,6 +524,7 @@ fn test_with<P: Program>(
         Primitive::SetProcessFilter => test_set_filter(kernel, program, a, b),
         Primitive::SetProcessSentinel => test_set_sentinel(kernel, program, a, b),
         Primitive::SetProcessBuffer => test_set_buffer(kernel, a, b),
+        Primitive::SetProcessCodingSystem => test_set_coding(kernel, a, b),
         Primitive::ProcessSendString => test_send(kernel, a, b),
         Primitive::ProcessSendEof => test_send_eof(kernel, a),
         Primitive::DeleteProcess => test_delete(kernel, a),

@@ -5,16 +5,18 @@ ghost use Rattle.std.specs.Prelude.{slice_get, Some};
 ghost use Rattle.std.specs.List.{list_any};
 ghost use Rattle.editor_model.specs.Values.{Sym as symbol, AddHook, RemoveHook, SetProcessFilter};
 ghost use Rattle.editor_model.specs.Values.{SetProcessSentinel, SetProcessBuffer, TheProcess, list};
+ghost use Rattle.editor_model.specs.Values.{SetProcessCodingSystem};
 ghost use Rattle.editor_model.specs.Arguments.{arg, symbol_of};
 ghost use Rattle.plain_machine.specs.State.{change_process, process};
-ghost use Rattle.plain_machine.specs.Arguments.{filter_of, sentinel_of};
+ghost use Rattle.plain_machine.specs.Arguments.{filter_of, sentinel_of, coding_of, coding_named};
 ghost use Rattle.plain_machine.specs.Calls.{buffer_value, exit_value, get_process, listed};
 ghost use Rattle.plain_machine.specs.Calls.{of_buffer, status_symbol, told_of, told_of_one};
-ghost use Rattle.plain_machine.specs.Calls.{with_filter, with_sentinel};
-ghost use Rattle.plain_machine.specs.Arguments.{filter_value, sentinel_value};
+ghost use Rattle.plain_machine.specs.Calls.{with_filter, with_sentinel, with_coding};
+ghost use Rattle.plain_machine.specs.Arguments.{filter_value, sentinel_value, coding_value};
 ghost use Rattle.plain_machine.specs.Hooks.{before_change_functions, hook_added, hook_removed};
 ghost use Rattle.plain_machine.specs.Hooks.{most_hooks};
 ghost use Rattle.process_table.specs.Meaning.{filter_of as filter_meant, status_of};
+ghost use Rattle.utf8_stream.specs.Codings.{coding_of as coding_meant};
 ghost use Rattle.ek_types.specs.Listing.{items_of};
 ghost use Rattle.ek_types.specs.Property.{number_of};
 ghost use Rattle.ek_call.specs.Meaning.{view};
@@ -34,6 +36,7 @@ use ek_types::{Copied, ListOf, Mem, Sym, SymList};
 use kernel_steps::Program;
 use process_table::{Filter, Process, Status};
 use std::alloc::Global;
+use utf8_stream::Coding;
 
 // HOOKS
 
@@ -223,6 +226,17 @@ fn sentinel_value(sentinel: Option<Sym>) -> Value
     }
 }
 
+/// The symbols `utf-8-unix`, `utf-8-dos` and `latin-1-unix`.
+fn coding_value(coding: Coding) -> Value
+    ensures { view result ≡ coding_value (coding_meant coding) }
+{
+    match coding {
+        Coding::Utf8 => Value::Sym(Sym(14)),
+        Coding::Utf8Dos => Value::Sym(Sym(15)),
+        Coding::Latin1 => Value::Sym(Sym(16)),
+    }
+}
+
 fn buffer_value(buffer: Option<u32>) -> Value
     ensures { view result ≡ buffer_value buffer }
 {
@@ -245,6 +259,7 @@ fn told(alloc: Global, prim: Primitive, process: &Process) -> Mem<Value>
         Primitive::ProcessExitStatus => Ok(exit_value(process.status())),
         Primitive::ProcessFilter => Ok(filter_value(process.filter())),
         Primitive::ProcessSentinel => Ok(sentinel_value(process.sentinel())),
+        Primitive::ProcessCodingSystem => Ok(coding_value(process.coding())),
         _ => Ok(Value::Nil),
     }
 }
@@ -279,6 +294,29 @@ fn sentinel_of(v: &Value) -> Option<Sym>
     match v {
         Value::Sym(name) => Some(*name),
         _ => None,
+    }
+}
+
+/// The coding of which a symbol is the name; the first one where it is of none.
+fn coding_named(name: u32) -> Coding
+    ensures { coding_meant result ≡ coding_named name }
+{
+    if name == 15 {
+        Coding::Utf8Dos
+    } else if name == 16 {
+        Coding::Latin1
+    } else {
+        Coding::Utf8
+    }
+}
+
+/// The coding that a value is.
+fn coding_of(v: &Value) -> Coding
+    ensures { coding_meant result ≡ coding_of (view v.now) }
+{
+    match v {
+        Value::Sym(name) => coding_named(name.0),
+        _ => Coding::Utf8,
     }
 }
 
@@ -351,6 +389,29 @@ fn set_buffer(kernel: &mut Kernel, v: &Value, b: &Value) -> Mem<Value>
     Ok(answer)
 }
 
+/// Gives a process that was made a coding, as long as nothing was read of it.
+fn note_coding(kernel: &mut Kernel, p: u32, coding: Coding)
+    ensures { state_of kernel.new ≡ change_process p (with_coding (coding_meant coding))
+        (state_of kernel.old) }
+{
+    if p < kernel.processes.count() {
+        kernel.processes.set_coding(p, coding);
+    }
+}
+
+/// Sets the coding of a process that was made. A refusal leaves all as it was.
+fn set_coding(kernel: &mut Kernel, v: &Value, coding: &Value) -> Mem<Value>
+    ensures value { IfOk result (λ w. view w ≡ view coding.now) }
+    ensures ok { OnOk result (state_of kernel.new ≡
+        set_by SetProcessCodingSystem (view v.now ∷ view coding.now ∷ []) (state_of kernel.old)) }
+    ensures err { OnErr result (state_of kernel.new ≡ state_of kernel.old) }
+{
+    let answer = coding.copy()?;
+    let p = process(kernel, v);
+    note_coding(kernel, p, coding_of(coding));
+    Ok(answer)
+}
+
 /// Makes a call on hooks or processes that asks the host nothing, enters nothing and isn't refused. Want of memory leaves
 /// all as it was.
 pub(crate) fn call_silently<P: Program>(
@@ -379,6 +440,7 @@ pub(crate) fn call_silently<P: Program>(
         Primitive::SetProcessFilter => set_filter(kernel, a, b),
         Primitive::SetProcessSentinel => set_sentinel(kernel, a, b),
         Primitive::SetProcessBuffer => set_buffer(kernel, a, b),
+        Primitive::SetProcessCodingSystem => set_coding(kernel, a, b),
         _ => {
             let p = process(kernel, a);
             told_of_one(kernel, prim, p)

@@ -2,10 +2,10 @@
 use Rattle.std.proofs.Common.{◌≡◌, ℕ, List, [], ◌∷◌, length, Result, Ok, Err, refl, ap, sym, ◌∙◌, subst, arith}
 use Rattle.std.specs.Prelude.{Option, Some, None, Bool, true, false, drop}
 use Rattle.text_model.specs.Marks.{Saved, Excursion, Restriction, Pending}
-use Rattle.editor_model.specs.Values.{Value, Forms, In, Block, SaveExcursion, SaveRestriction, SaveCurrentBuffer, InhibitHooks}
+use Rattle.editor_model.specs.Values.{Value, Forms, In, Block, SaveExcursion, SaveRestriction, SaveCurrentBuffer, InhibitHooks, InhibitReadOnly}
 use Rattle.editor_model.specs.Editor.{is_live, register, with_register}
 use Rattle.plain_machine.specs.State.{State, Program}
-use Rattle.plain_machine.specs.Items.{Item, Config, Body, DoForm, Leave, Kept, KeptExcursion, KeptRestriction, KeptBuffer, KeptInhibition}
+use Rattle.plain_machine.specs.Items.{Item, Config, Body, DoForm, Leave, Kept, KeptExcursion, KeptRestriction, KeptBuffer, KeptInhibition, KeptLifting}
 use Rattle.plain_machine.specs.Calls.{on}
 use Rattle.plain_machine.specs.Forms.{opened, restored, kept_of, put_back, with_saved, saved_of, assigned, scope_of}
 use Rattle.plain_machine.specs.Run.{stays, goes}
@@ -80,18 +80,21 @@ restored_depth KeptExcursion s = pop_depth s (saved_of s)
 restored_depth KeptRestriction s = pop_depth s (saved_of s)
 restored_depth (KeptBuffer b) s = chosen_depth (is_live s.editor b) s _ refl
 restored_depth (KeptInhibition old) s = refl
+restored_depth (KeptLifting old) s = refl
 
 pub opened_depth : (kind : Block) (s : State) → (opened kind s).depth ≡ s.depth
 opened_depth SaveExcursion s = refl
 opened_depth SaveRestriction s = refl
 opened_depth SaveCurrentBuffer s = refl
 opened_depth InhibitHooks s = refl
+opened_depth InhibitReadOnly s = refl
 
 opened_hooks : (kind : Block) (s : State) → s.inhibited ≡ true → (opened kind s).inhibited ≡ true
 opened_hooks SaveExcursion s e = e
 opened_hooks SaveRestriction s e = e
 opened_hooks SaveCurrentBuffer s e = e
 opened_hooks InhibitHooks s e = refl
+opened_hooks InhibitReadOnly s e = e
 
 -- exchanges
 chosen_asked : (live : Bool) (s t : State) → t.asked ≡ s.asked → (chosen live s t).asked ≡ s.asked
@@ -113,12 +116,14 @@ restored_asked KeptExcursion s = pop_asked s (saved_of s)
 restored_asked KeptRestriction s = pop_asked s (saved_of s)
 restored_asked (KeptBuffer b) s = chosen_asked (is_live s.editor b) s _ refl
 restored_asked (KeptInhibition old) s = refl
+restored_asked (KeptLifting old) s = refl
 
 opened_asked : (kind : Block) (s : State) → (opened kind s).asked ≡ s.asked
 opened_asked SaveExcursion s = refl
 opened_asked SaveRestriction s = refl
 opened_asked SaveCurrentBuffer s = refl
 opened_asked InhibitHooks s = refl
+opened_asked InhibitReadOnly s = refl
 
 -- hooks are as inhibited behind a block as in front of it
 same_hooks : (kind : Block) (s t : State) → t.inhibited ≡ (opened kind s).inhibited → (restored (kept_of kind s) t).inhibited ≡ s.inhibited
@@ -126,6 +131,7 @@ same_hooks SaveExcursion s t e = pop_inhibited t (saved_of t) ∙ e
 same_hooks SaveRestriction s t e = pop_inhibited t (saved_of t) ∙ e
 same_hooks SaveCurrentBuffer s t e = chosen_inhibited (is_live t.editor s.editor.current) t _ refl ∙ e
 same_hooks InhibitHooks s t e = refl
+same_hooks InhibitReadOnly s t e = e
 
 pub opened_ready : (kind : Block) (s : State) (kills : List Bool) → IsReady s kills → IsReady (opened kind s) kills
 opened_ready kind s kills r = record {
@@ -141,6 +147,7 @@ kept_alike SaveExcursion s = refl
 kept_alike SaveRestriction s = refl
 kept_alike SaveCurrentBuffer s = refl
 kept_alike InhibitHooks s = refl
+kept_alike InhibitReadOnly s = refl
 
 module _ (program : Program) (kind : Block) (forms : Forms) (w : World) where
   abbrev k : Kept

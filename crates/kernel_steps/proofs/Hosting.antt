@@ -6,11 +6,12 @@ use Rattle.std.proofs.lemmas.List.{length-set}
 use Rattle.std.proofs.lemmas.List.Elements.{All-set}
 use Rattle.std.proofs.lemmas.Option.{slice_get-map}
 use Rattle.text_model.proofs.Lists.{All-slice_get}
+use Rattle.text_model.specs.Codings.{Coding}
 use Rattle.plain_machine.specs.State.{State, Process, Filter, change_process}
 use Rattle.plain_machine.specs.Arguments.{runs}
 use Rattle.plain_machine.specs.Handling.{unlisted}
-use Rattle.plain_machine.specs.Calls.{with_filter, with_sentinel, of_buffer, with_input_closed}
-use Rattle.process_table.specs.Table.{kept}
+use Rattle.plain_machine.specs.Calls.{with_filter, with_sentinel, of_buffer, with_input_closed, with_coding}
+use Rattle.process_table.specs.Table.{kept, kept_bytes}
 use Rattle.kernel_steps.specs.Worlds.{Hosted, kept_state, children, running}
 
 pub hosted_set : (xs : List Process) (p : ℕ) (x y : Process) (kills : List Bool) → slice_get xs p ≡ Some x → y.child ≡ x.child → (runs y.status ≡ true → runs x.status ≡ true) → Hosted xs kills → Hosted (slice_set xs p y) kills
@@ -49,6 +50,21 @@ sentinel_mild h = record { kept_same = λ x. refl; child = λ x. refl; status = 
 
 pub buffer_mild : (b : Option ℕ) → IsMild (of_buffer b)
 buffer_mild b = record { kept_same = λ x. refl; child = λ x. refl; status = λ x. refl }
+
+-- with another coding, by what was read
+abbrev coded : Coding → Process → Option (List ℕ) → Process
+coded c x o = elim o [ Some bytes ↦ x | None ↦ record x { coding = c } ]
+
+pub coding_mild : (c : Coding) → IsMild (with_coding c)
+coding_mild c = record {
+  kept_same = λ x. same x x.bytes refl;
+  child = λ x. (elim x.bytes as (λ o. (coded c x o).child ≡ x.child) [ Some bytes ↦ refl | None ↦ refl ]);
+  status = λ x. (elim x.bytes as (λ o. (coded c x o).status ≡ x.status) [ Some bytes ↦ refl | None ↦ refl ]);
+}
+  where
+    same : (x : Process) (o : Option (List ℕ)) → x.bytes ≡ o → coded c (kept x) (option_map (kept_bytes x.drained x.coding) o) ≡ kept (coded c x o)
+    same x (Some bytes) e = refl
+    same x None e = ap (λ b. record x { coding = c; bytes = b }) (ap (option_map (kept_bytes x.drained x.coding)) e ∙ sym (ap (option_map (kept_bytes x.drained c)) e))
 
 pub input_mild : IsMild with_input_closed
 input_mild = record { kept_same = λ x. refl; child = λ x. refl; status = λ x. refl }

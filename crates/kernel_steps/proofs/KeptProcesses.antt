@@ -4,16 +4,16 @@ use Rattle.std.specs.Prelude.{Option, Some, None, option_map, drop, nat_lt, nat_
 use Rattle.std.specs.List.{enumerate_from}
 use Rattle.std.proofs.lemmas.Option.{slice_get-map}
 use Rattle.std.proofs.lemmas.List.{length-map}
-use Rattle.editor_model.specs.Values.{Value, Nil, T, Int, Sym, Str, Items, Dotted, TheBuffer, TheMarker, TheOverlay, TheProcess, is_nil, WrongType, NoSuchProcess, ProcessEnded, TooMany, ArgsOutOfRange, Prim, CurrentBuffer, SetBuffer, GetBuffer, GetBufferCreate, GenerateNewBuffer, RenameBuffer, KillBuffer, BufferLiveP, BufferName, BufferList, BufferModifiedP, SetBufferModifiedP, PointAt, PointMin, PointMax, BufferSize, BufferNarrowedP, GotoChar, CharAfter, BufferString, BufferSubstring, BufferSubstringNoProperties, Insert, InsertAndInherit, InsertBeforeMarkers, InsertBeforeMarkersAndInherit, InsertBufferSubstring, DeleteRegion, DeleteAndExtractRegion, EraseBuffer, NarrowToRegion, Widen, MakeMarker, PointMarker, CopyMarker, SetMarker, MarkerPosition, MarkerBuffer, MarkerInsertionType, SetMarkerInsertionType, GetTextProperty, TextPropertiesAt, PutTextProperty, AddTextProperties, RemoveTextProperties, SetTextProperties, NextPropertyChange, NextSinglePropertyChange, PreviousPropertyChange, PreviousSinglePropertyChange, TextPropertyAny, TextPropertyNotAll, MakeOverlay, OverlayStart, OverlayEnd, OverlayBuffer, OverlayPut, OverlayGet, OverlayProperties, MoveOverlay, DeleteOverlay, OverlaysAt, OverlaysIn, GetCharProperty, NextOverlayChange, PreviousOverlayChange, AddHook, RemoveHook, UndoBoundary, UndoStart, UndoMore, BufferUndoList, BufferDisableUndo, BufferEnableUndo, StartProcess, ProcessList, GetProcess, ProcessName, ProcessStatus, ProcessBuffer, ProcessMark, ProcessLiveP, ProcessExitStatus, ProcessFilter, ProcessSentinel, SetProcessFilter, SetProcessSentinel, SetProcessBuffer, ProcessSendString, ProcessSendEof, DeleteProcess, AcceptProcessOutput}
+use Rattle.editor_model.specs.Values.{Value, Nil, T, Int, Sym, Str, Items, Dotted, TheBuffer, TheMarker, TheOverlay, TheProcess, is_nil, WrongType, NoSuchProcess, ProcessEnded, TooMany, ArgsOutOfRange, Prim, CurrentBuffer, SetBuffer, GetBuffer, GetBufferCreate, GenerateNewBuffer, RenameBuffer, KillBuffer, BufferLiveP, BufferName, BufferList, BufferModifiedP, SetBufferModifiedP, PointAt, PointMin, PointMax, BufferSize, BufferNarrowedP, GotoChar, CharAfter, BufferString, BufferSubstring, BufferSubstringNoProperties, Insert, InsertAndInherit, InsertBeforeMarkers, InsertBeforeMarkersAndInherit, InsertBufferSubstring, DeleteRegion, DeleteAndExtractRegion, EraseBuffer, NarrowToRegion, Widen, MakeMarker, PointMarker, CopyMarker, SetMarker, MarkerPosition, MarkerBuffer, MarkerInsertionType, SetMarkerInsertionType, GetTextProperty, TextPropertiesAt, PutTextProperty, AddTextProperties, RemoveTextProperties, SetTextProperties, NextPropertyChange, NextSinglePropertyChange, PreviousPropertyChange, PreviousSinglePropertyChange, TextPropertyAny, TextPropertyNotAll, MakeOverlay, OverlayStart, OverlayEnd, OverlayBuffer, OverlayPut, OverlayGet, OverlayProperties, MoveOverlay, DeleteOverlay, OverlaysAt, OverlaysIn, GetCharProperty, NextOverlayChange, PreviousOverlayChange, AddHook, RemoveHook, UndoBoundary, UndoStart, UndoMore, BufferUndoList, BufferDisableUndo, BufferEnableUndo, StartProcess, ProcessList, GetProcess, ProcessName, ProcessStatus, ProcessBuffer, ProcessMark, ProcessLiveP, ProcessExitStatus, ProcessFilter, ProcessSentinel, SetProcessFilter, SetProcessSentinel, SetProcessBuffer, ProcessSendString, ProcessSendEof, DeleteProcess, AcceptProcessOutput, SetProcessCodingSystem, ProcessCodingSystem, CodingFixed, BufferReadOnlyP, SetBufferReadOnly}
 use Rattle.editor_model.specs.Editor.{Name, same_name}
 use Rattle.editor_model.specs.Limits.{most_buffers, most_markers}
 use Rattle.editor_model.specs.Answers.{Test, refuse}
 use Rattle.editor_model.specs.Arguments.{arg, string_of, name_of, buffer_of, must_be_string, must_be_name, must_be_buffer_or_nil, buffer_there, must_be_fewer, must_be_short}
 use Rattle.plain_machine.specs.State.{State, Program, Process, process}
-use Rattle.plain_machine.specs.Arguments.{find_process, process_of, is_process_there, is_running, is_closed, child_of, running_in, runs, stands_in, encoded, is_empty, is_new_name, is_filter_place, is_handler_place, is_process_buffer}
+use Rattle.plain_machine.specs.Arguments.{find_process, process_of, is_process_there, is_running, is_closed, child_of, running_in, runs, stands_in, encoded, is_empty, is_new_name, is_filter_place, is_handler_place, is_process_buffer, is_fed, is_coding}
 use Rattle.plain_machine.specs.Calls.{waiting}
 use Rattle.plain_machine.specs.Refusals.{process_tests, must_be_handler, must_be_process, must_be_process_or_nil, must_be_word, process_there, must_live_or_be_named, must_ask, must_nest, only_where, must_be_replaceable, is_rounds, rounds_of, most_rounds, most_processes, most_sent}
-use Rattle.process_table.specs.Table.{kept}
+use Rattle.process_table.specs.Table.{kept, kept_bytes}
 use Rattle.kernel_steps.specs.Outside.{deepest}
 use Rattle.kernel_steps.specs.Worlds.{kept_state, Stands}
 
@@ -72,6 +72,13 @@ closed_kept s p = one_kept s p (λ o. elim o [ Some x ↦ x.closed | None ↦ tr
 
 pub child_kept : (s : State) (p : ℕ) → child_of (kept_state s) p ≡ child_of s p
 child_kept s p = one_kept s p (λ o. elim o [ Some x ↦ x.child | None ↦ 0 ]) (λ x. refl)
+
+some_kept : {A B : Type 0} (f : A → B) (o : Option A) → is_some (option_map f o) ≡ is_some o
+some_kept f None = refl
+some_kept f (Some x) = refl
+
+pub fed_kept : (s : State) (p : ℕ) → is_fed (kept_state s) p ≡ is_fed s p
+fed_kept s p = one_kept s p (λ o. elim o [ None ↦ false | Some x ↦ is_some x.bytes ]) (λ x. some_kept (kept_bytes x.drained x.coding) x.bytes)
 
 -- PROCESSES OF A BUFFER
 abbrev among : (b n : ℕ) → List Process → List ℕ
@@ -187,6 +194,15 @@ module _ (s : State) (args : List Value) where
   buffer_tests : buffered (there_now (kept_state s)) ≡ buffered (there_now s)
   buffer_tests = ap buffered there
 
+  fed_same : is_fed (kept_state s) (process_of (kept_state s) (arg args 0)) ≡ is_fed s (process_of s (arg args 0))
+  fed_same = ap (is_fed (kept_state s)) (process_of_kept s (arg args 0)) ∙ fed_kept s (process_of s (arg args 0))
+
+  abbrev coded : (here : Test) → (fed : Bool) → List Test
+  coded here fed = must_be_process (arg args 0) ∷ refuse WrongType (is_coding (arg args 1)) ∷ here ∷ refuse CodingFixed (not fed) ∷ []
+
+  coding_tests : coded (there_now (kept_state s)) (is_fed (kept_state s) (process_of (kept_state s) (arg args 0))) ≡ coded (there_now s) (is_fed s (process_of s (arg args 0)))
+  coding_tests = ap (λ t. coded t (is_fed (kept_state s) (process_of (kept_state s) (arg args 0)))) there ∙ ap (coded (there_now s)) fed_same
+
   abbrev handled : (first right : Test) → (here : Test) → List Test
   handled first right here = first ∷ must_be_process (arg args 0) ∷ right ∷ here ∷ []
 
@@ -206,6 +222,8 @@ tests_of_kept program s BufferName args = one_test s args
 tests_of_kept program s BufferList args = one_test s args
 tests_of_kept program s BufferModifiedP args = one_test s args
 tests_of_kept program s SetBufferModifiedP args = one_test s args
+tests_of_kept program s BufferReadOnlyP args = one_test s args
+tests_of_kept program s SetBufferReadOnly args = one_test s args
 tests_of_kept program s PointAt args = one_test s args
 tests_of_kept program s PointMin args = one_test s args
 tests_of_kept program s PointMax args = one_test s args
@@ -286,6 +304,8 @@ tests_of_kept program s ProcessSendString args = string_tests s args
 tests_of_kept program s ProcessSendEof args = eof_tests s args
 tests_of_kept program s DeleteProcess args = delete_tests s args
 tests_of_kept program s AcceptProcessOutput args = wait_tests s args
+tests_of_kept program s SetProcessCodingSystem args = coding_tests s args
+tests_of_kept program s ProcessCodingSystem args = one_test s args
 
 -- a call is refused alike
 pub tests_alike : (program : Program) (known s : State) (prim : Prim) (args : List Value) → Stands known s → process_tests program deepest known prim args ≡ process_tests program deepest s prim args

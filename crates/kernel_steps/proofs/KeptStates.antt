@@ -4,11 +4,11 @@ use Rattle.std.specs.Prelude.{Option, Some, None, option_map, codes, decimal, dr
 use Rattle.std.specs.List.{enumerate_from}
 use Rattle.std.proofs.lemmas.Option.{slice_get-map}
 use Rattle.text_model.specs.Marks.{Saved, Excursion, Restriction, Pending}
-use Rattle.editor_model.specs.Values.{Value, Values, Nil, T, Int, Sym, Str, Items, Dotted, TheBuffer, TheMarker, TheOverlay, TheProcess, End, More, Reply, Answered, Refused, Block, SaveExcursion, SaveRestriction, SaveCurrentBuffer, InhibitHooks, Fault}
+use Rattle.editor_model.specs.Values.{Value, Values, Nil, T, Int, Sym, Str, Items, Dotted, TheBuffer, TheMarker, TheOverlay, TheProcess, End, More, Reply, Answered, Refused, Block, SaveExcursion, SaveRestriction, SaveCurrentBuffer, InhibitHooks, InhibitReadOnly, Fault}
 use Rattle.editor_model.specs.Editor.{is_live, register, with_register}
 use Rattle.plain_machine.specs.State.{State, Process}
 use Rattle.plain_machine.specs.Arguments.{runs}
-use Rattle.plain_machine.specs.Items.{Item, Top, Body, DoForm, MakeCall, Leave, GiveAnswer, Refuse, MakeChange, Hooks, Calm, CommitChange, Enter, Native, Called, Exit, Wait, Delete, KillBuffer, Finish, WriteDump, Kept, KeptExcursion, KeptRestriction, KeptBuffer, KeptInhibition}
+use Rattle.plain_machine.specs.Items.{Item, Top, Body, DoForm, MakeCall, Leave, GiveAnswer, Refuse, MakeChange, Hooks, Calm, CommitChange, Enter, Native, Called, Exit, Wait, Delete, KillBuffer, Finish, WriteDump, Kept, KeptExcursion, KeptRestriction, KeptBuffer, KeptInhibition, KeptLifting}
 use Rattle.plain_machine.specs.Lines.{Replied, Entered, KilledLast, Dumped, shown, shown_each, shown_name, shown_live, shown_marker, shown_overlay, shown_process, shown_set, shown_status, line, indented, spaced, bracketed, kind_word, handler_word}
 use Rattle.plain_machine.specs.Forms.{assigned, restored, opened, put_back, with_saved, saved_of, scope_of, dropped, popped}
 use Rattle.process_table.specs.Table.{kept}
@@ -147,12 +147,14 @@ restored_apart KeptExcursion = record { kept_same = λ s. pop_kept s (saved_of s
 restored_apart KeptRestriction = record { kept_same = λ s. pop_kept s (saved_of s); processes = λ s. pop_processes s (saved_of s) }
 restored_apart (KeptBuffer b) = record { kept_same = λ s. live_kept s _ (is_live s.editor b); processes = λ s. live_apart s _ (is_live s.editor b) refl }
 restored_apart (KeptInhibition old) = record { kept_same = λ s. refl; processes = λ s. refl }
+restored_apart (KeptLifting old) = record { kept_same = λ s. refl; processes = λ s. refl }
 
 pub opened_apart : (kind : Block) → IsApart (opened kind)
 opened_apart SaveExcursion = record { kept_same = λ s. refl; processes = λ s. refl }
 opened_apart SaveRestriction = record { kept_same = λ s. refl; processes = λ s. refl }
 opened_apart SaveCurrentBuffer = record { kept_same = λ s. refl; processes = λ s. refl }
 opened_apart InhibitHooks = record { kept_same = λ s. refl; processes = λ s. refl }
+opened_apart InhibitReadOnly = record { kept_same = λ s. refl; processes = λ s. refl }
 
 -- FAULTS
 -- a fault leaves processes as they are

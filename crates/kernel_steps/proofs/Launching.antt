@@ -5,6 +5,7 @@ use Rattle.std.specs.List.{list_any}
 use Rattle.std.proofs.lemmas.Bool.{ne_eqb}
 use Rattle.std.proofs.lemmas.List.{map-append, length-map}
 use Rattle.std.proofs.lemmas.List.Elements.{All-nil, All-cons, All-append}
+use Rattle.text_model.specs.Codings.{Utf8}
 use Rattle.editor_model.specs.Values.{Value}
 use Rattle.editor_model.specs.Editor.{Name, numbered_name}
 use Rattle.editor_model.specs.Arguments.{name_of}
@@ -37,7 +38,7 @@ name_kept all name =
 
 -- THE STATE
 abbrev begun_process : State → (b : Value) → (child : ℕ) → Name → Process
-begun_process s b child name = record { name = name; child = child; status = Runs; buffer = process_buffer (with_process_buffer b s.editor) b; mark = length (with_process_buffer b s.editor).marks.markers; filter = Default; sentinel = None; bytes = []; drained = false; closed = false; listed = true }
+begun_process s b child name = record { name = name; child = child; status = Runs; buffer = process_buffer (with_process_buffer b s.editor) b; mark = length (with_process_buffer b s.editor).marks.markers; filter = Default; sentinel = None; coding = Utf8; bytes = None; drained = false; closed = false; listed = true }
 
 pub started_kept : (s : State) (name b : Value) (child : ℕ) → started (kept_state s) name b child ≡ kept_state (started s name b child)
 started_kept s name b child =

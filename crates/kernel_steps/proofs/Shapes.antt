@@ -1,9 +1,9 @@
 -- What kinds of forms and values stand for.
-use Rattle.std.proofs.Common.{◌≡◌, ℕ, map, ap, sym, ◌∙◌}
+use Rattle.std.proofs.Common.{◌≡◌, ℕ, map, Box, Global, ap, sym, ◌∙◌}
 use Rattle.ek_types.specs.Listing.{items_of}
 use Rattle.ek_types.specs.declared.list.ListOf.{ListOf}
 use Rattle.ek_types.specs.declared.symbol.Sym.{Sym}
-use Rattle.editor_model.specs.Values.{Do, Setq, In, WhenEq, SaveExcursion, SaveRestriction, SaveCurrentBuffer, InhibitHooks, Nil, TheProcess}
+use Rattle.editor_model.specs.Values.{Do, Setq, In, WhenEq, SaveExcursion, SaveRestriction, SaveCurrentBuffer, InhibitHooks, InhibitReadOnly, Nil, TheProcess}
 use Rattle.ek_call.specs.Meaning.{arg_of, call_of, form_of, joined, view}
 use Rattle.ek_call.specs.declared.call.Arg.{Arg}
 use Rattle.ek_call.specs.declared.call.Call.{Call}
@@ -38,5 +38,8 @@ keep_buffer_is fs = ap form_of (sym (form.rolls-KeepBuffer fs)) ∙ fold-roll-Fo
 pub no_hooks_is : (fs : ListOf Form) → form_of (form.NoHooks fs) ≡ In InhibitHooks (joined (map form_of (items_of fs)))
 no_hooks_is fs = ap form_of (sym (form.rolls-NoHooks fs)) ∙ fold-roll-Form _ _ (Form-F.NoHooks fs)
 
-pub when_is : (a b : Arg) (fs : ListOf Form) → form_of (form.WhenEq a b fs) ≡ WhenEq (arg_of a) (arg_of b) (joined (map form_of (items_of fs)))
-when_is a b fs = ap form_of (sym (form.rolls-WhenEq a b fs)) ∙ fold-roll-Form _ _ (Form-F.WhenEq a b fs)
+pub read_only_off_is : (fs : ListOf Form) → form_of (form.ReadOnlyOff fs) ≡ In InhibitReadOnly (joined (map form_of (items_of fs)))
+read_only_off_is fs = ap form_of (sym (form.rolls-ReadOnlyOff fs)) ∙ fold-roll-Form _ _ (Form-F.ReadOnlyOff fs)
+
+pub when_is : (pair : Box (Arg × Arg) Global) (fs : ListOf Form) → form_of (form.WhenEq pair fs) ≡ WhenEq (arg_of pair.value.0) (arg_of pair.value.1) (joined (map form_of (items_of fs)))
+when_is pair fs = ap form_of (sym (form.rolls-WhenEq pair fs)) ∙ fold-roll-Form _ _ (Form-F.WhenEq pair fs)

@@ -2,12 +2,12 @@
 use Rattle.std.proofs.Common.{◌≡◌, ℕ, ◌+◌, Bool, true, false, List, [], ◌∷◌, map, length, filter, refl, ap, sym, ◌∙◌, subst, arith}
 use Rattle.std.specs.Prelude.{if◌then◌else◌}
 use Rattle.std.specs.List.{enumerate_from}
-use Rattle.editor_model.specs.Values.{Value, Nil, T, Int, Sym, Str, Items, Dotted, TheBuffer, TheMarker, TheOverlay, TheProcess, Answered, list, Prim, CurrentBuffer, SetBuffer, GetBuffer, GetBufferCreate, GenerateNewBuffer, RenameBuffer, KillBuffer, BufferLiveP, BufferName, BufferList, BufferModifiedP, SetBufferModifiedP, PointAt, PointMin, PointMax, BufferSize, BufferNarrowedP, GotoChar, CharAfter, BufferString, BufferSubstring, BufferSubstringNoProperties, Insert, InsertAndInherit, InsertBeforeMarkers, InsertBeforeMarkersAndInherit, InsertBufferSubstring, DeleteRegion, DeleteAndExtractRegion, EraseBuffer, NarrowToRegion, Widen, MakeMarker, PointMarker, CopyMarker, SetMarker, MarkerPosition, MarkerBuffer, MarkerInsertionType, SetMarkerInsertionType, GetTextProperty, TextPropertiesAt, PutTextProperty, AddTextProperties, RemoveTextProperties, SetTextProperties, NextPropertyChange, NextSinglePropertyChange, PreviousPropertyChange, PreviousSinglePropertyChange, TextPropertyAny, TextPropertyNotAll, MakeOverlay, OverlayStart, OverlayEnd, OverlayBuffer, OverlayPut, OverlayGet, OverlayProperties, MoveOverlay, DeleteOverlay, OverlaysAt, OverlaysIn, GetCharProperty, NextOverlayChange, PreviousOverlayChange, AddHook, RemoveHook, UndoBoundary, UndoStart, UndoMore, BufferUndoList, BufferDisableUndo, BufferEnableUndo, StartProcess, ProcessList, GetProcess, ProcessName, ProcessStatus, ProcessBuffer, ProcessMark, ProcessLiveP, ProcessExitStatus, ProcessFilter, ProcessSentinel, SetProcessFilter, SetProcessSentinel, SetProcessBuffer, ProcessSendString, ProcessSendEof, DeleteProcess, AcceptProcessOutput}
+use Rattle.editor_model.specs.Values.{Value, Nil, T, Int, Sym, Str, Items, Dotted, TheBuffer, TheMarker, TheOverlay, TheProcess, Answered, list, Prim, CurrentBuffer, SetBuffer, GetBuffer, GetBufferCreate, GenerateNewBuffer, RenameBuffer, KillBuffer, BufferLiveP, BufferName, BufferList, BufferModifiedP, SetBufferModifiedP, PointAt, PointMin, PointMax, BufferSize, BufferNarrowedP, GotoChar, CharAfter, BufferString, BufferSubstring, BufferSubstringNoProperties, Insert, InsertAndInherit, InsertBeforeMarkers, InsertBeforeMarkersAndInherit, InsertBufferSubstring, DeleteRegion, DeleteAndExtractRegion, EraseBuffer, NarrowToRegion, Widen, MakeMarker, PointMarker, CopyMarker, SetMarker, MarkerPosition, MarkerBuffer, MarkerInsertionType, SetMarkerInsertionType, GetTextProperty, TextPropertiesAt, PutTextProperty, AddTextProperties, RemoveTextProperties, SetTextProperties, NextPropertyChange, NextSinglePropertyChange, PreviousPropertyChange, PreviousSinglePropertyChange, TextPropertyAny, TextPropertyNotAll, MakeOverlay, OverlayStart, OverlayEnd, OverlayBuffer, OverlayPut, OverlayGet, OverlayProperties, MoveOverlay, DeleteOverlay, OverlaysAt, OverlaysIn, GetCharProperty, NextOverlayChange, PreviousOverlayChange, AddHook, RemoveHook, UndoBoundary, UndoStart, UndoMore, BufferUndoList, BufferDisableUndo, BufferEnableUndo, StartProcess, ProcessList, GetProcess, ProcessName, ProcessStatus, ProcessBuffer, ProcessMark, ProcessLiveP, ProcessExitStatus, ProcessFilter, ProcessSentinel, SetProcessFilter, SetProcessSentinel, SetProcessBuffer, ProcessSendString, ProcessSendEof, DeleteProcess, AcceptProcessOutput, SetProcessCodingSystem, ProcessCodingSystem, BufferReadOnlyP, SetBufferReadOnly}
 use Rattle.editor_model.specs.Prims.{ConcernsHandlers, manner_of}
 use Rattle.editor_model.specs.Arguments.{arg, name_of}
 use Rattle.plain_machine.specs.State.{State, Program, Process, process, change_process}
-use Rattle.plain_machine.specs.Arguments.{filter_of, sentinel_of, process_of}
-use Rattle.plain_machine.specs.Calls.{on, process_effect, with_filter, with_sentinel, of_buffer, process_buffer, told_of_one, told_of, get_process, process_value}
+use Rattle.plain_machine.specs.Arguments.{filter_of, sentinel_of, process_of, coding_of}
+use Rattle.plain_machine.specs.Calls.{on, process_effect, with_filter, with_sentinel, of_buffer, process_buffer, told_of_one, told_of, get_process, process_value, with_coding}
 use Rattle.plain_machine.specs.Items.{Item, MakeCall, GiveAnswer, Target}
 use Rattle.plain_machine.specs.Run.{stays, goes}
 use Rattle.process_table.specs.Table.{kept}
@@ -18,7 +18,7 @@ use Rattle.kernel_steps.specs.Processes.{IsSilent, told_by, set_by}
 use Rattle.kernel_steps.specs.Waits.{Passes}
 use Rattle.kernel_steps.specs.Work.{at_item, reply_item}
 use Rattle.kernel_steps.specs.Worlds.{World, Hosted, Keeps, kept_state}
-use Rattle.kernel_steps.proofs.Hosting.{IsMild, filter_mild, sentinel_mild, buffer_mild, changed_kept, changed_hosted, changed_length, changed_depth, changed_inhibited, changed_asked}
+use Rattle.kernel_steps.proofs.Hosting.{IsMild, filter_mild, sentinel_mild, buffer_mild, changed_kept, changed_hosted, changed_length, changed_depth, changed_inhibited, changed_asked, coding_mild}
 use Rattle.kernel_steps.proofs.KeptProcesses.{find_kept, process_of_kept, one_kept}
 use Rattle.kernel_steps.proofs.Waiting.{effect_step}
 use Rattle.kernel_steps.proofs.Works.{Went, went_silently}
@@ -37,6 +37,8 @@ silent_step program s target rest BufferName args h = refl
 silent_step program s target rest BufferList args h = refl
 silent_step program s target rest BufferModifiedP args h = refl
 silent_step program s target rest SetBufferModifiedP args h = refl
+silent_step program s target rest BufferReadOnlyP args h = refl
+silent_step program s target rest SetBufferReadOnly args h = refl
 silent_step program s target rest PointAt args h = refl
 silent_step program s target rest PointMin args h = refl
 silent_step program s target rest PointMax args h = refl
@@ -117,6 +119,8 @@ silent_step program s target rest ProcessSendString args h = absurd h
 silent_step program s target rest ProcessSendEof args h = absurd h
 silent_step program s target rest DeleteProcess args h = absurd h
 silent_step program s target rest AcceptProcessOutput args h = absurd h
+silent_step program s target rest SetProcessCodingSystem args h = refl
+silent_step program s target rest ProcessCodingSystem args h = refl
 
 -- WHAT THE PROGRAM KEEPS
 set_kept : (s : State) (v : Value) (change : Process → Process) → IsMild change → change_process (process_of (kept_state s) v) change (kept_state s) ≡ kept_state (change_process (process_of s v) change s)
@@ -135,6 +139,8 @@ set_by_kept BufferName args s = refl
 set_by_kept BufferList args s = refl
 set_by_kept BufferModifiedP args s = refl
 set_by_kept SetBufferModifiedP args s = refl
+set_by_kept BufferReadOnlyP args s = refl
+set_by_kept SetBufferReadOnly args s = refl
 set_by_kept PointAt args s = refl
 set_by_kept PointMin args s = refl
 set_by_kept PointMax args s = refl
@@ -211,10 +217,12 @@ set_by_kept ProcessSentinel args s = refl
 set_by_kept SetProcessFilter args s = set_kept s (arg args 0) (with_filter (filter_of (arg args 1))) (filter_mild (filter_of (arg args 1)))
 set_by_kept SetProcessSentinel args s = set_kept s (arg args 0) (with_sentinel (sentinel_of (arg args 1))) (sentinel_mild (sentinel_of (arg args 1)))
 set_by_kept SetProcessBuffer args s = set_kept s (arg args 0) (of_buffer (process_buffer s.editor (arg args 1))) (buffer_mild (process_buffer s.editor (arg args 1)))
+set_by_kept SetProcessCodingSystem args s = set_kept s (arg args 0) (with_coding (coding_of (arg args 1))) (coding_mild (coding_of (arg args 1)))
 set_by_kept ProcessSendString args s = refl
 set_by_kept ProcessSendEof args s = refl
 set_by_kept DeleteProcess args s = refl
 set_by_kept AcceptProcessOutput args s = refl
+set_by_kept ProcessCodingSystem args s = refl
 
 listed_if : (is_listed : Bool) (n : ℕ) (x y : Process) (more also : List (ℕ × Process)) → map (λ x. TheProcess x.0) more ≡ map (λ x. TheProcess x.0) also →
     map (λ x. TheProcess x.0) (if is_listed then (n, x) ∷ more else more) ≡ map (λ x. TheProcess x.0) (if is_listed then (n, y) ∷ also else also)
@@ -255,6 +263,8 @@ told_by_kept BufferName args s = one_told BufferName args s (λ x. refl)
 told_by_kept BufferList args s = one_told BufferList args s (λ x. refl)
 told_by_kept BufferModifiedP args s = one_told BufferModifiedP args s (λ x. refl)
 told_by_kept SetBufferModifiedP args s = one_told SetBufferModifiedP args s (λ x. refl)
+told_by_kept BufferReadOnlyP args s = one_told BufferReadOnlyP args s (λ x. refl)
+told_by_kept SetBufferReadOnly args s = one_told SetBufferReadOnly args s (λ x. refl)
 told_by_kept PointAt args s = one_told PointAt args s (λ x. refl)
 told_by_kept PointMin args s = one_told PointMin args s (λ x. refl)
 told_by_kept PointMax args s = one_told PointMax args s (λ x. refl)
@@ -335,6 +345,8 @@ told_by_kept ProcessSendString args s = one_told ProcessSendString args s (λ x.
 told_by_kept ProcessSendEof args s = one_told ProcessSendEof args s (λ x. refl)
 told_by_kept DeleteProcess args s = one_told DeleteProcess args s (λ x. refl)
 told_by_kept AcceptProcessOutput args s = one_told AcceptProcessOutput args s (λ x. refl)
+told_by_kept SetProcessCodingSystem args s = refl
+told_by_kept ProcessCodingSystem args s = one_told ProcessCodingSystem args s (λ x. refl)
 
 -- what it leaves
 pub record IsCalm (s t : State) (kills : List Bool) : Type 0 where
@@ -363,6 +375,8 @@ set_by_calm BufferName args s kills = calm_as s kills
 set_by_calm BufferList args s kills = calm_as s kills
 set_by_calm BufferModifiedP args s kills = calm_as s kills
 set_by_calm SetBufferModifiedP args s kills = calm_as s kills
+set_by_calm BufferReadOnlyP args s kills = calm_as s kills
+set_by_calm SetBufferReadOnly args s kills = calm_as s kills
 set_by_calm PointAt args s kills = calm_as s kills
 set_by_calm PointMin args s kills = calm_as s kills
 set_by_calm PointMax args s kills = calm_as s kills
@@ -439,10 +453,12 @@ set_by_calm ProcessSentinel args s kills = calm_as s kills
 set_by_calm SetProcessFilter args s kills = set_calm s (process_of s (arg args 0)) (with_filter (filter_of (arg args 1))) (filter_mild (filter_of (arg args 1))) kills
 set_by_calm SetProcessSentinel args s kills = set_calm s (process_of s (arg args 0)) (with_sentinel (sentinel_of (arg args 1))) (sentinel_mild (sentinel_of (arg args 1))) kills
 set_by_calm SetProcessBuffer args s kills = set_calm s (process_of s (arg args 0)) (of_buffer (process_buffer s.editor (arg args 1))) (buffer_mild (process_buffer s.editor (arg args 1))) kills
+set_by_calm SetProcessCodingSystem args s kills = set_calm s (process_of s (arg args 0)) (with_coding (coding_of (arg args 1))) (coding_mild (coding_of (arg args 1))) kills
 set_by_calm ProcessSendString args s kills = calm_as s kills
 set_by_calm ProcessSendEof args s kills = calm_as s kills
 set_by_calm DeleteProcess args s kills = calm_as s kills
 set_by_calm AcceptProcessOutput args s kills = calm_as s kills
+set_by_calm ProcessCodingSystem args s kills = calm_as s kills
 
 pub calm_keeps : (w : World) (known : State) → IsCalm w.state known w.kills → Hosted w.state.processes w.kills → Keeps w (record w { state = known })
 calm_keeps w known calm hosted = record { hosted = calm.hosted hosted; count = omega (arith, calm.size); depth = calm.depth; inhibited = calm.inhibited; asked = omega (arith, calm.asked) }
@@ -471,6 +487,8 @@ silent_other written.BufferName a b c d e f = tt
 silent_other written.BufferList a b c d e f = tt
 silent_other written.BufferModifiedP a b c d e f = tt
 silent_other written.SetBufferModifiedP a b c d e f = tt
+silent_other written.BufferReadOnlyP a b c d e f = tt
+silent_other written.SetBufferReadOnly a b c d e f = tt
 silent_other written.Point a b c d e f = tt
 silent_other written.PointMin a b c d e f = tt
 silent_other written.PointMax a b c d e f = tt
@@ -551,3 +569,5 @@ silent_other written.ProcessSendString a b c d e f = absurd (b refl)
 silent_other written.ProcessSendEof a b c d e f = absurd (c refl)
 silent_other written.DeleteProcess a b c d e f = absurd (e refl)
 silent_other written.AcceptProcessOutput a b c d e f = absurd (d refl)
+silent_other written.SetProcessCodingSystem a b c d e f = tt
+silent_other written.ProcessCodingSystem a b c d e f = tt

@@ -1,5 +1,5 @@
 -- Handlers as the code finds, enters and leaves them.
-use Rattle.std.specs.Prelude.{ℕ, ◌+◌, Bool, true, false, List, [], ◌∷◌, ◌++◌, map, Option, Some, None, unwrap_or, Result, Ok, Err}
+use Rattle.std.specs.Prelude.{ℕ, ◌+◌, Bool, true, false, List, [], ◌∷◌, ◌++◌, Option, Some, None, unwrap_or, Result, Ok, Err}
 use Rattle.editor_model.specs.Values.{Value, Nil, Prim, Reply}
 use Rattle.editor_model.specs.Answers.{Prepared, Nothing}
 use Rattle.editor_model.specs.TextCalls.{prepare_output}
@@ -9,13 +9,9 @@ use Rattle.plain_machine.specs.Lines.{Kind, OfFilter, OfSentinel, OfBefore, OfAf
 use Rattle.plain_machine.specs.Items.{Item, Body, Native, Called, Enter, Config}
 use Rattle.plain_machine.specs.Arguments.{handler_def, native_from}
 use Rattle.plain_machine.specs.Hooks.{set_hook_list, before_change_functions, after_change_functions}
-use Rattle.plain_machine.specs.Natives.{normal, is_callable}
 use Rattle.plain_machine.specs.Forms.{if_live, current, bracket}
 use Rattle.plain_machine.specs.State.{change_process, hooks_of}
 use Rattle.plain_machine.specs.Handling.{bound_params, in_scope, default_handler, native_call, unlisted, without_hooks_item, process_buffer_of, mark_of_process, plain_text, second, sentinel_words}
-use Rattle.ek_types.specs.Listing.{items_of}
-use Rattle.ek_call.specs.Meaning.{view}
-use Rattle.ek_call.specs.Primitives.{prim_of}
 use Rattle.kernel_steps.specs.Worlds.{World}
 use Rattle.kernel_steps.specs.Work.{Work, working, at_item, onwards, outwards}
 use Rattle.kernel_steps.specs.declared.kernel.Kind as declared

@@ -6,7 +6,7 @@ use Rattle.plain_machine.specs.State.{State, Program}
 use Rattle.plain_machine.specs.Items.{Said}
 use Rattle.plain_machine.specs.Run.{lines, start}
 use Rattle.plain_machine.specs.WholeRuns.{Ran, BrokenOff}
-use Rattle.machine_laws.specs.Entries.{entered, heard, is_entry, has_entry}
+use Rattle.machine_laws.specs.Entries.{entered, heard, coding_in, is_entry, has_entry}
 use Rattle.machine_laws.specs.UndoneRuns.{UndoReturnsBetween}
 use Rattle.ek_types.specs.Io.{SinkState}
 use Rattle.kernel_steps.specs.Outside.{deepest, CameTo}
@@ -14,10 +14,10 @@ use Rattle.kernel_steps.specs.Worlds.{Stands}
 use Rattle.kernel_steps.specs.Ending.{IsAnsweredKill}
 use Rattle.kernel_steps.specs.declared.stop.Stop.{Stop}
 
--- The filter of each process was entered with just what was read from its child, decoded. Process p is the one whose child
--- was started as number p, counted from 0.
-abbrev pub AreHeard : List Exchange → List Said → Type 0
-AreHeard exchanges said = (p child : ℕ) → slice_get (children_started exchanges) p ≡ Some child → entered p said ≡ heard child exchanges
+-- The filter of each process was entered with just what was read from its child, decoded as this state says. Process p is
+-- the one whose child was started as number p, counted from 0.
+abbrev pub AreHeard : State → List Exchange → List Said → Type 0
+AreHeard s exchanges said = (p child : ℕ) → slice_get (children_started exchanges) p ≡ Some child → entered p said ≡ heard (coding_in s p) child exchanges
 
 -- each process has at most one sentinel entry, and no filter entry behind it
 abbrev pub SentinelsComeLast : List Said → Type 0
@@ -33,7 +33,7 @@ UndoGivesBack program script exchanges =
 -- A run that came to its end. The sink hasn't failed where it had room for what was written.
 pub record RanScript (program : Program) (script : Script) (exchanges : List Exchange) (written : List ℕ) (before now : SinkState) : Type 0 where
   pub ran : Ran program deepest script exchanges written
-  pub entries : AreHeard exchanges ran.said
+  pub entries : AreHeard ran.last.state exchanges ran.said
   pub sentinels : SentinelsComeLast ran.said
   pub undo : UndoGivesBack program script exchanges
   pub roomy : length written ≤ before.room → now.faults ≡ before.faults
@@ -45,7 +45,7 @@ pub record StoppedScript (why : Stop) (program : Program) (script : Script) (exc
   pub broken : BrokenOff program deepest script exchanges written
   pub answered : All IsAnsweredKill broken.kills
   pub came : CameTo why program (start script) broken.made broken.said broken.last written
-  pub entries : AreHeard broken.made broken.said
+  pub entries : AreHeard broken.last.state broken.made broken.said
   pub sentinels : SentinelsComeLast broken.said
   pub undo : UndoGivesBack program script broken.made
   pub roomy : length (lines broken.said) ≤ before.room → now.faults ≡ before.faults

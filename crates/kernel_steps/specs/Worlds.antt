@@ -10,7 +10,7 @@ use Rattle.kernel_steps.specs.HostCalls.{CallsSince}
 use Rattle.kernel_steps.specs.Outside.{Outside, outside, unasked}
 
 -- STATES
--- A state as the program keeps it: of all bytes read from a process, what may still become a character.
+-- A state as the program keeps it: of all bytes read from a process, those that the next bytes may still change.
 abbrev pub kept_state : State → State
 kept_state s = record s { processes = map kept s.processes }
 

@@ -92,7 +92,12 @@ fn run_form<M: Kernel, P: Program, H: Host, K: Sink>(
             run_block(kernel, program, host, sink, Block::CurrentBuffer, forms)
         }
         Form::NoHooks(forms) => run_block(kernel, program, host, sink, Block::NoHooks, forms),
-        Form::WhenEq(a, b, forms) => run_when(kernel, program, host, sink, a, b, forms),
+        Form::ReadOnlyOff(forms) => {
+            run_block(kernel, program, host, sink, Block::ReadOnlyOff, forms)
+        }
+        Form::WhenEq(pair, forms) => {
+            run_when(kernel, program, host, sink, &pair.0, &pair.1, forms)
+        }
     }
 }
 

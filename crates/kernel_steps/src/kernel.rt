@@ -54,6 +54,7 @@ pub enum Block {
     Restriction,
     CurrentBuffer,
     NoHooks,
+    ReadOnlyOff,
 }
 
 /// What a block that is left has to restore. Kept places stand in the editor.
@@ -63,6 +64,7 @@ pub enum Kept {
     Restriction,
     Buffer(u32),
     Hooks(bool),
+    Lifting(bool),
 }
 
 /// How a call goes.

@@ -15,3 +15,5 @@ pub mod Replays
 pub mod Viewed
 pub mod SessionWords
 pub mod Gathering
+pub mod LinedRuns
+pub mod RecordedRuns

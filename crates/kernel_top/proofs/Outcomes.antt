@@ -191,7 +191,7 @@ pub session_reads_nothing : {H : Type 0} (hosted : H → HostState) (made : H �
 session_reads_nothing hosted made wanted answer start now sink sink' source of e =
     let row : OnSession wanted status.ReadFault of.written of.exchanges (seen source sink (hosted start)) (seen source sink' (hosted now)) =
     subst (λ a. OnSession wanted a of.written of.exchanges (seen source sink (hosted start)) (seen source sink' (hosted now))) e (of.so source source) in
-    row.text
+    row.gathered.text
 
 -- more bytes than a script may have are none
 pub too_long : (bytes : List ℕ) → longest_script < length bytes → IsNoScript bytes 0
@@ -341,12 +341,12 @@ module _ (program : Script → Program) (words : List (List ℕ)) (read written 
   session_row n status.NoMemory o w = λ wanted is unwritten. inr (inl refl)
   session_row n status.SessionFull o w = λ wanted is unwritten. inr (inr refl)
   session_row n status.WriteFault o w = λ wanted is unwritten. absurd (unwritten (w refl))
-  session_row n status.Usage o w = λ wanted is unwritten. absurd o.text
-  session_row n (status.Script line) o w = λ wanted is unwritten. absurd o.text
-  session_row n status.ReadFault o w = λ wanted is unwritten. absurd o.text
-  session_row n (status.Journal line) o w = λ wanted is unwritten. absurd o.text
-  session_row n status.JournalFull o w = λ wanted is unwritten. absurd o.text
-  session_row n (status.Strayed most) o w = λ wanted is unwritten. absurd o.text
+  session_row n status.Usage o w = λ wanted is unwritten. absurd o.gathered.text
+  session_row n (status.Script line) o w = λ wanted is unwritten. absurd o.gathered.text
+  session_row n status.ReadFault o w = λ wanted is unwritten. absurd o.gathered.text
+  session_row n (status.Journal line) o w = λ wanted is unwritten. absurd o.gathered.text
+  session_row n status.JournalFull o w = λ wanted is unwritten. absurd o.gathered.text
+  session_row n (status.Strayed most) o w = λ wanted is unwritten. absurd o.gathered.text
 
   -- where neither source nor sink failed, a script or a drill is run to its end, or memory was wanting
   pub completes : (result : Status) → Outcome program result words read written exchanges before now → (result ≡ status.ReadFault → Rose source.faults source'.faults) → (result ≡ status.WriteFault → Rose sink.faults sink'.faults) →

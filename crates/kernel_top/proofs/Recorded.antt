@@ -1,5 +1,5 @@
 -- What the word `record` comes to.
-use Rattle.std.proofs.Common.{◌≡◌, ℕ, List, [], ◌++◌, Some, None, inl, inr, refl, sym, ap, subst, ◌∙◌, option_map}
+use Rattle.std.proofs.Common.{◌≡◌, ℕ, List, [], ◌++◌, length, Some, None, inl, inr, refl, sym, ap, subst, ◌∙◌, option_map}
 use Rattle.std.specs.Prelude.{◌⊎◌}
 use Rattle.std.specs.declared.option.Option.{Option}
 use Rattle.editor_model.specs.Values.{Script}
@@ -9,6 +9,7 @@ use Rattle.plain_machine.specs.Grammar.{IsScript}
 use Rattle.ek_types.specs.Io.{SourceState, SinkState}
 use Rattle.host_link.specs.Hosts.{HostState}
 use Rattle.journal_text.specs.Lines.{session}
+use Rattle.journal_text.specs.Allowed.{AreLines}
 use Rattle.kernel_steps.specs.HostCalls.{CallsSince}
 use Rattle.kernel_steps.proofs.HostCalls.{calls_told}
 use Rattle.kernel_top.specs.Reading.{HasEnded}
@@ -50,15 +51,15 @@ module _ (program : Script → Program) (script : Script) where
 
   -- the run came to its end, and this became of its session
   pub recorded : (read written : List ℕ) (exchanges : List Exchange) (before now : Seen) (answer : Status) →
-      HasEnded before.source.left now.source.left → IsScript read script → IsWhole (program script) script exchanges → Written answer (session exchanges read) written before.sink now.sink →
+      HasEnded before.source.left now.source.left → IsScript read script → IsWhole (program script) script exchanges → AreLines (length before.host.kills) exchanges → Written answer (session exchanges read) written before.sink now.sink →
       OnRecord program answer read written exchanges before now
-  recorded read written exchanges before now status.Done ended is whole row = record { ended = ended; script = script; is = is; so = record { whole = whole; session = row } }
-  recorded read written exchanges before now status.WriteFault ended is whole row = record { ended = ended; script = script; is = is; so = record { whole = whole; session = row } }
-  recorded read written exchanges before now status.JournalFull ended is whole row = record { ended = ended; script = script; is = is; so = record { whole = whole; session = row } }
-  recorded read written exchanges before now (status.Journal line) ended is whole row = absurd row
-  recorded read written exchanges before now (status.Strayed most) ended is whole row = absurd row
-  recorded read written exchanges before now status.SessionFull ended is whole row = absurd row
-  recorded read written exchanges before now status.Usage ended is whole row = absurd row
-  recorded read written exchanges before now (status.Script line) ended is whole row = absurd row
-  recorded read written exchanges before now status.ReadFault ended is whole row = absurd row
-  recorded read written exchanges before now status.NoMemory ended is whole row = absurd row
+  recorded read written exchanges before now status.Done ended is whole lines row = record { ended = ended; script = script; is = is; so = record { whole = whole; lines = lines; session = row } }
+  recorded read written exchanges before now status.WriteFault ended is whole lines row = record { ended = ended; script = script; is = is; so = record { whole = whole; lines = lines; session = row } }
+  recorded read written exchanges before now status.JournalFull ended is whole lines row = record { ended = ended; script = script; is = is; so = record { whole = whole; lines = lines; session = row } }
+  recorded read written exchanges before now (status.Journal line) ended is whole lines row = absurd row
+  recorded read written exchanges before now (status.Strayed most) ended is whole lines row = absurd row
+  recorded read written exchanges before now status.SessionFull ended is whole lines row = absurd row
+  recorded read written exchanges before now status.Usage ended is whole lines row = absurd row
+  recorded read written exchanges before now (status.Script line) ended is whole lines row = absurd row
+  recorded read written exchanges before now status.ReadFault ended is whole lines row = absurd row
+  recorded read written exchanges before now status.NoMemory ended is whole lines row = absurd row

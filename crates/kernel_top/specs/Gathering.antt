@@ -1,17 +1,17 @@
 -- What a line session comes to: its script is run with its two natives and its lines thrown away, and the text of the buffer
 -- `*session*` is written.
 use Rattle.std.specs.Prelude.{◌≡◌, ℕ, ◌<◌, ◌≤◌, Bool, true, false, List, [], length, map, flat_map, codes, unwrap_or, option_map, if◌then◌else◌, Result, Ok, Err}
-use Rattle.std.specs.List.{list_any}
-use Rattle.text_model.specs.Characters.{Scalar, encoded}
+use Rattle.text_model.specs.Characters.{Ch, Scalar, encoded}
 use Rattle.text_model.specs.Properties.{Cell}
 use Rattle.editor_model.specs.Values.{Value, Script}
 use Rattle.editor_model.specs.Editor.{Editor, Name, find, buffer_at}
 use Rattle.plain_machine.specs.Exchanges.{Exchange}
-use Rattle.plain_machine.specs.State.{State, Program, Process, Filter, Off}
+use Rattle.plain_machine.specs.State.{State, Program}
 use Rattle.plain_machine.specs.Symbols.{program_of}
 use Rattle.ek_types.specs.Io.{SinkState, IsPrefixOf}
 use Rattle.line_session.specs.Handlers.{session_names, session_does}
 use Rattle.line_session.specs.Script.{command_of, session_script}
+use Rattle.session_laws.specs.Sessions.{is_full, TextBy}
 use Rattle.kernel_steps.specs.Worlds.{Stands}
 use Rattle.kernel_top.specs.SessionWords.{Wanted}
 use Rattle.kernel_top.specs.Unseen.{IsWhole, IsBrokenOff}
@@ -46,18 +46,7 @@ session_buffer = map Scalar (codes "*session*")
 abbrev pub gathered : Editor → List ℕ
 gathered e = unwrap_or (option_map (λ id. text_bytes (buffer_at e id).text) (find e session_buffer)) []
 
--- a process whose filter is t
-abbrev pub is_off : Filter → Bool
-is_off Off = true
-is_off _ = false
-
-abbrev pub is_stopped : Process → Bool
-is_stopped x = is_off x.filter
-
--- a native of the session stops its process where the buffer became full
-abbrev pub is_full : State → Bool
-is_full s = list_any is_stopped s.processes
-
+-- by whether the buffer became full
 abbrev pub gathered_status : {T E : Type 0} → (full : Bool) → Result T E → Status
 gathered_status full (Ok x) = if full then status.SessionFull else status.Done
 gathered_status full (Err e) = status.WriteFault
@@ -84,3 +73,15 @@ Gathered _ last written before now = ⊥
 pub record Gathers (answer : Status) (program : Program) (script : Script) (written : List ℕ) (exchanges : List Exchange) (before now : SinkState) : Type 0 where
   pub whole : IsWhole program script exchanges
   pub text : Gathered answer whole.ran.last.state written before now
+
+-- THE LINES
+-- the bytes of a text that is all lines of these exchanges, or lacks what came last
+abbrev pub BytesBy : (full : Bool) → List Exchange → (bytes : List ℕ) → Type 0
+BytesBy full exchanges bytes = (text : List Ch) × TextBy full exchanges text × (bytes ≡ flat_map encoded text)
+
+-- what is written, by the exchanges: all lines, or those but for what found no room, or a front of either
+abbrev pub Lined : Status → (written : List ℕ) → List Exchange → Type 0
+Lined status.Done written exchanges = BytesBy false exchanges written
+Lined status.SessionFull written exchanges = BytesBy true exchanges written
+Lined status.WriteFault written exchanges = (full : Bool) × (bytes : List ℕ) × BytesBy full exchanges bytes × IsPrefixOf written bytes
+Lined _ written exchanges = Unit {0}

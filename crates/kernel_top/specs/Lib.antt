@@ -6,10 +6,10 @@ pub mod HandingOn
 pub mod DrillForms
 pub mod DrillHost
 pub mod Drills
-pub mod NullSinks
 pub mod Unseen
 pub mod Sessions
 pub mod Replaying
 pub mod Viewing
 pub mod Gathering
 pub mod Outcomes
+pub mod RecordedRuns

@@ -8,6 +8,7 @@ use Rattle.plain_machine.specs.Grammar.{longest_script, IsScript, IsFaultLine}
 use Rattle.plain_machine.specs.Drill.{drill_script}
 use Rattle.ek_types.specs.Io.{SourceState, SinkState, Rose, IsPrefixOf}
 use Rattle.host_link.specs.Hosts.{HostState}
+use Rattle.session_laws.specs.Sessions.{StartsInTurn}
 use Rattle.kernel_steps.specs.HostCalls.{CallsSince, Tells}
 use Rattle.kernel_steps.specs.Outcomes.{RanScript, StoppedScript}
 use Rattle.kernel_steps.specs.declared.stop.Stop.{Stop}
@@ -19,7 +20,7 @@ use Rattle.kernel_top.specs.Drills.{SumsUp, BreaksOff}
 use Rattle.kernel_top.specs.Sessions.{longest_session, Records, BreaksOffUnseen}
 use Rattle.kernel_top.specs.Replaying.{ReadAndReplayed}
 use Rattle.kernel_top.specs.Viewing.{Viewed}
-use Rattle.kernel_top.specs.Gathering.{script_wanted, program_wanted, Gathers}
+use Rattle.kernel_top.specs.Gathering.{script_wanted, program_wanted, Gathers, Lined}
 use Rattle.kernel_top.specs.declared.status.Status.{Status}
 use Rattle.kernel_top.specs.declared.status.Status.TheVariants as status
 
@@ -87,7 +88,7 @@ OnRecord program status.ReadFault read written exchanges before now = IsQuiet wr
 OnRecord program status.NoMemory read written exchanges before now =
     IsQuiet written exchanges before now ⊎ OfScript read before now (λ script. BreaksOffUnseen (program script) script written exchanges before.sink now.sink)
 OnRecord program answer read written exchanges before now =
-    OfScript read before now (λ script. Records answer (program script) script read written exchanges before.sink now.sink)
+    OfScript read before now (λ script. Records answer (program script) script read written exchanges before.host.kills before.sink now.sink)
 
 -- the word `replay`: the host is asked nothing
 abbrev pub OnReplay : (Script → Program) → Status → (read written : List ℕ) → List Exchange → (before now : Seen) → Type 0
@@ -129,9 +130,12 @@ OnGathering program script status.NoMemory written exchanges before now =
     IsQuiet written exchanges before now ⊎ BreaksOffUnseen program script written exchanges before.sink now.sink
 OnGathering program script answer written exchanges before now = Gathers answer program script written exchanges before.sink now.sink
 
--- the words `session`, a number, a program and its words
-abbrev pub OnSession : Wanted → Status → (written : List ℕ) → List Exchange → (before now : Seen) → Type 0
-OnSession wanted answer written exchanges before now = OnGathering (program_wanted wanted) (script_wanted wanted) answer written exchanges before now
+-- The words `session`, a number, a program and its words: besides, what is written are the lines of the exchanges, and the child was
+-- started again at most so often, each time behind an end otherwise than by code 0.
+pub record OnSession (wanted : Wanted) (answer : Status) (written : List ℕ) (exchanges : List Exchange) (before now : Seen) : Type 0 where
+  pub gathered : OnGathering (program_wanted wanted) (script_wanted wanted) answer written exchanges before now
+  pub lined : Lined answer written exchanges
+  pub starts : StartsInTurn wanted.limit exchanges
 
 -- other words
 abbrev pub OnOthers : Status → (written : List ℕ) → List Exchange → (before now : Seen) → Type 0

@@ -5,6 +5,7 @@ use Rattle.plain_machine.specs.Exchanges.{Exchange}
 use Rattle.plain_machine.specs.State.{Program}
 use Rattle.ek_types.specs.Io.{SinkState, IsPrefixOf}
 use Rattle.journal_text.specs.Lines.{session}
+use Rattle.journal_text.specs.Allowed.{AreLines}
 use Rattle.kernel_top.specs.Unseen.{IsWhole, IsBrokenOff}
 use Rattle.kernel_top.specs.declared.status.Status.{Status}
 use Rattle.kernel_top.specs.declared.status.Status.TheVariants as status
@@ -41,9 +42,11 @@ Written status.WriteFault bytes written before now = IsCut bytes written before
 Written status.JournalFull bytes written before now = IsTooLong bytes written before now
 Written _ bytes written before now = ⊥
 
--- the script was run to its end over just these exchanges, and this became of its session
-pub record Records (answer : Status) (program : Program) (script : Script) (read written : List ℕ) (exchanges : List Exchange) (before now : SinkState) : Type 0 where
+-- The script was run to its end over just these exchanges, and this became of its session. Each exchange has a line, and children are
+-- numbered in order behind those that were started before.
+pub record Records (answer : Status) (program : Program) (script : Script) (read written : List ℕ) (exchanges : List Exchange) (children : List Bool) (before now : SinkState) : Type 0 where
   pub whole : IsWhole program script exchanges
+  pub lines : AreLines (length children) exchanges
   pub session : Written answer (session exchanges read) written before now
 
 -- the run of the script was broken off for want of memory, and nothing was written

@@ -15,23 +15,23 @@ use ek_types::{Chars, ListOf, Mem, Piece, Sym, SymList, Symbols};
 use std::alloc::Global;
 
 // Its names, numbered behind those that every script has.
-const F: Sym = Sym(14);
+const F: Sym = Sym(17);
 
-const P: Sym = Sym(15);
+const P: Sym = Sym(18);
 
-const S: Sym = Sym(16);
+const S: Sym = Sym(19);
 
-const B: Sym = Sym(17);
+const B: Sym = Sym(20);
 
-const M: Sym = Sym(18);
+const M: Sym = Sym(21);
 
-const E: Sym = Sym(19);
+const E: Sym = Sym(22);
 
-const N: Sym = Sym(20);
+const N: Sym = Sym(23);
 
-const OUT: Sym = Sym(21);
+const OUT: Sym = Sym(24);
 
-const G: Sym = Sym(22);
+const G: Sym = Sym(25);
 
 /// An argument of its calls but strings.
 #[derive(Clone, Copy, Debug, PartialEq, Eq)]

@@ -6,7 +6,7 @@ mod counting;
 mod drill_child;
 mod drill_script;
 mod drilling;
-mod null_sink;
+mod laws;
 mod reading;
 mod recording;
 mod replaying;
@@ -20,7 +20,7 @@ mod viewing;
 mod words;
 
 pub use drilling::drill;
-pub use null_sink::NullSink;
+pub use laws::a_recorded_run_is_replayed;
 pub use status::Status;
 pub use top::run;
 pub use words::drill_of;

@@ -1,10 +1,15 @@
 //! The word `record`: a script is run with its lines thrown away, and its session is written.
-ghost use Rattle.std.specs.Prelude.{◌≡◌, ◌≢◌, ◌^◌, ◌≤◌, ℕ, List, [], length, Some, IsTrue};
+ghost use Rattle.std.specs.Prelude.{◌≡◌, ◌≢◌, ◌^◌, ◌≤◌, ℕ, List, [], length, Some, IsTrue, OnOk};
 ghost use Rattle.std.specs.Io.KnownBytes.{Appends};
+ghost use Rattle.plain_machine.specs.Exchanges.{Exchange};
 ghost use Rattle.ek_types.specs.Io.{HasCause, Writes};
+ghost use Rattle.ek_call.specs.Meaning.{script_of};
 ghost use Rattle.host_link.specs.Meaning.{exchanges_of};
 ghost use Rattle.journal_text.specs.Lines.{session};
+ghost use Rattle.journal_text.specs.Allowed.{AreLines};
+ghost use Rattle.kernel_steps.specs.HostCalls.{CallsSince};
 ghost use Rattle.kernel_run.specs.Whole.{program_with};
+ghost use Rattle.kernel_top.specs.Unseen.{RanUnseen};
 ghost use Rattle.kernel_top.specs.Words.{IsRecord};
 ghost use Rattle.kernel_top.specs.Sessions.{fits, Written};
 ghost use Rattle.kernel_top.specs.Outcomes.{Came, CameSo, OfBytes, OnRecord};
@@ -13,10 +18,11 @@ use crate::counting::CountingSink;
 use crate::reading::{Refused, read_all};
 use crate::status::{Status, written_status};
 use crate::unseen::run_unseen;
-use ek_types::{Sink, SinkFault, Source, put};
+use ek_call::Script;
+use ek_types::{Mem, Sink, SinkFault, Source, put};
 use handler_code::Natives;
 use host_link::{Exchanges, Host};
-use journal_text::{LONGEST_SESSION, write_journal};
+use journal_text::{LONGEST_SESSION, LinedHost, write_journal};
 use script_read::{LONGEST_SCRIPT, ScriptFault, read};
 use std::alloc::Global;
 
@@ -53,6 +59,22 @@ fn write_session<K: Sink>(list: &Exchanges, script: &[u8], sink: &mut K) -> Stat
     }
 }
 
+/// Runs the script with its lines thrown away. Each exchange of a whole run has a line.
+fn run_lined<H: Host, N: Natives>(
+    alloc: Global,
+    script: &Script,
+    host: &mut H,
+    natives: &N,
+) -> Mem<()>
+    requires { length (H.state host.old).kills ≤ 2 ^ 31 }
+    ensures { (exchanges : List Exchange) × CallsSince H.state H.made host.old host.new exchanges
+        × RanUnseen result (program_with N.names N.does (script_of script.now) natives.now) (script_of script.now)
+        exchanges × OnOk result (AreLines (length (H.state host.old).kills) exchanges) }
+{
+    let mut lined = LinedHost::new(host);
+    run_unseen(alloc, script, &mut lined, natives)
+}
+
 /// Reads the script that some bytes are, runs it, and writes its session.
 fn record_bytes<K: Sink, H: Host, N: Natives>(
     alloc: Global,
@@ -75,7 +97,7 @@ fn record_bytes<K: Sink, H: Host, N: Natives>(
         Err(ScriptFault::Line(line)) => return Status::Script(line),
         Err(ScriptFault::NoMemory) => return Status::NoMemory,
     };
-    let ran = run_unseen(alloc, &script, host, natives);
+    let ran = run_lined(alloc, &script, host, natives);
     let Ok(()) = ran else {
         return Status::NoMemory;
     };

@@ -15,15 +15,15 @@ ghost use Rattle.kernel_steps.specs.Worlds.{Stands};
 ghost use Rattle.kernel_run.specs.Meaning.{state_of};
 ghost use Rattle.kernel_run.specs.Whole.{program_with};
 ghost use Rattle.kernel_top.specs.Gathering.{session_buffer, text_bytes, gathered};
-ghost use Rattle.kernel_top.specs.Gathering.{is_stopped, gathered_status, RanOn, Gathered};
+ghost use Rattle.session_laws.specs.Sessions.{is_stopped};
+ghost use Rattle.kernel_top.specs.Gathering.{gathered_status, RanOn, Gathered};
 ghost use Rattle.kernel_top.specs.Outcomes.{CameSo, OnGathering, OnSession};
 
-use crate::null_sink::NullSink;
 use crate::session_words::Wanted;
 use crate::status::Status;
 use buffer_table::{BufferText, Editor};
 use ek_call::Script;
-use ek_types::{Ch, Chars, Mem, NoMemory, Sink, SinkFault};
+use ek_types::{Ch, Chars, Mem, NoMemory, NullSink, Sink, SinkFault};
 use handler_code::Natives;
 use host_link::Host;
 use kernel_run::Kernel;

@@ -125,7 +125,7 @@ fn run_drill<K: Sink, H: Host, N: Natives>(
 /// What `view` writes is what is seen in that run's last state; where memory is wanting, it is nothing.
 /// The line of a drill is the summary of the plain machine's whole run on the drill's script, over just the exchanges
 /// made. Of a session no more than 268,435,456 bytes are written, and none where it is longer. For `record` the host
-/// tells its exchanges, and has told none yet. A session is replayed only where the run of its script ends with all
+/// tells its exchanges, and has told none yet; each exchange of a recorded run has a line. A session is replayed only where the run of its script ends with all
 /// exchanges of its journal used up; else `Strayed` tells how many of the first ones the machine goes through. The text of a
 /// line session is that of the buffer `*session*` in the machine's last state. It became full exactly where a process there
 /// isn't read any more.

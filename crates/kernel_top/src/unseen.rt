@@ -6,9 +6,8 @@ ghost use Rattle.kernel_steps.specs.HostCalls.{CallsSince};
 ghost use Rattle.kernel_run.specs.Whole.{program_with};
 ghost use Rattle.kernel_top.specs.Unseen.{RanUnseen};
 
-use crate::null_sink::NullSink;
 use ek_call::Script;
-use ek_types::{Mem, NoMemory};
+use ek_types::{Mem, NoMemory, NullSink};
 use handler_code::Natives;
 use host_link::Host;
 use kernel_run::Kernel;

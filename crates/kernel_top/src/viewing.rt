@@ -14,12 +14,11 @@ ghost use Rattle.kernel_top.specs.Words.{IsView};
 ghost use Rattle.kernel_top.specs.Viewing.{view_of, Viewed, viewed_status};
 ghost use Rattle.kernel_top.specs.Outcomes.{Came, CameSo, OfBytes, OnView};
 
-use crate::null_sink::NullSink;
 use crate::reading::{Refused, read_all};
 use crate::status::Status;
 use buffer_table::Editor;
 use ek_call::Script;
-use ek_types::{Sink, Source};
+use ek_types::{NullSink, Sink, Source};
 use final_view::{ViewFault, view};
 use handler_code::Natives;
 use host_link::Host;

@@ -3,7 +3,7 @@
 use crate::checking::is;
 use ek_types::{Mem, PropSet, PropVal, Sym, SymList};
 use std::alloc::Global;
-use stickiness::inherited;
+use stickiness::{inherited, inherits};
 
 const FRONT_STICKY: Sym = Sym(0);
 
@@ -69,6 +69,10 @@ fn the_preceding_value_is_taken_where_both_offer_one(rt: HostRuntime) {
     is(&rt, set.len(), 2);
     is(&rt, symbol(&set, FACE), 30);
     is(&rt, symbol(&set, MOUSE_FACE), 31);
+    is(&rt, inherits(Some(&before), Some(&after), MOUSE_FACE), true);
+    is(&rt, inherits(Some(&before), None, MOUSE_FACE), false);
+    is(&rt, inherits(None, Some(&after), FRONT_STICKY), false);
+    is(&rt, inherits(Some(&after), Some(&before), FACE), true);
 }
 
 #[test]

@@ -17,16 +17,16 @@ fn number(rt: &impl Abort, symbols: &mut Symbols, name: &str) -> u32 {
 #[test]
 fn numbers_for_the_names_of_a_script(rt: HostRuntime) {
     let mut symbols = Symbols::new(rt.alloc()).expect(&rt, "memory");
-    is(&rt, symbols.count(), 14);
-    is(&rt, number(&rt, &mut symbols, "h"), 14);
-    is(&rt, number(&rt, &mut symbols, "b"), 15);
-    is(&rt, number(&rt, &mut symbols, "e"), 16);
+    is(&rt, symbols.count(), 17);
+    is(&rt, number(&rt, &mut symbols, "h"), 17);
+    is(&rt, number(&rt, &mut symbols, "b"), 18);
+    is(&rt, number(&rt, &mut symbols, "e"), 19);
     is(&rt, number(&rt, &mut symbols, "before-change-functions"), 4);
-    is(&rt, number(&rt, &mut symbols, "h"), 14);
-    is(&rt, number(&rt, &mut symbols, "m"), 17);
+    is(&rt, number(&rt, &mut symbols, "h"), 17);
+    is(&rt, number(&rt, &mut symbols, "m"), 20);
     let copy = symbols.copy().expect(&rt, "memory");
-    is(&rt, copy.count(), 18);
-    is(&rt, copy.find("e"), Some(Sym(16)));
+    is(&rt, copy.count(), 21);
+    is(&rt, copy.find("e"), Some(Sym(19)));
     is(&rt, copy.find("insert"), None);
 }
 
@@ -48,6 +48,9 @@ fn the_names_that_have_a_number_in_every_script(rt: HostRuntime) {
         "invisible",
         "before-string",
         "after-string",
+        "utf-8-unix",
+        "utf-8-dos",
+        "latin-1-unix",
     ];
     for (i, name) in names.iter().enumerate() {
         is(&rt, symbols.find(name), Some(Sym(i as u32)));

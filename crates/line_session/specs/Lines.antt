@@ -2,6 +2,7 @@
 use Rattle.std.specs.Prelude.{ℕ, Bool, false, ◌&&◌, not, ◌==◌, List, [], ◌∷◌, ◌++◌, flat_map, if◌then◌else◌}
 use Rattle.std.specs.List.{list_any}
 use Rattle.text_model.specs.Characters.{Ch, Scalar}
+use Rattle.text_model.specs.Codings.{Utf8}
 use Rattle.text_model.specs.Properties.{same_ch}
 use Rattle.plain_machine.specs.Exchanges.{Ask, AskEnd, Answer, Code, Signal, Failed, Exchange, children_started}
 use Rattle.machine_laws.specs.Entries.{heard}
@@ -24,7 +25,7 @@ is_open (c ∷ d ∷ text) = is_open (d ∷ text)
 
 -- what was heard of a child, its last line closed where the child has ended
 abbrev pub closed : (child : ℕ) → List Exchange → List Ch
-closed child exchanges = heard child exchanges ++ (if has_ended child exchanges && is_open (heard child exchanges) then Scalar 10 ∷ [] else [])
+closed child exchanges = heard Utf8 child exchanges ++ (if has_ended child exchanges && is_open (heard Utf8 child exchanges) then Scalar 10 ∷ [] else [])
 
 -- of all children, in the order of their starts
 abbrev pub session_lines : List Exchange → List Ch

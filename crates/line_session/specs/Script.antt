@@ -16,13 +16,13 @@ command_of program args = ascii (codes "session") ∷ ascii (codes "*session*") 
 
 -- its names, numbered behind the first symbols: p, session-filter, session-sentinel
 abbrev pub p : ℕ
-p = 14
+p = 17
 
 abbrev pub filter_name : ℕ
-filter_name = 15
+filter_name = 18
 
 abbrev pub sentinel_name : ℕ
-sentinel_name = 16
+sentinel_name = 19
 
 abbrev pub session_symbols : List (List ℕ)
 session_symbols = first_symbols ++ codes "p" ∷ codes "session-filter" ∷ codes "session-sentinel" ∷ []

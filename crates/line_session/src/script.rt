@@ -15,11 +15,11 @@ use ek_types::{Copied, ListOf, Mem, Sym, Symbols};
 use std::alloc::Global;
 
 // Its names, numbered behind those that every script has.
-const P: Sym = Sym(14);
+const P: Sym = Sym(17);
 
-const FILTER: Sym = Sym(15);
+const FILTER: Sym = Sym(18);
 
-const SENTINEL: Sym = Sym(16);
+const SENTINEL: Sym = Sym(19);
 
 /// How often the script waits.
 const WAITS: usize = 65_536;

@@ -42,8 +42,8 @@ fn looked(alloc: Global, count: usize, last: i64) -> Mem<Replies> {
 fn started(past: &mut Replies, count: usize) -> Mem<()> {
     for call in 0..count {
         let value = match call {
-            0 => Value::Sym(Sym(15)),
-            1 => Value::Sym(Sym(16)),
+            0 => Value::Sym(Sym(18)),
+            1 => Value::Sym(Sym(19)),
             2 => Value::Process(9),
             _ => Value::T,
         };
@@ -217,9 +217,9 @@ fn a_child_that_ended_otherwise_is_started_again(rt: HostRuntime) -> Result<(), 
     );
     assert_eq!(rt;
         restarting(alloc, 10, 3)?,
-        asked(Primitive::SetProcessFilter, 9, 15)
+        asked(Primitive::SetProcessFilter, 9, 18)
     );
-    assert_eq!(rt; restarting(alloc, 10, 4)?, asked(set, 9, 16));
+    assert_eq!(rt; restarting(alloc, 10, 4)?, asked(set, 9, 19));
     assert_eq!(rt; restarting(alloc, 10, 5)?, None);
     assert_eq!(rt;
         restarting(alloc, 98, 0)?,
@@ -288,8 +288,8 @@ fn outline(form: &Form) -> Option<(Primitive, usize)> {
 fn the_script_starts_the_child_and_waits(rt: HostRuntime) -> Result<(), Fail> {
     let script = session(rt.alloc(), 2)?.script()?;
     let forms = script.forms.as_slice();
-    assert_eq!(rt; script.symbols.count(), 17);
-    assert!(rt; script.symbols.find("session-sentinel") == Some(Sym(16)));
+    assert_eq!(rt; script.symbols.count(), 20);
+    assert!(rt; script.symbols.find("session-sentinel") == Some(Sym(19)));
     assert_eq!(rt; script.handlers.len(), 0);
     assert_eq!(rt; forms.len(), 65_539);
     assert_eq!(rt; outline(&forms[0]), Some((Primitive::StartProcess, 4)));

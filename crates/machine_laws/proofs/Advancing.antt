@@ -12,7 +12,7 @@ use Rattle.machine_laws.specs.Fits.{SpotFits, MarkersFit, MarksFit, GoodSite, Sp
 use Rattle.machine_laws.specs.Brackets.{shapes}
 use Rattle.machine_laws.proofs.OneBuffer.{passes_self}
 use Rattle.machine_laws.proofs.Sites.{SiteStep, site_after}
-use Rattle.editor_model.specs.Editor.{Editor, Live, live, buffer_at, empty_buffer, change_site, with_buffer, renamed, named_as, killed, live_from, Name}
+use Rattle.editor_model.specs.Editor.{Editor, Live, live, buffer_at, empty_buffer, change_site, with_buffer, new_live, renamed, named_as, killed, live_from, Name}
 use Rattle.machine_laws.proofs.GoodEditor.{GoodEditor, Advances, Passes}
 use Rattle.machine_laws.proofs.Basics.{get_new, set_length}
 
@@ -251,13 +251,13 @@ empty_good id marks f = record {
 }
 
 pub with_buffer_old : (name : Name) (e : Editor) (id : ℕ) → id < length e.buffers → live (with_buffer name e) id ≡ live e id
-with_buffer_old name e id h = ap (λ o. unwrap_or o None) (get_front e.buffers (Some (record { name = name; buffer = empty_buffer }) ∷ []) id h)
+with_buffer_old name e id h = ap (λ o. unwrap_or o None) (get_front e.buffers (Some (new_live name) ∷ []) id h)
 
-pub with_buffer_new : (name : Name) (e : Editor) → live (with_buffer name e) (length e.buffers) ≡ Some (record { name = name; buffer = empty_buffer })
-with_buffer_new name e = ap (λ o. unwrap_or o None) (get_new e.buffers (Some (record { name = name; buffer = empty_buffer })))
+pub with_buffer_new : (name : Name) (e : Editor) → live (with_buffer name e) (length e.buffers) ≡ Some (new_live name)
+with_buffer_new name e = ap (λ o. unwrap_or o None) (get_new e.buffers (Some (new_live name)))
 
 pub with_buffer_longer : (name : Name) (e : Editor) → length (with_buffer name e).buffers ≡ length e.buffers + 1
-with_buffer_longer name e = length-append e.buffers (Some (record { name = name; buffer = empty_buffer }) ∷ [])
+with_buffer_longer name e = length-append e.buffers (Some (new_live name) ∷ [])
 
 with_buffer_good : (name : Name) (e : Editor) → GoodEditor e → GoodEditor (with_buffer name e)
 with_buffer_good name e g = record {
@@ -267,7 +267,7 @@ with_buffer_good name e g = record {
   where
     each : (id : ℕ) (l : Live) → live (with_buffer name e) id ≡ Some l → (id ≡ length e.buffers) ⊎ ((id < length e.buffers) ⊎ (length e.buffers < id)) → GoodSite id (record { buffer = l.buffer; marks = e.marks })
     each id l h (inl q) =
-        let x : record { name = name; buffer = empty_buffer } ≡ l = same_Some _ l (sym (with_buffer_new name e) ∙ ap (live (with_buffer name e)) (sym q) ∙ h) in
+        let x : new_live name ≡ l = same_Some _ l (sym (with_buffer_new name e) ∙ ap (live (with_buffer name e)) (sym q) ∙ h) in
         subst (λ y. GoodSite id (record { buffer = y.buffer; marks = e.marks })) x (empty_good id e.marks (g.unborn id (omega arith)))
     each id l h (inr (inl q)) = g.each id l (sym (with_buffer_old name e id q) ∙ h)
     each id l h (inr (inr q)) =

@@ -3,9 +3,10 @@ use Rattle.std.proofs.Common.{◌≡◌, ℕ, zero, suc, ◌+◌, ◌<◌, ◌�
 use Rattle.std.proofs.lemmas.List.{append-nil, map-append, length-map}
 use Rattle.std.proofs.lemmas.List.Folds.{list_any-append}
 use Rattle.std.proofs.lemmas.Grind.{flat_map-append}
-use Rattle.std.specs.Prelude.{Option, Some, ◌==◌, not, ◌||◌, nat_lt, drop, filter, slice_get, slice_set, if◌then◌else◌}
+use Rattle.std.specs.Prelude.{Option, Some, None, ◌==◌, not, ◌||◌, nat_lt, drop, filter, slice_get, slice_set, if◌then◌else◌}
 use Rattle.std.proofs.lemmas.Option.{slice_get_within}
 use Rattle.std.proofs.lemmas.Bool.{ltb-true}
+use Rattle.text_model.specs.Codings.{Coding, Utf8}
 use Rattle.text_model.specs.Properties.{insert_name}
 use Rattle.editor_model.specs.Values.{Script}
 use Rattle.plain_machine.specs.Exchanges.{Ask, Read, Answer, Started, End, Failed, Exchange, goes_by, gone, started_by, children_started, rising}
@@ -15,12 +16,12 @@ use Rattle.plain_machine.specs.Lines.{OfFilter}
 use Rattle.plain_machine.specs.Items.{Item, Finish, WriteDump, Said, Config, Next, Goes, Asks, Enter, Ended}
 use Rattle.plain_machine.specs.Step.{step}
 use Rattle.plain_machine.specs.Run.{start}
-use Rattle.machine_laws.specs.Entries.{entered, heard, EntriesOfChildren, RanEntries, BrokenEntries}
+use Rattle.machine_laws.specs.Entries.{entered, heard, coding_in, EntriesOfChildren, RanEntries, BrokenEntries}
 use Rattle.machine_laws.specs.Children.{to_kill, KillsLeft}
 use Rattle.plain_machine.specs.WholeRuns.{IsBetweenEntries}
 use Rattle.plain_machine.proofs.Composed.{over_runs}
 use Rattle.machine_laws.proofs.Keeping.{Core, core, cores}
-use Rattle.machine_laws.proofs.Moves.{Coming, Phase, Working, Killing, Over, phase, coming, IsNew, fresh, IsLast, Still, Ends, Starts, Moves, rests, enters, spawns, hears, drains, dies, closes, passes, kills, dumps}
+use Rattle.machine_laws.proofs.Moves.{Coming, Phase, Working, Killing, Over, phase, coming, IsNew, fresh, so_far, IsLast, Still, Ends, Starts, Moves, rests, enters, spawns, hears, drains, dies, closes, passes, kills, dumps}
 use Rattle.machine_laws.proofs.Steps.{Made, goes_moves, asks_moves}
 use Rattle.machine_laws.proofs.Traced.{Stands, within, behind, stands, Traced, Placed, here, away, placed, still_new}
 use Rattle.machine_laws.proofs.Heard.{entries, Carried, carried_more, carried_asking, carried_start}
@@ -172,9 +173,9 @@ moves_alive : (xs ys : List Exchange) (said more : List Said) (cs ds : List Core
 moves_alive xs ys said more cs ds e f g h t a (rests _ _ d i q r s u) = rw (d, s) (still_alive xs ys cs Working (rw r at a) u)
 moves_alive xs ys said more cs ds e f g h t a (enters x k m b d n r s) = rw (d, s) (with_none xs ys cs Working n (rw r at a))
 moves_alive xs ys said more cs ds e f g h t a (spawns child _ b d new i m r s u) = rw (d, s) (start_alive xs ys cs child (rw r at a) new u)
-moves_alive xs ys said more cs ds e f g h t a (hears p x bytes _ k live undrained n m d b r s) =
-    rw (d, s) (set_alive xs ys said cs e p x (record x { bytes = x.bytes ++ bytes }) t (rw r at a) k refl live (rw n refl) false live (λ c. rw n refl))
-moves_alive xs ys said more cs ds e f g h t a (drains p x answer last _ k live undrained n m d b r s) =
+moves_alive xs ys said more cs ds e f g h t a (hears p x c bytes _ _ k live undrained n m d b r s) =
+    rw (d, s) (set_alive xs ys said cs e p x (record x { bytes = Some (so_far x ++ bytes); coding = c }) t (rw r at a) k refl live (rw n refl) false live (λ c. rw n refl))
+moves_alive xs ys said more cs ds e f g h t a (drains p x c answer _ last _ k live undrained n m d b r s) =
     let u : Still (record { ask = Read x.child; answer = answer } ∷ []) = by_reading 0 x.child answer last in
     rw (d, s) (set_alive xs ys said cs e p x (record x { drained = true }) t (rw r at a) k refl live (rw n u.0) false live (λ c. rw n (u.1 c)))
 moves_alive xs ys said more cs ds e f g h t a (dies p x _ k live i m d b r s u) =
@@ -342,13 +343,17 @@ pub cores_children : (ps : List Process) → map child_in (map core ps) ≡ map 
 cores_children [] = refl
 cores_children (x ∷ ps) = ap (λ l. x.child ∷ l) (cores_children ps)
 
+abbrev coding_of_one : Option Process → Coding
+coding_of_one o = elim o [ Some x ↦ x.coding | None ↦ Utf8 ]
+
 pub entries_of_children : (program : Program) (bound : ℕ) (script : Script) → EntriesOfChildren program bound (start script)
 entries_of_children program bound script xs said c r between p child g =
     let i : Lives xs said c = over_runs program bound Lives (lives_more program bound) (lives_asking program bound) r [] [] (lives_start program bound script) in
     let a : Alive xs (cores c.state) (phase c.work) = i.1 in
     let k : slice_get (map (λ (x : Process). x.child) c.state.processes) p ≡ Some child = ap (λ l. slice_get l p) (sym (a.children ∙ cores_children c.state.processes)) ∙ g in
     let m : (x : Process) × (slice_get c.state.processes p ≡ Some x) × (x.child ≡ child) = mapped (λ x. x.child) c.state.processes p child k in
-    subst (λ c. entered p said ≡ heard c xs) m.2 (entries program bound script xs said c r between p m.0 m.1)
+    let coded : coding_in c.state p ≡ m.0.coding = ap coding_of_one m.1 in
+    entries program bound script xs said c r between p m.0 m.1 ∙ (λ i. heard (sym coded i) (m.2 i) xs)
 
 -- a run that has ended is past its entries
 ended_between : (program : Program) (bound : ℕ) (c : Config) → step program bound c ≡ Ended → IsBetweenEntries c

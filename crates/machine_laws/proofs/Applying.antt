@@ -10,11 +10,11 @@ use Rattle.text_model.specs.Undo.{Undo, with_boundary, started, disabled, enable
 use Rattle.text_model.specs.Commit.{Buffer}
 use Rattle.machine_laws.specs.Good.{Good}
 use Rattle.machine_laws.specs.Fits.{SpotFits, MarkersFit, SpanFits, OverlaysFit, MarksFit, GoodSite}
-use Rattle.machine_laws.proofs.OneBuffer.{passes_same, boundary_passes, started_passes, disabled_passes, enabled_passes}
+use Rattle.machine_laws.proofs.OneBuffer.{passes_self, passes_same, boundary_passes, started_passes, disabled_passes, enabled_passes}
 use Rattle.machine_laws.proofs.Fitting.{markers_set, marker_fits, clip_fits, evaporated_fits}
 use Rattle.machine_laws.proofs.Sites.{same_step}
-use Rattle.editor_model.specs.Values.{Value, Nil, Int, Str, TheBuffer, TheMarker, Fault, Prim, SetBuffer, GetBufferCreate, GenerateNewBuffer, RenameBuffer, SetBufferModifiedP, GotoChar, NarrowToRegion, Widen, MakeMarker, PointMarker, CopyMarker, SetMarker, SetMarkerInsertionType, MakeOverlay, OverlayPut, MoveOverlay, DeleteOverlay, UndoBoundary, UndoStart, BufferDisableUndo, BufferEnableUndo}
-use Rattle.editor_model.specs.Editor.{Editor, Name, Live, live, buffer_at, here, empty_buffer, find, change_buffer, with_buffer, renamed, with_marker, change_marker, marker_of, with_overlay, change_overlay, overlay_of, free_name, others}
+use Rattle.editor_model.specs.Values.{Value, Nil, Int, Str, TheBuffer, TheMarker, Fault, Prim, SetBuffer, GetBufferCreate, GenerateNewBuffer, RenameBuffer, SetBufferModifiedP, SetBufferReadOnly, GotoChar, NarrowToRegion, Widen, MakeMarker, PointMarker, CopyMarker, SetMarker, SetMarkerInsertionType, MakeOverlay, OverlayPut, MoveOverlay, DeleteOverlay, UndoBoundary, UndoStart, BufferDisableUndo, BufferEnableUndo}
+use Rattle.editor_model.specs.Editor.{Editor, Name, Live, live, buffer_at, here, empty_buffer, find, change_buffer, with_buffer, renamed, protected, with_marker, change_marker, marker_of, with_overlay, change_overlay, overlay_of, free_name, others}
 use Rattle.editor_model.specs.Answers.{Test, first_fault, applied, applied_of}
 use Rattle.editor_model.specs.Arguments.{arg, flag, name_of, buffer_of, marker_number, overlay_number, symbol_of, value_of, number, position, place, from_of, to_of, lies_in, must_be_position, must_lie_in}
 use Rattle.editor_model.specs.BufferCalls.{found_or_made, get_buffer_create}
@@ -24,7 +24,7 @@ use Rattle.editor_model.specs.MarkerCalls.{new_marker, spot_in, copy_marker, set
 use Rattle.editor_model.specs.UndoCalls.{with_undo}
 use Rattle.editor_model.specs.Table.{apply}
 use Rattle.machine_laws.proofs.GoodEditor.{GoodEditor, Steady, Passes}
-use Rattle.machine_laws.proofs.Advancing.{advances_self, marks_only, site_advances, site_shapes, with_buffer_advances, renamed_advances, buffer_live, size_of}
+use Rattle.machine_laws.proofs.Advancing.{advances_self, marks_only, site_advances, site_shapes, with_buffer_advances, one_advances, renamed_advances, buffer_live, size_of}
 use Rattle.machine_laws.proofs.Tests.{refuse_ok, no_fault}
 
 -- STEADY STEPS
@@ -203,6 +203,13 @@ with_buffer_steady name e g = record { advances = with_buffer_advances name e g;
 renamed_steady : (id : ℕ) (name : Name) (e : Editor) → GoodEditor e → Steady e (renamed id name e)
 renamed_steady id name e g = record { advances = renamed_advances id name e g; same_shapes = refl }
 
+protected_steady : (id : ℕ) (on : Bool) (e : Editor) → GoodEditor e → Steady e (protected id on e)
+protected_steady id on e g = go (live e id) refl
+  where
+    go : (o : Option Live) → live e id ≡ o → Steady e (elim o [ None ↦ e | Some l ↦ record e { buffers = slice_set e.buffers id (Some (record l { read_only = on })) } ])
+    go None q = steady_self e g
+    go (Some l) q = record { advances = one_advances e _ id l (record l { read_only = on }) g q refl (g.each id l q) (passes_self l.buffer (g.each id l q).good) (λ j size d h. h); same_shapes = refl }
+
 found_steady : (e : Editor) (name : Value) (o : Option ℕ) → GoodEditor e → Steady e (found_or_made e name o).editor
 found_steady e name None g = of_fault _ e _ _ g (with_buffer_steady (name_of name) e g)
 found_steady e name (Some id) g = steady_self e g
@@ -239,6 +246,7 @@ apply_steady e GetBufferCreate args g = create_steady e (arg args 0) g
 apply_steady e GenerateNewBuffer args g = of_fault _ e _ _ g (with_buffer_steady (free_name e.buffers (name_of (arg args 0))) e g)
 apply_steady e RenameBuffer args g = of_fault _ e _ _ g (renamed_steady e.current (free_name (others e) (name_of (arg args 0))) e g)
 apply_steady e SetBufferModifiedP args g = (same_buffer e.current (λ b. record b { modified = flag (arg args 0) }) e g (λ b marks s. (refl, (passes_same b (record b { modified = flag (arg args 0) }) s.good refl refl, (s.fits.begin_fits, (s.fits.end_fits, s.fits.point_fits))))))
+apply_steady e SetBufferReadOnly args g = protected_steady e.current (flag (arg args 0)) e g
 apply_steady e GotoChar args g = of_fault _ e _ _ g (point_steady (place e (arg args 0)) e g)
 apply_steady e NarrowToRegion args g = narrow_steady e (arg args 0) (arg args 1) g
 apply_steady e Widen args g = (widened_steady e.current e g)

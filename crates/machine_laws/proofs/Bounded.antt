@@ -5,7 +5,7 @@ use Rattle.std.proofs.lemmas.List.Elements.{filter-append}
 use Rattle.std.specs.Prelude.{Option, Some, None, not, ◌||◌, filter, nat_lt, slice_get, slice_set, codes, if◌then◌else◌}
 use Rattle.editor_model.specs.Values.{Value, Script}
 use Rattle.plain_machine.specs.Exchanges.{Exchange, Ask, Spawn, Read, AskEnd, Send, Close, Kill, Answer, Started, Bytes, Code, End, Signal, Running, Sent, Broken, Closed, Killed, gone, goes_by, children_started}
-use Rattle.plain_machine.specs.State.{State, Program, Process, Exited, Signalled, Lost, process, change_process}
+use Rattle.plain_machine.specs.State.{State, Program, Process, Exited, Signalled, Lost, process, change_process, read_so_far}
 use Rattle.plain_machine.specs.Lines.{KilledLast}
 use Rattle.plain_machine.specs.Items.{Item, Finish, Target, Waiting, Said, Config, Next}
 use Rattle.plain_machine.specs.Calls.{spawned, spawned_child, is_new_child, sent_answer, closed_answer, with_input_closed}
@@ -60,7 +60,7 @@ module _ (s : State) (few : length s.processes ≤ most_processes) where
   read_few w target rest p x (Bytes bytes) = go (is_room bytes)
     where
       go : (fits : Bool) → Few (hear fits s w target rest p x bytes)
-      go true = changed_few (asked_more s) p (λ y. record y { bytes = x.bytes ++ bytes }) few
+      go true = changed_few (asked_more s) p (λ y. record y { bytes = Some (read_so_far x ++ bytes) }) few
       go false = tt
   read_few w target rest p x Answer.Nothing = few
   read_few w target rest p x End = changed_few (asked_more s) p (λ y. record y { drained = true }) few

@@ -47,7 +47,7 @@ module _ (program : Program) (bound : ℕ) (base : Levels) where
 
 -- THE TOP LEVEL
 abbrev nothing : Levels
-nothing = record { depth = 0; scopes = 0; inhibited = false; kept = [] }
+nothing = record { depth = 0; scopes = 0; inhibited = false; lifted = false; kept = [] }
 
 top_levels : (front : List Item) (l : Levels) → IsTop front → unwound front l ≡ l
 top_levels [] l h = refl
@@ -80,6 +80,7 @@ nothing_left s h = record {
   scopes = no_scopes s.scopes (ap (λ (l : Levels). l.scopes) h);
   kept = no_kept s.editor.marks.saved (ap (λ (l : Levels). l.kept) h);
   inhibited = ap (λ (l : Levels). l.inhibited) h;
+  lifted = ap (λ (l : Levels). l.lifted) h;
 }
 
 pub top_is_clear : (program : Program) (bound : ℕ) (script : Script) → TopIsClear program bound (start script)

@@ -12,7 +12,7 @@ use Rattle.text_model.specs.Properties.{Cell}
 use Rattle.plain_machine.specs.Exchanges.{Exchange, Ask, Answer}
 use Rattle.plain_machine.specs.State.{State, Program}
 use Rattle.plain_machine.specs.Lines.{Kind, OfBefore, OfAfter, OfFilter, OfSentinel}
-use Rattle.plain_machine.specs.Items.{Item, Top, Body, MakeCall, Leave, Finish, WriteDump, Kept, KeptExcursion, KeptRestriction, KeptBuffer, KeptInhibition, Refuse, MakeChange, Hooks, Calm, CommitChange, Enter, Native, Exit, Wait, Delete, Target, Said, Config, Next, Step, Goes, Asks, Ended}
+use Rattle.plain_machine.specs.Items.{Item, Top, Body, MakeCall, Leave, Finish, WriteDump, Kept, KeptExcursion, KeptRestriction, KeptBuffer, KeptInhibition, KeptLifting, Refuse, MakeChange, Hooks, Calm, CommitChange, Enter, Native, Exit, Wait, Delete, Target, Said, Config, Next, Step, Goes, Asks, Ended}
 use Rattle.plain_machine.specs.Arguments.{handler_def}
 use Rattle.plain_machine.specs.Hooks.{before_change_functions, after_change_functions, set_hook_list}
 use Rattle.plain_machine.specs.Forms.{if_live, current}
@@ -38,13 +38,14 @@ lowered : (l : Levels) → behind_handler (one_deeper l) ≡ l
 lowered l =
     let a : l.depth + 1 - 1 ≡ l.depth = omega arith in
     let b : suc l.scopes - 1 ≡ l.scopes = omega arith in
-    λ i. record { depth = a i; scopes = b i; inhibited = l.inhibited; kept = l.kept }
+    λ i. record { depth = a i; scopes = b i; inhibited = l.inhibited; lifted = l.lifted; kept = l.kept }
 
 block_depth : (k : Kept) (l : Levels) → (behind_block k l).depth ≡ l.depth
 block_depth KeptExcursion l = refl
 block_depth KeptRestriction l = refl
 block_depth (KeptBuffer b) l = refl
 block_depth (KeptInhibition old) l = refl
+block_depth (KeptLifting old) l = refl
 
 -- unwinding never goes deeper
 unwound_depth : (front : List Item) (l : Levels) → (unwound front l).depth ≤ l.depth

@@ -7,7 +7,7 @@ use Rattle.text_model.specs.Properties.{Cell}
 use Rattle.text_model.specs.Marks.{Marker, Saved, Excursion, Restriction, Pending}
 use Rattle.text_model.specs.Commit.{Buffer}
 use Rattle.text_model.proofs.Cases.{by_test}
-use Rattle.editor_model.specs.Values.{Value, Nil, T, Fault, Reply, Answered, Prim, AddHook, RemoveHook, KillBuffer, StartProcess, SetProcessFilter, SetProcessSentinel, SetProcessBuffer, ProcessSendString, ProcessSendEof, DeleteProcess, AcceptProcessOutput, Form, Forms, NoForms, Then, Do, Setq, In, WhenEq, Block, SaveExcursion, SaveRestriction, SaveCurrentBuffer, InhibitHooks, HandlerDef, equal, Script}
+use Rattle.editor_model.specs.Values.{Value, Nil, T, Fault, Reply, Answered, Prim, AddHook, RemoveHook, KillBuffer, StartProcess, SetProcessFilter, SetProcessSentinel, SetProcessBuffer, SetProcessCodingSystem, ProcessSendString, ProcessSendEof, DeleteProcess, AcceptProcessOutput, Form, Forms, NoForms, Then, Do, Setq, In, WhenEq, Block, SaveExcursion, SaveRestriction, SaveCurrentBuffer, InhibitHooks, HandlerDef, equal, Script, InhibitReadOnly}
 use Rattle.editor_model.specs.Editor.{Editor, Live, live, is_live, here, killed, register, with_register, with_buffer, with_marker, change_buffer, new_editor}
 use Rattle.editor_model.specs.Arguments.{arg, string_of, buffer_of, name_of, must_be_fewer, must_be_short}
 use Rattle.editor_model.specs.Limits.{most_buffers, most_markers}
@@ -16,12 +16,12 @@ use Rattle.editor_model.specs.TextCalls.{prepare_output}
 use Rattle.editor_model.specs.Table.{Commit, Committed, query, apply, prepare, Prepared, Changes, Quiet, Nothing, Barred, Done, Failed, commit}
 use Rattle.editor_model.specs.Prims.{OnlyAsks, SetsState, ChangesText, ConcernsHandlers, manner_of}
 use Rattle.plain_machine.specs.Exchanges.{Exchange, Ask, Answer, Started, Sent, Broken, Closed, Killed, Bytes, End, Code, Signal, Running}
-use Rattle.plain_machine.specs.State.{State, Program, Process, Status, Runs, Exited, Signalled, Lost, process, change_process}
+use Rattle.plain_machine.specs.State.{State, Program, Process, Status, Runs, Exited, Signalled, Lost, process, change_process, read_so_far}
 use Rattle.plain_machine.specs.Lines.{Kind, KilledLast, OfBefore, OfAfter, OfFilter, OfSentinel}
-use Rattle.plain_machine.specs.Items.{Item, Top, Body, DoForm, MakeCall, Leave, GiveAnswer, Refuse, MakeChange, Hooks, Calm, CommitChange, Enter, Native, Called, Exit, Wait, Delete, Finish, WriteDump, Target, Nowhere, ToName, ToNative, Kept, KeptExcursion, KeptRestriction, KeptBuffer, KeptInhibition, Waiting, Said, Config, Next, Step, Goes, Asks, Ended}
-use Rattle.plain_machine.specs.Calls.{on, answered, unless, call, process_effect, spawned, spawned_child, is_new_child, started, sent_answer, closed_answer, with_input_closed, with_filter, with_sentinel, of_buffer, process_buffer, with_process_buffer, end_of, send, send_eof, change_call, with_editor, call_by, unless_fault}
+use Rattle.plain_machine.specs.Items.{Item, Top, Body, DoForm, MakeCall, Leave, GiveAnswer, Refuse, MakeChange, Hooks, Calm, CommitChange, Enter, Native, Called, Exit, Wait, Delete, Finish, WriteDump, Target, Nowhere, ToName, ToNative, Kept, KeptExcursion, KeptRestriction, KeptBuffer, KeptInhibition, Waiting, Said, Config, Next, Step, Goes, Asks, Ended, KeptLifting}
+use Rattle.plain_machine.specs.Calls.{on, answered, unless, call, process_effect, spawned, spawned_child, is_new_child, started, sent_answer, closed_answer, with_input_closed, with_filter, with_sentinel, of_buffer, process_buffer, with_process_buffer, end_of, send, send_eof, change_call, with_editor, call_by, unless_fault, with_coding}
 use Rattle.plain_machine.specs.Refusals.{process_tests, may_ask, must_ask, must_be_replaceable, must_be_word, must_live_or_be_named, only_where, most_processes}
-use Rattle.plain_machine.specs.Arguments.{process_of, filter_of, sentinel_of, child_of, is_closed, encoded, handler_def, is_new_name}
+use Rattle.plain_machine.specs.Arguments.{process_of, filter_of, sentinel_of, child_of, is_closed, encoded, handler_def, is_new_name, coding_of}
 use Rattle.plain_machine.specs.Hooks.{before_change_functions, after_change_functions, set_hook_list}
 use Rattle.plain_machine.specs.Forms.{with_saved, saved_of, if_live, current, in_buffer, put_back, pop, popped, dropped, restored, evaluate, do_form, block, assigned, scope_of, give, make_change, commit_change, at_kept, says, after_commit, call_with, when_eq}
 use Rattle.plain_machine.specs.Handling.{mark_of_process, second, sentinel_words, plain_text, unlisted, body_of, default_handler, put_in, output_in, process_buffer_of, native, left_state, ended_handler, without_hooks_item, named_body, native_next}
@@ -47,6 +47,7 @@ pub record KeptBy (I : Editor → Type 0) : Type 0 where
   pub moves : (e : Editor) (id : ℕ) → is_live e id ≡ true → I e → I (record e { current = id })
   pub keeps : (e : Editor) (saved : List Saved) → I e → I (record e { marks = record e.marks { saved = saved } })
   pub names : (e : Editor) (registers : List (ℕ × Value)) → I e → I (record e { registers = registers })
+  pub lifts : (e : Editor) (on : Bool) → I e → I (record e { lifted = on })
   pub starts : (e : Editor) (name : Value) → is_new_name e name ≡ true → must_be_fewer most_buffers (length e.buffers) ≡ None → I e → I (with_buffer (name_of name) e)
   pub marks : (e : Editor) (m : Marker) → I e → I (with_marker m e)
 
@@ -119,6 +120,7 @@ module _ (I : Editor → Type 0) (k : KeptBy I) where
   restored_carries KeptRestriction s h = pop_carries s h
   restored_carries (KeptBuffer b) s h = when_live s b (current b s) h (λ q. k.moves s.editor b q h)
   restored_carries (KeptInhibition old) s h = h
+  restored_carries (KeptLifting old) s h = k.lifts s.editor old h
 
   popped_carries : (s : State) → Carries s → Carries (popped s)
   popped_carries s h = k.keeps s.editor (drop 1 (saved_of s)) h
@@ -235,6 +237,7 @@ module _ (I : Editor → Type 0) (k : KeptBy I) where
     effect_carries program bound target SetProcessFilter args t = changed (process_of s (arg args 0)) (with_filter (filter_of (arg args 1))) s h
     effect_carries program bound target SetProcessSentinel args t = changed (process_of s (arg args 0)) (with_sentinel (sentinel_of (arg args 1))) s h
     effect_carries program bound target SetProcessBuffer args t = changed (process_of s (arg args 0)) (of_buffer (process_buffer s.editor (arg args 1))) s h
+    effect_carries program bound target SetProcessCodingSystem args t = changed (process_of s (arg args 0)) (with_coding (coding_of (arg args 1))) s h
     effect_carries program bound target ProcessSendString args t = send_carries target (child_of s (process_of s (arg args 0))) (encoded (string_of (arg args 1)))
     effect_carries program bound target ProcessSendEof args t = eof_carries target (process_of s (arg args 0)) (is_closed s (process_of s (arg args 0)))
     effect_carries program bound target DeleteProcess args t = h
@@ -259,6 +262,7 @@ module _ (I : Editor → Type 0) (k : KeptBy I) where
     block_carries SaveRestriction forms = k.keeps s.editor _ h
     block_carries SaveCurrentBuffer forms = h
     block_carries InhibitHooks forms = h
+    block_carries InhibitReadOnly forms = k.lifts s.editor true h
 
     pair_carries : (o : Option (List Value)) (forms : Forms) → StepCarries (when_eq o forms s rest)
     pair_carries None forms = h
@@ -311,7 +315,7 @@ module _ (I : Editor → Type 0) (k : KeptBy I) where
       where
         go : (fits : Bool) → AnswerCarries (hear fits s w target rest p x bytes)
         go false = tt
-        go true = changed p (λ y. record y { bytes = x.bytes ++ bytes }) (asked_more s) h
+        go true = changed p (λ y. record y { bytes = Some (read_so_far x ++ bytes) }) (asked_more s) h
     read_carries w target p x Answer.Nothing = h
     read_carries w target p x End = drain_carries w target p x
     read_carries w target p x Answer.Failed = drain_carries w target p x

@@ -1,5 +1,5 @@
 -- A change that was prepared, and its commit.
-use Rattle.std.proofs.Common.{◌≡◌, ℕ, zero, suc, ◌+◌, ◌-◌, ◌≤◌, Bool, true, false, List, [], ◌∷◌, length, drop, refl, ap, sym, subst, ◌∙◌, arith}
+use Rattle.std.proofs.Common.{◌≡◌, ℕ, zero, suc, ◌+◌, ◌-◌, ◌≤◌, Bool, true, false, List, [], ◌∷◌, ◌++◌, length, drop, refl, ap, sym, subst, ◌∙◌, arith}
 use Rattle.std.specs.Prelude.{if◌then◌else◌, ◌==◌, ◌&&◌, not, nat_lt, nat_le, slice_get, filter, Option, Some, None, is_some, option_map, min, max}
 use Rattle.std.proofs.lemmas.Bool.{eqb-true, false≢true}
 use Rattle.std.proofs.lemmas.Option.{same_Some}
@@ -19,9 +19,9 @@ use Rattle.machine_laws.proofs.Sites.{SiteStep, site_after, site_stays, same_ste
 use Rattle.editor_model.specs.Values.{Value, Nil, T, Str, Fault, Pairs, Prim, Insert, InsertAndInherit, InsertBeforeMarkers, InsertBeforeMarkersAndInherit, InsertBufferSubstring, DeleteRegion, DeleteAndExtractRegion, EraseBuffer, PutTextProperty, AddTextProperties, RemoveTextProperties, SetTextProperties, UndoMore}
 use Rattle.editor_model.specs.Editor.{Editor, Live, live, is_live, buffer_at, here, change_site, set_marker_spot, marker_of}
 use Rattle.editor_model.specs.Answers.{Test, refuse, first_fault, What, Put, Props, UndoGroups, Change, Prepared, Changes, Quiet, Nothing, prepared, prepared_of}
-use Rattle.editor_model.specs.TextCalls.{char_at, inherited_at, with_inherited, inserted_piece, insertion, joined, insert, insert_buffer_substring, place_in, prepare_output, deletion, region_deletion, region_text, must_be_a_region, erase_buffer, widened, point_at}
+use Rattle.editor_model.specs.TextCalls.{must_give_region, char_at, inherited_at, with_inherited, inserted_piece, insertion, joined, insert, insert_buffer_substring, place_in, prepare_output, deletion, region_deletion, region_text, must_be_a_region, erase_buffer, widened, point_at}
 use Rattle.editor_model.specs.Arguments.{arg, buffer_of, place_or, from_of, to_of, symbol_of, value_of, pairs, count_of, must_have_room, must_be_accessible, must_fit_a_string}
-use Rattle.editor_model.specs.PropertyCalls.{property_tests, list_tests, change_of, property_change, put_edit, put_text_property, set_of_pairs, nil_names, names_of_pairs}
+use Rattle.editor_model.specs.PropertyCalls.{must_take_properties, changed_by, property_tests, list_tests, change_of, property_change, put_edit, put_text_property, set_of_pairs, nil_names, names_of_pairs}
 use Rattle.editor_model.specs.UndoCalls.{undo_change, undo_more, undo_tests}
 use Rattle.editor_model.specs.Commits.{commit_tests, first_widened, point_to, put_site, mark_to, changed, commit_of, commit}
 use Rattle.editor_model.specs.Table.{prepare}
@@ -122,7 +122,7 @@ pub output_fine : (e : Editor) (id mark : ℕ) (text : List Cell) → GoodEditor
 output_fine e id mark text g l h =
     let at : ℕ = place_in id (buffer_at e id) (marker_of e mark).spot in
     let c : Change = record { buffer = id; from = at; to = at; what = Put text true false false (Some mark); reply = Nil } in
-    fine_of (first_fault (must_have_room e id (length text) ∷ [])) e (Changes c) (record { fine = record { what = h; order = omega arith; fits = place_lies e id mark g l } })
+    fine_of _ e (Changes c) (record { fine = record { what = h; order = omega arith; fits = place_lies e id mark g l } })
 
 -- DELETIONS AND PROPERTIES
 deletion_fine : (e : Editor) (id from to : ℕ) (widen : Bool) (reply : Value) → from ≤ to → to ≤ size_of e id → FinePrepared e (deletion id from to widen reply)
@@ -149,7 +149,7 @@ region_fine e a b limits reply g = fine_if (must_be_a_region e a b limits) e (re
     deletion_fine e e.current (from_of e a b) (to_of e a b) false reply (region_order e a b) (accessible_fits e a b limits g (drop_fault 2 (must_be_a_region e a b limits) h)))
 
 erase_fine : (e : Editor) → GoodEditor e → FinePrepared e (erase_buffer e)
-erase_fine e g = deletion_fine e e.current 0 (length (here e).text) true Nil (omega arith) (omega arith)
+erase_fine e g = fine_of _ e (deletion e.current 0 (length (here e).text) true Nil) (deletion_fine e e.current 0 (length (here e).text) true Nil (omega arith) (omega arith))
 
 change_of_fine : (rs : List Rec) (e : Editor) (c : Change) (v : Value) → FineChange e c → FinePrepared e (change_of rs c v)
 change_of_fine [] e c v h = record { fine = tt }
@@ -167,11 +167,16 @@ pairs_ordered [] = tt
 pairs_ordered (p ∷ ps) = ordered-put (set_of_pairs ps) p.0 p.1 (pairs_ordered ps)
 
 put_fine : (e : Editor) (a b name v : Value) → GoodEditor e → FinePrepared e (put_text_property e a b name v)
-put_fine e a b name v g = fine_if (property_tests e a b name v) e (property_change e a b (put_edit (symbol_of name) (value_of v)) Nil)
-    (λ h. property_fine e a b (put_edit (symbol_of name) (value_of v)) Nil (put_edit_ordered (symbol_of name) (value_of v)) (accessible_fits e a b [] g (drop_fault 4 (property_tests e a b name v) h)))
+put_fine e a b name v g =
+    let edit : PropEdit = put_edit (symbol_of name) (value_of v) in
+    let last : List Test = must_take_properties e a b edit ∷ [] in
+    fine_if (property_tests e a b name v ++ last) e (property_change e a b edit Nil)
+    (λ h. property_fine e a b edit Nil (put_edit_ordered (symbol_of name) (value_of v)) (accessible_fits e a b last g (drop_fault 4 (property_tests e a b name v ++ last) h)))
 
-list_fine : (e : Editor) (a b properties : Value) (edit : PropEdit) → GoodEditor e → GivesOrdered edit → FinePrepared e (prepared (list_tests e a b properties) (property_change e a b edit T))
-list_fine e a b properties edit g o = fine_if (list_tests e a b properties) e (property_change e a b edit T) (λ h. property_fine e a b edit T o (accessible_fits e a b [] g (drop_fault 3 (list_tests e a b properties) h)))
+list_fine : (e : Editor) (a b properties : Value) (edit : PropEdit) → GoodEditor e → GivesOrdered edit → FinePrepared e (changed_by e a b properties edit)
+list_fine e a b properties edit g o =
+    let last : List Test = must_take_properties e a b edit ∷ [] in
+    fine_if (list_tests e a b properties ++ last) e (property_change e a b edit T) (λ h. property_fine e a b edit T o (accessible_fits e a b last g (drop_fault 3 (list_tests e a b properties ++ last) h)))
 
 -- UNDOING
 undo_change_fine : (es : List Entry) (e : Editor) (c : Change) → FineChange e c → FinePrepared e (undo_change es c)
@@ -191,8 +196,8 @@ prepare_fine e InsertAndInherit args g = insert_fine e false true args g
 prepare_fine e InsertBeforeMarkers args g = insert_fine e true false args g
 prepare_fine e InsertBeforeMarkersAndInherit args g = insert_fine e true true args g
 prepare_fine e InsertBufferSubstring args g = substring_fine e (arg args 0) (arg args 1) (arg args 2) g
-prepare_fine e DeleteRegion args g = region_fine e (arg args 0) (arg args 1) [] Nil g
-prepare_fine e DeleteAndExtractRegion args g = region_fine e (arg args 0) (arg args 1) (must_fit_a_string (to_of e (arg args 0) (arg args 1) - from_of e (arg args 0) (arg args 1)) ∷ []) (Str (region_text e (arg args 0) (arg args 1))) g
+prepare_fine e DeleteRegion args g = region_fine e (arg args 0) (arg args 1) (must_give_region e (arg args 0) (arg args 1) ∷ []) Nil g
+prepare_fine e DeleteAndExtractRegion args g = region_fine e (arg args 0) (arg args 1) (must_give_region e (arg args 0) (arg args 1) ∷ must_fit_a_string (to_of e (arg args 0) (arg args 1) - from_of e (arg args 0) (arg args 1)) ∷ []) (Str (region_text e (arg args 0) (arg args 1))) g
 prepare_fine e EraseBuffer args g = erase_fine e g
 prepare_fine e PutTextProperty args g = put_fine e (arg args 0) (arg args 1) (arg args 2) (arg args 3) g
 prepare_fine e AddTextProperties args g = list_fine e (arg args 0) (arg args 1) (arg args 2) (Add (set_of_pairs (pairs (arg args 2))) (nil_names (pairs (arg args 2)))) g tt

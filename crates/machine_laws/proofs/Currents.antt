@@ -7,7 +7,7 @@ use Rattle.text_model.specs.Marks.{Pending, leave_buffer}
 use Rattle.text_model.specs.Undo.{passed, with_boundary, started as start_of, disabled, enabled}
 use Rattle.text_model.specs.Commit.{Buffer, reset, undone_groups}
 use Rattle.text_model.proofs.Cases.{by_test}
-use Rattle.editor_model.specs.Values.{Value, Nil, T, Int, Str, TheBuffer, TheMarker, at_place, Fault, Reply, Answered, Prim, SetBuffer, GetBufferCreate, GenerateNewBuffer, RenameBuffer, SetBufferModifiedP, GotoChar, NarrowToRegion, Widen, MakeMarker, PointMarker, CopyMarker, SetMarker, SetMarkerInsertionType, MakeOverlay, OverlayPut, MoveOverlay, DeleteOverlay, UndoBoundary, UndoStart, BufferDisableUndo, BufferEnableUndo, StartProcess, KillBuffer, SetProcessFilter, SetProcessSentinel, SetProcessBuffer, ProcessSendString, ProcessSendEof, Script}
+use Rattle.editor_model.specs.Values.{Value, Nil, T, Int, Str, TheBuffer, TheMarker, at_place, Fault, Reply, Answered, Prim, SetBuffer, GetBufferCreate, GenerateNewBuffer, RenameBuffer, SetBufferModifiedP, GotoChar, NarrowToRegion, Widen, MakeMarker, PointMarker, CopyMarker, SetMarker, SetMarkerInsertionType, MakeOverlay, OverlayPut, MoveOverlay, DeleteOverlay, UndoBoundary, UndoStart, BufferDisableUndo, BufferEnableUndo, StartProcess, KillBuffer, SetProcessFilter, SetProcessSentinel, SetProcessBuffer, SetProcessCodingSystem, ProcessSendString, ProcessSendEof, Script, SetBufferReadOnly}
 use Rattle.editor_model.specs.Editor.{Editor, Live, live, is_live, find, live_from, scratch, with_buffer, change_site, change_buffer, killed, buffer_at, register, with_register}
 use Rattle.editor_model.specs.Arguments.{arg, flag, string_of, name_of, buffer_of, place, from_of, to_of}
 use Rattle.editor_model.specs.Answers.{first_fault, applied_of, What, Put, Props, UndoGroups, Change}
@@ -18,12 +18,12 @@ use Rattle.editor_model.specs.TextCalls.{point_at, narrowed, widened}
 use Rattle.editor_model.specs.Prims.{Manner, OnlyAsks, SetsState, ChangesText, ConcernsHandlers, manner_of}
 use Rattle.editor_model.specs.Table.{Commit, Committed, Done, Failed, Prepared, Changes, Quiet, Nothing, Barred, query, apply, prepare, commit}
 use Rattle.plain_machine.specs.Exchanges.{Exchange, Ask, Answer, Started, Bytes, Code, End, Signal, Running, Sent, Broken, Closed, Killed}
-use Rattle.plain_machine.specs.State.{State, Process, Status, Runs, Signalled, Exited, Lost, Program, hooks_of, process, change_process}
+use Rattle.plain_machine.specs.State.{State, Process, Status, Runs, Signalled, Exited, Lost, Program, hooks_of, process, change_process, read_so_far}
 use Rattle.plain_machine.specs.Lines.{Kind, OfBefore, OfAfter, OfFilter, OfSentinel}
 use Rattle.plain_machine.specs.Items.{Item, MakeCall, GiveAnswer, Refuse, MakeChange, Hooks, Calm, CommitChange, Enter, Called, Exit, Wait, Delete, Target, Nowhere, ToName, ToNative, Waiting, Said, Config, Next, Step, Goes, Asks, Ended}
-use Rattle.plain_machine.specs.Calls.{on, answered, unless_fault, with_editor, change_call, call, call_by, process_effect, spawned, spawned_child, started, is_new_child, send, sent_answer, send_eof, closed_answer, with_input_closed, with_filter, with_sentinel, of_buffer, process_buffer}
+use Rattle.plain_machine.specs.Calls.{on, answered, unless_fault, with_editor, change_call, call, call_by, process_effect, spawned, spawned_child, started, is_new_child, send, sent_answer, send_eof, closed_answer, with_input_closed, with_filter, with_sentinel, of_buffer, process_buffer, with_coding}
 use Rattle.plain_machine.specs.Refusals.{process_tests, may_ask, must_be_replaceable}
-use Rattle.plain_machine.specs.Arguments.{process_of, filter_of, sentinel_of, child_of, is_closed, encoded, running_in, is_new_name}
+use Rattle.plain_machine.specs.Arguments.{process_of, filter_of, sentinel_of, child_of, is_closed, encoded, running_in, is_new_name, coding_of}
 use Rattle.plain_machine.specs.Forms.{at_kept, saved_of, popped, after_commit, bracket, with_saved, make_change, give, commit_change, dropped, kept_reply, assigned, scope_of}
 use Rattle.plain_machine.specs.Handling.{enter, exit, left_state, ended_handler, without_hooks_item}
 use Rattle.plain_machine.specs.Waits.{wait, wait_case, ask_process, ask_if, ask_next, read_answer, hear, drain, end_answer, ends, entry_of, asked_more, is_room, from_eligible, eligible, target_is_eligible, delete, delete_one, delete_running, kill_answer, kill_at_end, kill_live}
@@ -39,7 +39,7 @@ use Rattle.machine_laws.proofs.Returning.{goes_well, asks_well}
 use Rattle.machine_laws.proofs.Working.{change_editor}
 use Rattle.machine_laws.proofs.Levels.{exit_of, Above, above, AnswerStays, StepStays, step_stays}
 use Rattle.machine_laws.proofs.CallRuns.{one_deeper, body_inside, ended_editor, left_current, goes_is, never_asks}
-use Rattle.machine_laws.proofs.Lively.{site_current}
+use Rattle.machine_laws.proofs.Lively.{site_current, protected_current}
 use Rattle.machine_laws.proofs.Soundness.{editors_are_sound}
 
 -- EDITORS: which buffer is current, behind each change
@@ -71,6 +71,7 @@ apply_current e GetBufferCreate args h = create_current e (arg args 0)
 apply_current e GenerateNewBuffer args h = of_fault _ e _ _ refl
 apply_current e RenameBuffer args h = of_fault _ e _ _ refl
 apply_current e SetBufferModifiedP args h = buffer_current e.current (λ b. record b { modified = flag (arg args 0) }) e
+apply_current e SetBufferReadOnly args h = protected_current e.current (flag (arg args 0)) e
 apply_current e GotoChar args h = of_fault _ e _ _ (buffer_current e.current (point_at (place e (arg args 0))) e)
 apply_current e NarrowToRegion args h = of_fault _ e _ _ (buffer_current e.current (narrowed (from_of e (arg args 0) (arg args 1)) (to_of e (arg args 0) (arg args 1))) e)
 apply_current e Widen args h = buffer_current e.current widened e
@@ -275,6 +276,7 @@ module _ (b : ℕ) where
     effect_own target SetProcessFilter args = set_own target (process_of t (arg args 0)) (with_filter (filter_of (arg args 1))) (arg args 1)
     effect_own target SetProcessSentinel args = set_own target (process_of t (arg args 0)) (with_sentinel (sentinel_of (arg args 1))) (arg args 1)
     effect_own target SetProcessBuffer args = set_own target (process_of t (arg args 0)) (of_buffer (process_buffer t.editor (arg args 1))) (arg args 1)
+    effect_own target SetProcessCodingSystem args = set_own target (process_of t (arg args 0)) (with_coding (coding_of (arg args 1))) (arg args 1)
     effect_own target ProcessSendString args = send_own target (child_of t (process_of t (arg args 0))) (encoded (string_of (arg args 1)))
     effect_own target ProcessSendEof args = eof_own target (process_of t (arg args 0)) (is_closed t (process_of t (arg args 0)))
     effect_own target _ args = own r h
@@ -301,7 +303,7 @@ module _ (b : ℕ) where
       where
         go : (fits : Bool) → AnswerOwn (hear fits t w target rest p x bytes)
         go false = tt
-        go true = heard_own _ p x _ _ target (changed_current p (λ y. record y { bytes = x.bytes ++ bytes }) (asked_more t) ∙ h)
+        go true = heard_own _ p x _ _ target (changed_current p (λ y. record y { bytes = Some (read_so_far x ++ bytes) }) (asked_more t) ∙ h)
     read_own w target p x Answer.Nothing = own r h
     read_own w target p x End = drain_own w target p x
     read_own w target p x Answer.Failed = drain_own w target p x

@@ -3,10 +3,10 @@ use Rattle.std.proofs.Common.{◌≡◌, ℕ, zero, suc, ◌+◌, ◌-◌, ◌<�
 use Rattle.std.specs.Prelude.{pos, Option, Some, None, ◌&&◌, ◌||◌, nat_lt, nat_le, drop, codes, slice_set}
 use Rattle.std.proofs.lemmas.Bool.{ltb-true}
 use Rattle.text_model.specs.Characters.{Ch}
-use Rattle.text_model.specs.Decoding.{characters, all_characters}
+use Rattle.text_model.specs.Codings.{decoded, all_decoded}
 use Rattle.text_model.specs.Marks.{Saved, Excursion, Restriction, Pending}
 use Rattle.text_model.specs.Properties.{Cell}
-use Rattle.editor_model.specs.Values.{Value, Nil, T, Int, ArgsOutOfRange, WrongType, Nesting, at_place, Reply, Answered, Fault, Prim, StartProcess, KillBuffer, SetProcessFilter, SetProcessSentinel, SetProcessBuffer, ProcessSendString, ProcessSendEof, DeleteProcess, AcceptProcessOutput, Form, Forms, NoForms, Then, Do, Setq, In, WhenEq, Block, SaveExcursion, SaveRestriction, SaveCurrentBuffer, InhibitHooks, HandlerDef, equal, Script}
+use Rattle.editor_model.specs.Values.{Value, Nil, T, Int, ArgsOutOfRange, WrongType, Nesting, at_place, Reply, Answered, Fault, Prim, StartProcess, KillBuffer, SetProcessFilter, SetProcessSentinel, SetProcessBuffer, SetProcessCodingSystem, ProcessSendString, ProcessSendEof, DeleteProcess, AcceptProcessOutput, Form, Forms, NoForms, Then, Do, Setq, In, WhenEq, Block, SaveExcursion, SaveRestriction, SaveCurrentBuffer, InhibitHooks, HandlerDef, equal, Script, InhibitReadOnly}
 use Rattle.editor_model.specs.Editor.{register, with_register, is_live, killed}
 use Rattle.editor_model.specs.Arguments.{arg, string_of, buffer_of, must_be_buffer_or_nil, buffer_there}
 use Rattle.editor_model.specs.Answers.{Test, refuse, first_fault}
@@ -14,12 +14,12 @@ use Rattle.editor_model.specs.TextCalls.{prepare_output}
 use Rattle.editor_model.specs.Table.{Change, Commit, query, apply, prepare, Prepared, Changes, Quiet, Nothing, Barred, Done, Failed, commit}
 use Rattle.editor_model.specs.Prims.{OnlyAsks, SetsState, ChangesText, ConcernsHandlers, manner_of}
 use Rattle.plain_machine.specs.Exchanges.{Ask, Answer, Started, Sent, Broken, Closed, Killed, Bytes, End, Code, Signal, Running, Exchange}
-use Rattle.plain_machine.specs.State.{State, hooks_of, Program, Process, Status, Runs, Exited, Signalled, Lost, process, change_process}
+use Rattle.plain_machine.specs.State.{State, hooks_of, Program, Process, Status, Runs, Exited, Signalled, Lost, process, change_process, read_so_far}
 use Rattle.plain_machine.specs.Lines.{Kind, KilledLast, OfBefore, OfAfter, OfFilter, OfSentinel}
-use Rattle.plain_machine.specs.Items.{Item, Top, Body, DoForm, MakeCall, Leave, GiveAnswer, Refuse, MakeChange, Hooks, Calm, CommitChange, Enter, Native, Called, Exit, Wait, Delete, Finish, WriteDump, Target, Nowhere, ToName, ToNative, Kept, KeptExcursion, KeptRestriction, KeptBuffer, KeptInhibition, Waiting, Config, Said, Next, Step, Goes, Asks, Ended}
-use Rattle.plain_machine.specs.Calls.{silent, on, answered, unless, call, process_effect, spawned, started, is_new_child, sent_answer, closed_answer, with_input_closed, with_filter, with_sentinel, of_buffer, process_buffer, send, send_eof, change_call, with_editor, call_by, spawned_child, unless_fault}
+use Rattle.plain_machine.specs.Items.{Item, Top, Body, DoForm, MakeCall, Leave, GiveAnswer, Refuse, MakeChange, Hooks, Calm, CommitChange, Enter, Native, Called, Exit, Wait, Delete, Finish, WriteDump, Target, Nowhere, ToName, ToNative, Kept, KeptExcursion, KeptRestriction, KeptBuffer, KeptInhibition, Waiting, Config, Said, Next, Step, Goes, Asks, Ended, KeptLifting}
+use Rattle.plain_machine.specs.Calls.{silent, on, answered, unless, call, process_effect, spawned, started, is_new_child, sent_answer, closed_answer, with_input_closed, with_filter, with_sentinel, of_buffer, process_buffer, send, send_eof, change_call, with_editor, call_by, spawned_child, unless_fault, with_coding}
 use Rattle.plain_machine.specs.Refusals.{process_tests, may_ask, must_be_replaceable, must_be_process, must_be_process_or_nil, process_there, must_nest, only_where, is_rounds, rounds_of, most_rounds}
-use Rattle.plain_machine.specs.Arguments.{process_of, filter_of, sentinel_of, child_of, is_closed, is_running, encoded, handler_def, running_in, runs}
+use Rattle.plain_machine.specs.Arguments.{process_of, filter_of, sentinel_of, child_of, is_closed, is_running, encoded, handler_def, running_in, runs, coding_of}
 use Rattle.plain_machine.specs.Forms.{dropped, restored, pop, put_back, with_saved, saved_of, if_live, evaluate, do_form, block, assigned, scope_of, give, kept_reply, commit_change, at_kept, popped, bracket, current, says, after_commit, call_with, when_eq}
 use Rattle.plain_machine.specs.Handling.{mark_of_process, second, sentinel_words, plain_text, bound_params, unlisted, body_of, default_handler, put_in, output_in, process_buffer_of, native, left_state, ended_handler, without_hooks_item, named_body, native_next}
 use Rattle.plain_machine.specs.Waits.{ask_process, asked_more, read_answer, end_answer, drain, is_room, entry_of, counts, more_characters, exit_text, target_is_eligible, from_eligible, eligible, delete, kill_answer, ends, kill_at_end, finish, wait, ask_if, ask_next, delete_one, delete_running, hear, kill_live, wait_case, finish_one, finish_running}
@@ -49,6 +49,7 @@ restored_deep KeptExcursion s = pop_deep s
 restored_deep KeptRestriction s = pop_deep s
 restored_deep (KeptBuffer b) s = live_deep s b _ refl
 restored_deep (KeptInhibition old) s = refl
+restored_deep (KeptLifting old) s = refl
 
 assigned_deep : (name : ℕ) (v : Value) (s : State) → (assigned name v s).depth ≡ s.depth
 assigned_deep name v s = (elim (register (scope_of s) name) as (λ o. let k : State = elim o [ Some old ↦ record s { scopes = with_register name v (scope_of s) ∷ drop 1 s.scopes } | None ↦ record s { editor = record s.editor { registers = with_register name v s.editor.registers } } ] in k.depth ≡ s.depth) [ Some old ↦ refl | None ↦ refl ])
@@ -128,6 +129,7 @@ fits_true bound i d (Leave (KeptInhibition old) ∷ work) h = (room_true bound i
 fits_true bound i d (Leave KeptExcursion ∷ work) h = (room_true bound i d h.0, tt, fits_true bound i d work h.2)
 fits_true bound i d (Leave KeptRestriction ∷ work) h = (room_true bound i d h.0, tt, fits_true bound i d work h.2)
 fits_true bound i d (Leave (KeptBuffer b) ∷ work) h = (room_true bound i d h.0, tt, fits_true bound i d work h.2)
+fits_true bound i d (Leave (KeptLifting old) ∷ work) h = (room_true bound i d h.0, tt, fits_true bound i d work h.2)
 fits_true bound i d (Exit kind handler c faulted ∷ work) h = (room_true bound i d h.0, tt, fits_true bound i (d - 1) work h.2)
 fits_true bound i d (item ∷ work) h = (room_true bound i d h.0, h.1, fits_true bound i d work h.2)
 
@@ -233,6 +235,7 @@ module _ (program : Program) (bound : ℕ) where
     body_does SaveExcursion forms = whole (q, tt, (q, tt, r))
     body_does SaveRestriction forms = whole (q, tt, (q, tt, r))
     body_does SaveCurrentBuffer forms = whole (q, tt, (q, tt, r))
+    body_does InhibitReadOnly forms = whole (q, tt, (q, tt, r))
     body_does InhibitHooks forms = let t : Room bound true s.depth = room_true bound s.inhibited s.depth q in whole (t, tt, (t, tt, r))
 
     evaluated_does : (o : Option (List Value)) (prim : Prim) (target : Target) → Does (call_with o prim target s rest)
@@ -266,13 +269,13 @@ module _ (program : Program) (bound : ℕ) where
     read_does w target p x l = go
       where
         last : (y : Next) → drain s w target rest p x ≡ Some y → Good y.config
-        last y e = given _ y (entry_does (change_process p (λ y. record y { drained = true }) (asked_more s)) p x (more_characters (characters x.bytes) (all_characters x.bytes)) (Wait w target ∷ rest)
+        last y e = given _ y (entry_does (change_process p (λ y. record y { drained = true }) (asked_more s)) p x (more_characters (decoded x.coding (read_so_far x)) (all_decoded x.coding (read_so_far x))) (Wait w target ∷ rest)
             (change_same p (λ y. record y { drained = true }) (asked_more s)) (change_deep p (λ y. record y { drained = true }) (asked_more s)) l (q, l, r)) e
 
         heard : (bytes : List ℕ) (b : Bool) (y : Next) → hear b s w target rest p x bytes ≡ Some y → Good y.config
         heard bytes false y e = cc
-        heard bytes true y e = given _ y (entry_does (change_process p (λ y. record y { bytes = x.bytes ++ bytes }) (asked_more s)) p x (more_characters (characters x.bytes) (characters (x.bytes ++ bytes))) (Wait (record w { counted = w.counted || counts w p }) target ∷ rest)
-            (change_same p (λ y. record y { bytes = x.bytes ++ bytes }) (asked_more s)) (change_deep p (λ y. record y { bytes = x.bytes ++ bytes }) (asked_more s)) l (q, l, r)) e
+        heard bytes true y e = given _ y (entry_does (change_process p (λ y. record y { bytes = Some (read_so_far x ++ bytes) }) (asked_more s)) p x (more_characters (decoded x.coding (read_so_far x)) (decoded x.coding (read_so_far x ++ bytes))) (Wait (record w { counted = w.counted || counts w p }) target ∷ rest)
+            (change_same p (λ y. record y { bytes = Some (read_so_far x ++ bytes) }) (asked_more s)) (change_deep p (λ y. record y { bytes = Some (read_so_far x ++ bytes) }) (asked_more s)) l (q, l, r)) e
 
         go : (answer : Answer) (y : Next) → read_answer s w target rest p x answer ≡ Some y → Good y.config
         go (Bytes bytes) y e = heard bytes (is_room bytes) y e
@@ -371,6 +374,7 @@ module _ (program : Program) (bound : ℕ) where
     effect_does target SetProcessFilter args h = at s.inhibited s.depth _ _ (change_same (process_of s (arg args 0)) (with_filter (filter_of (arg args 1))) s) (change_deep (process_of s (arg args 0)) (with_filter (filter_of (arg args 1))) s) (q, tt, r)
     effect_does target SetProcessSentinel args h = at s.inhibited s.depth _ _ (change_same (process_of s (arg args 0)) (with_sentinel (sentinel_of (arg args 1))) s) (change_deep (process_of s (arg args 0)) (with_sentinel (sentinel_of (arg args 1))) s) (q, tt, r)
     effect_does target SetProcessBuffer args h = at s.inhibited s.depth _ _ (change_same (process_of s (arg args 0)) (of_buffer (process_buffer s.editor (arg args 1))) s) (change_deep (process_of s (arg args 0)) (of_buffer (process_buffer s.editor (arg args 1))) s) (q, tt, r)
+    effect_does target SetProcessCodingSystem args h = at s.inhibited s.depth _ _ (change_same (process_of s (arg args 0)) (with_coding (coding_of (arg args 1))) s) (change_deep (process_of s (arg args 0)) (with_coding (coding_of (arg args 1))) s) (q, tt, r)
     effect_does target ProcessSendEof args h = eof_does target (process_of s (arg args 0)) (is_closed s (process_of s (arg args 0)))
     effect_does target ProcessSendString args h = send_does target (child_of s (process_of s (arg args 0))) (encoded (string_of (arg args 1)))
     effect_does target prim args h = whole (q, tt, r)

@@ -8,7 +8,7 @@ use Rattle.std.specs.List.{enumerate_from}
 use Rattle.std.proofs.lemmas.Option.{slice_get_within}
 use Rattle.text_model.specs.Marks.{Saved, Excursion, Restriction, Pending}
 use Rattle.text_model.specs.Properties.{Cell}
-use Rattle.editor_model.specs.Values.{Value, Nil, T, Int, ExchangesSpent, VoidVariable, ArgsOutOfRange, WrongType, at_place, Reply, Answered, Fault, Prim, StartProcess, KillBuffer, SetProcessFilter, SetProcessSentinel, SetProcessBuffer, ProcessSendString, ProcessSendEof, DeleteProcess, AcceptProcessOutput, Form, Forms, NoForms, Then, Do, Setq, In, WhenEq, Block, SaveExcursion, SaveRestriction, SaveCurrentBuffer, InhibitHooks, HandlerDef, equal}
+use Rattle.editor_model.specs.Values.{Value, Nil, T, Int, ExchangesSpent, VoidVariable, ArgsOutOfRange, WrongType, at_place, Reply, Answered, Fault, Prim, StartProcess, KillBuffer, SetProcessFilter, SetProcessSentinel, SetProcessBuffer, SetProcessCodingSystem, ProcessSendString, ProcessSendEof, DeleteProcess, AcceptProcessOutput, Form, Forms, NoForms, Then, Do, Setq, In, WhenEq, Block, SaveExcursion, SaveRestriction, SaveCurrentBuffer, InhibitHooks, HandlerDef, equal, InhibitReadOnly}
 use Rattle.editor_model.specs.Editor.{register, with_register, is_live, killed}
 use Rattle.editor_model.specs.Arguments.{arg, string_of, buffer_of}
 use Rattle.editor_model.specs.Answers.{Test, refuse, first_fault}
@@ -17,11 +17,11 @@ use Rattle.editor_model.specs.Table.{Change, Commit, query, apply, prepare, Prep
 use Rattle.editor_model.specs.Prims.{OnlyAsks, SetsState, ChangesText, ConcernsHandlers, manner_of}
 use Rattle.plain_machine.specs.State.{State, hooks_of, Program, Process, Status, Runs, process, change_process}
 use Rattle.plain_machine.specs.Lines.{Kind, OfBefore, OfAfter, OfFilter, OfSentinel}
-use Rattle.plain_machine.specs.Items.{Item, Top, Body, DoForm, MakeCall, Leave, GiveAnswer, Refuse, MakeChange, Hooks, Calm, CommitChange, Enter, Native, Called, Exit, Wait, Delete, Finish, WriteDump, Target, Nowhere, ToName, ToNative, Kept, KeptExcursion, KeptRestriction, KeptBuffer, KeptInhibition, Waiting, Config, Step, Goes, Asks, Ended}
-use Rattle.plain_machine.specs.Calls.{on, answered, unless, call, process_effect, waiting, with_filter, with_sentinel, of_buffer, process_buffer, send, send_eof, change_call, with_editor, call_by, unless_fault}
+use Rattle.plain_machine.specs.Items.{Item, Top, Body, DoForm, MakeCall, Leave, GiveAnswer, Refuse, MakeChange, Hooks, Calm, CommitChange, Enter, Native, Called, Exit, Wait, Delete, Finish, WriteDump, Target, Nowhere, ToName, ToNative, Kept, KeptExcursion, KeptRestriction, KeptBuffer, KeptInhibition, Waiting, Config, Step, Goes, Asks, Ended, KeptLifting}
+use Rattle.plain_machine.specs.Calls.{on, answered, unless, call, process_effect, waiting, with_filter, with_sentinel, of_buffer, process_buffer, send, send_eof, change_call, with_editor, call_by, unless_fault, with_coding}
 use Rattle.plain_machine.specs.Refusals.{process_tests, may_ask, must_be_replaceable, must_be_process_or_nil, process_there, must_nest, is_rounds, rounds_of, most_rounds}
-use Rattle.plain_machine.specs.Arguments.{process_of, filter_of, sentinel_of, child_of, is_closed, encoded, handler_def, native_from, running_in, runs, stands_in}
-use Rattle.plain_machine.specs.Forms.{dropped, restored, pop, put_back, with_saved, saved_of, if_live, evaluate, do_form, block, assigned, scope_of, give, kept_reply, commit_change, at_kept, popped, bracket, current, after_commit, call_with, when_eq}
+use Rattle.plain_machine.specs.Arguments.{process_of, filter_of, sentinel_of, child_of, is_closed, encoded, handler_def, native_from, running_in, runs, stands_in, coding_of}
+use Rattle.plain_machine.specs.Forms.{dropped, restored, pop, put_back, with_saved, saved_of, if_live, evaluate, do_form, block, assigned, scope_of, give, kept_reply, commit_change, at_kept, popped, bracket, current, after_commit, call_with, when_eq, lifting}
 use Rattle.plain_machine.specs.Handling.{mark_of_process, second, sentinel_words, plain_text, bound_params, unlisted, body_of, default_handler, put_in, output_in, process_buffer_of, native, left_state, ended_handler, without_hooks_item, named_body, native_next}
 use Rattle.plain_machine.specs.Waits.{ask_process, target_is_eligible, from_eligible, eligible, delete, ends, kill_at_end, finish, wait, ask_if, ask_next, delete_one, delete_running, finish_one, finish_running, wait_case, kill_live}
 use Rattle.plain_machine.specs.Step.{item_step}
@@ -47,6 +47,7 @@ restored_same KeptExcursion s = pop_same s
 restored_same KeptRestriction s = pop_same s
 restored_same (KeptBuffer b) s = live_same s b _ refl
 restored_same (KeptInhibition old) s = refl
+restored_same (KeptLifting old) s = refl
 
 pub assigned_same : (name : ℕ) (v : Value) (s : State) → (assigned name v s).inhibited ≡ s.inhibited
 assigned_same name v s = (elim (register (scope_of s) name) as (λ o. let k : State = elim o [ Some old ↦ record s { scopes = with_register name v (scope_of s) ∷ drop 1 s.scopes } | None ↦ record s { editor = record s.editor { registers = with_register name v s.editor.registers } } ] in k.inhibited ≡ s.inhibited) [ Some old ↦ refl | None ↦ refl ])
@@ -209,6 +210,7 @@ module _ (program : Program) (n : ℕ) where
   effect_falls bound s target rest SetProcessFilter args same h = one s rest SetProcessFilter args target (change_process (process_of s (arg args 0)) (with_filter (filter_of (arg args 1))) s) (GiveAnswer (arg args 1) target) (change_same (process_of s (arg args 0)) (with_filter (filter_of (arg args 1))) s) tt (omega arith)
   effect_falls bound s target rest SetProcessSentinel args same h = one s rest SetProcessSentinel args target (change_process (process_of s (arg args 0)) (with_sentinel (sentinel_of (arg args 1))) s) (GiveAnswer (arg args 1) target) (change_same (process_of s (arg args 0)) (with_sentinel (sentinel_of (arg args 1))) s) tt (omega arith)
   effect_falls bound s target rest SetProcessBuffer args same h = one s rest SetProcessBuffer args target (change_process (process_of s (arg args 0)) (of_buffer (process_buffer s.editor (arg args 1))) s) (GiveAnswer (arg args 1) target) (change_same (process_of s (arg args 0)) (of_buffer (process_buffer s.editor (arg args 1))) s) tt (omega arith)
+  effect_falls bound s target rest SetProcessCodingSystem args same h = one s rest SetProcessCodingSystem args target (change_process (process_of s (arg args 0)) (with_coding (coding_of (arg args 1))) s) (GiveAnswer (arg args 1) target) (change_same (process_of s (arg args 0)) (with_coding (coding_of (arg args 1))) s) tt (omega arith)
   effect_falls bound s target rest ProcessSendEof args same h = eof_falls s rest ProcessSendEof args target (process_of s (arg args 0)) (is_closed s (process_of s (arg args 0)))
   effect_falls bound s target rest ProcessSendString args same h = send_falls s rest ProcessSendString args target (child_of s (process_of s (arg args 0))) (encoded (string_of (arg args 1)))
   effect_falls bound s target rest DeleteProcess args same h = down s.inhibited (MakeCall DeleteProcess args target) (Delete (process_of s (arg args 0)) ∷ GiveAnswer Nil target ∷ []) rest s refl tt (tt, (tt, tt)) (omega arith)
@@ -238,6 +240,7 @@ module _ (program : Program) (n : ℕ) where
   block_falls SaveExcursion forms s rest = down s.inhibited (DoForm (In SaveExcursion forms)) (Body forms ∷ Leave KeptExcursion ∷ []) rest s refl tt (tt, (tt, tt)) (omega arith)
   block_falls SaveRestriction forms s rest = down s.inhibited (DoForm (In SaveRestriction forms)) (Body forms ∷ Leave KeptRestriction ∷ []) rest s refl tt (tt, (tt, tt)) (omega arith)
   block_falls SaveCurrentBuffer forms s rest = down s.inhibited (DoForm (In SaveCurrentBuffer forms)) (Body forms ∷ Leave (KeptBuffer s.editor.current) ∷ []) rest s refl tt (tt, (tt, tt)) (omega arith)
+  block_falls InhibitReadOnly forms s rest = down s.inhibited (DoForm (In InhibitReadOnly forms)) (Body forms ∷ Leave (KeptLifting s.editor.lifted) ∷ []) rest (lifting true s) refl tt (tt, (tt, tt)) (omega arith)
   block_falls InhibitHooks forms s rest = go s.inhibited
     where
       go : (i : Bool) → Below (weight program n true (Body forms ∷ Leave (KeptInhibition i) ∷ rest)) (weight program n i (DoForm (In InhibitHooks forms) ∷ rest))

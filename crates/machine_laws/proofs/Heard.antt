@@ -2,21 +2,21 @@
 use Rattle.std.proofs.Common.{◌≡◌, ℕ, true, false, List, [], ◌∷◌, ◌++◌, refl, ap, sym, ◌∙◌, append_assoc}
 use Rattle.std.proofs.lemmas.List.{append-nil}
 use Rattle.std.specs.Prelude.{Option, Some, if◌then◌else◌}
-use Rattle.text_model.specs.Decoding.{characters, all_characters}
+use Rattle.text_model.specs.Codings.{decoded, all_decoded}
 use Rattle.editor_model.specs.Values.{Script}
 use Rattle.plain_machine.specs.Exchanges.{Ask, AskEnd, Answer, Exchange}
-use Rattle.plain_machine.specs.State.{Program}
+use Rattle.plain_machine.specs.State.{Program, Process, read_so_far}
 use Rattle.plain_machine.specs.Lines.{OfFilter, OfSentinel, OfBefore, OfAfter}
 use Rattle.plain_machine.specs.Items.{Item, Enter, Said, Config, Next, Goes, Asks}
 use Rattle.plain_machine.specs.Step.{step}
 use Rattle.plain_machine.specs.Run.{Reaches, start}
-use Rattle.machine_laws.specs.Entries.{entered, output_ended, is_entry, has_entry, Entries, Sentinels, EndsAfterOutput}
+use Rattle.machine_laws.specs.Entries.{entered, heard, read, output_ended, is_entry, has_entry, Entries, Sentinels, EndsAfterOutput}
 use Rattle.plain_machine.specs.WholeRuns.{IsBetweenEntries}
 use Rattle.plain_machine.proofs.Composed.{over_runs}
-use Rattle.machine_laws.proofs.Keeping.{core, cores}
+use Rattle.machine_laws.proofs.Keeping.{core, cores, fixed}
 use Rattle.machine_laws.proofs.Moves.{Valid, coming, phase}
-use Rattle.machine_laws.proofs.Steps.{Made, get_cores, goes_moves, asks_moves}
-use Rattle.machine_laws.proofs.Traced.{to_enter, decoded, HoldsAt, Ordered, EndsAfter, Traced, moves_traced}
+use Rattle.machine_laws.proofs.Steps.{Made, get_cores, may_have, goes_moves, asks_moves}
+use Rattle.machine_laws.proofs.Traced.{to_enter, heard_of, same_decoded, HoldsAt, Ordered, EndsAfter, Traced, moves_traced}
 
 -- what is carried over a run
 abbrev pub Carried : List Exchange → List Said → Config → Type 0
@@ -67,8 +67,9 @@ pub entries : (program : Program) (bound : ℕ) (script : Script) → Entries pr
 entries program bound script xs said c r between p x g =
     let i : Carried xs said c = carried program bound script xs said c r in
     let h : HoldsAt xs said (coming c.work) p (core x) = i.0.each p (core x) (get_cores c.state.processes p x g) in
-    let t : entered p said ≡ decoded (core x) = sym (append-nil (entered p said)) ∙ (ap (λ t. entered p said ++ t) (sym (no_text p c between)) ∙ h.text) in
-    t ∙ (λ i. if h.drained i then all_characters (h.bytes i) else characters (h.bytes i))
+    let t : entered p said ≡ heard_of (core x) = sym (append-nil (entered p said)) ∙ (ap (λ t. entered p said ++ t) (sym (no_text p c between)) ∙ h.text) in
+    let same = same_decoded x.bytes (fixed x.bytes x.coding) x.coding (may_have x.bytes x.coding) in
+    t ∙ (λ i. if x.drained then same.1 i else same.0 i) ∙ (λ i. if h.drained i then all_decoded x.coding (h.bytes i) else decoded x.coding (h.bytes i))
 
 -- SENTINELS
 ordered_at : (p : ℕ) (before after : List Said) (x : Said) → Ordered p (before ++ x ∷ after) → is_entry true p x.event ≡ true → (has_entry true p after ≡ false) × (has_entry false p after ≡ false)

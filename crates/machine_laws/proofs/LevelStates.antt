@@ -8,13 +8,14 @@ use Rattle.editor_model.specs.Values.{Value}
 use Rattle.editor_model.specs.Editor.{Editor, is_live, register, with_register, with_buffer}
 use Rattle.editor_model.specs.Arguments.{name_of}
 use Rattle.plain_machine.specs.State.{State, Scope, Process, process, change_process}
-use Rattle.plain_machine.specs.Items.{Item, Leave, Kept, KeptExcursion, KeptRestriction, KeptBuffer, KeptInhibition}
+use Rattle.plain_machine.specs.Items.{Item, Leave, Kept, KeptExcursion, KeptRestriction, KeptBuffer, KeptInhibition, KeptLifting}
 use Rattle.plain_machine.specs.Arguments.{is_new_name}
 use Rattle.plain_machine.specs.Calls.{with_editor, with_process_buffer, started}
 use Rattle.plain_machine.specs.Forms.{with_saved, saved_of, if_live, current, in_buffer, put_back, pop, popped, restored, assigned, scope_of}
 use Rattle.plain_machine.specs.Handling.{left_state}
 use Rattle.machine_laws.specs.Brackets.{Levels, levels, shapes}
 use Rattle.machine_laws.proofs.Advancing.{site_shapes}
+use Rattle.machine_laws.proofs.Lifted.{buffer_lifted}
 
 -- what stands behind a handler, behind a place that is taken back, behind a block
 abbrev pub behind_handler : Levels → Levels
@@ -28,10 +29,11 @@ behind_block KeptExcursion l = behind_place l
 behind_block KeptRestriction l = behind_place l
 behind_block (KeptBuffer b) l = l
 behind_block (KeptInhibition old) l = record l { inhibited = old }
+behind_block (KeptLifting old) l = record l { lifted = old }
 
 -- EDITORS
-pub editor_levels : (s : State) (e : Editor) → shapes e.marks.saved ≡ shapes s.editor.marks.saved → levels (with_editor e s) ≡ levels s
-editor_levels s e q = ap (λ (ks : List (ℕ × ℕ)). record (levels s) { kept = ks }) q
+pub editor_levels : (s : State) (e : Editor) → shapes e.marks.saved ≡ shapes s.editor.marks.saved → e.lifted ≡ s.editor.lifted → levels (with_editor e s) ≡ levels s
+editor_levels s e q l = λ i. record (levels s) { kept = q i; lifted = l i }
 
 pub inhibited_levels : (s : State) (b : Bool) → s.inhibited ≡ b → record (levels s) { inhibited = b } ≡ levels s
 inhibited_levels s b q = ap (λ (b : Bool). record (levels s) { inhibited = b }) (sym q)
@@ -47,7 +49,7 @@ live_levels s b t h = go (is_live s.editor b)
     go false = refl
 
 bounds_levels : (b : ℕ) (f : Buffer → Buffer) (s : State) → Same s (in_buffer b f s)
-bounds_levels b f s = editor_levels s (in_buffer b f s).editor (site_shapes b (λ site. record site { buffer = f site.buffer }) s.editor (λ l q. refl))
+bounds_levels b f s = editor_levels s (in_buffer b f s).editor (site_shapes b (λ site. record site { buffer = f site.buffer }) s.editor (λ l q. refl)) (buffer_lifted b f s.editor)
 
 put_back_levels : (k : Saved) (s : State) → Same s (put_back k s)
 put_back_levels (Excursion b p) s = live_levels s b _ (bounds_levels b _ s)
@@ -74,6 +76,7 @@ restored_levels KeptExcursion s = pop_levels s
 restored_levels KeptRestriction s = pop_levels s
 restored_levels (KeptBuffer b) s = live_levels s b (current b s) refl
 restored_levels (KeptInhibition old) s = refl
+restored_levels (KeptLifting old) s = refl
 
 -- NAMES, PROCESSES, HANDLERS
 pub assigned_levels : (name : ℕ) (v : Value) (s : State) → Same s (assigned name v s)
@@ -99,6 +102,7 @@ change_levels p f s = go (process s p)
 
 pub started_levels : (s : State) (name b : Value) (child : ℕ) → Same s (started s name b child)
 started_levels s name b child = editor_levels s (started s name b child).editor (by_test (λ (e : Editor). shapes e.marks.saved ≡ shapes s.editor.marks.saved) (is_new_name s.editor b) (with_buffer (name_of b) s.editor) s.editor (λ q. refl) (λ q. refl))
+    (by_test (λ (e : Editor). e.lifted ≡ s.editor.lifted) (is_new_name s.editor b) (with_buffer (name_of b) s.editor) s.editor (λ q. refl) (λ q. refl))
 
 fewer_scopes : (xs : List Scope) → length (drop 1 xs) ≡ length xs - 1
 fewer_scopes [] = refl
@@ -110,8 +114,8 @@ left_levels s c =
     ap (λ (n : ℕ). record (levels s) { depth = s.depth - 1; scopes = n }) (fewer_scopes s.scopes)
 
 -- a handler entered and left again
-pub entered_levels : (s t : State) → t.depth ≡ s.depth + 1 → length t.scopes ≡ suc (length s.scopes) → t.inhibited ≡ s.inhibited → shapes t.editor.marks.saved ≡ shapes s.editor.marks.saved → behind_handler (levels t) ≡ levels s
-entered_levels s t d n i k =
+pub entered_levels : (s t : State) → t.depth ≡ s.depth + 1 → length t.scopes ≡ suc (length s.scopes) → t.inhibited ≡ s.inhibited → t.editor.lifted ≡ s.editor.lifted → shapes t.editor.marks.saved ≡ shapes s.editor.marks.saved → behind_handler (levels t) ≡ levels s
+entered_levels s t d n i l k =
     let a : t.depth - 1 ≡ s.depth = omega arith in
     let b : length t.scopes - 1 ≡ length s.scopes = omega arith in
-    λ j. record { depth = a j; scopes = b j; inhibited = i j; kept = k j }
+    λ j. record { depth = a j; scopes = b j; inhibited = i j; lifted = l j; kept = k j }

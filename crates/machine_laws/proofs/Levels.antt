@@ -4,7 +4,7 @@ use Rattle.std.specs.Prelude.{pos, Option, Some, None, nat_lt, codes, unwrap_or}
 use Rattle.text_model.specs.Characters.{Ch}
 use Rattle.text_model.specs.Marks.{Pending}
 use Rattle.text_model.specs.Properties.{Cell}
-use Rattle.editor_model.specs.Values.{Value, Nil, T, Int, ExchangesSpent, VoidVariable, WrongType, at_place, Reply, Answered, Fault, Prim, AddHook, RemoveHook, KillBuffer, StartProcess, SetProcessFilter, SetProcessSentinel, SetProcessBuffer, ProcessSendString, ProcessSendEof, DeleteProcess, AcceptProcessOutput, Form, Forms, NoForms, Then, Do, Setq, In, WhenEq, Block, SaveExcursion, SaveRestriction, SaveCurrentBuffer, InhibitHooks, HandlerDef, equal}
+use Rattle.editor_model.specs.Values.{Value, Nil, T, Int, ExchangesSpent, VoidVariable, WrongType, at_place, Reply, Answered, Fault, Prim, AddHook, RemoveHook, KillBuffer, StartProcess, SetProcessFilter, SetProcessSentinel, SetProcessBuffer, SetProcessCodingSystem, ProcessSendString, ProcessSendEof, DeleteProcess, AcceptProcessOutput, Form, Forms, NoForms, Then, Do, Setq, In, WhenEq, Block, SaveExcursion, SaveRestriction, SaveCurrentBuffer, InhibitHooks, HandlerDef, equal, InhibitReadOnly}
 use Rattle.editor_model.specs.Editor.{Editor, is_live, killed}
 use Rattle.editor_model.specs.Arguments.{arg, string_of, buffer_of}
 use Rattle.editor_model.specs.Answers.{Test, first_fault}
@@ -12,12 +12,12 @@ use Rattle.editor_model.specs.TextCalls.{prepare_output}
 use Rattle.editor_model.specs.Table.{Change, Commit, Committed, query, apply, prepare, Prepared, Changes, Quiet, Nothing, Barred, Done, Failed, commit}
 use Rattle.editor_model.specs.Prims.{OnlyAsks, SetsState, ChangesText, ConcernsHandlers, manner_of}
 use Rattle.plain_machine.specs.Exchanges.{Answer, Started, Sent, Broken, Closed, Killed, Bytes, End, Code, Signal, Running}
-use Rattle.plain_machine.specs.State.{State, hooks_of, Program, Process, Status, Runs, Exited, Signalled, Lost, process, change_process}
+use Rattle.plain_machine.specs.State.{State, hooks_of, Program, Process, Status, Runs, Exited, Signalled, Lost, process, change_process, read_so_far}
 use Rattle.plain_machine.specs.Lines.{Kind, KilledLast, OfBefore, OfAfter, OfFilter, OfSentinel}
-use Rattle.plain_machine.specs.Items.{Item, Top, Body, DoForm, MakeCall, Leave, GiveAnswer, Refuse, MakeChange, Hooks, Calm, CommitChange, Enter, Native, Called, Exit, Wait, Delete, Finish, WriteDump, Target, Nowhere, ToName, ToNative, KeptExcursion, KeptRestriction, KeptBuffer, KeptInhibition, Waiting, Config, Next, Step, Goes, Asks, Ended}
-use Rattle.plain_machine.specs.Calls.{on, answered, unless, call, process_effect, spawned, spawned_child, is_new_child, started, sent_answer, closed_answer, with_input_closed, with_filter, with_sentinel, of_buffer, process_buffer, send, send_eof, change_call, with_editor, call_by, unless_fault}
+use Rattle.plain_machine.specs.Items.{Item, Top, Body, DoForm, MakeCall, Leave, GiveAnswer, Refuse, MakeChange, Hooks, Calm, CommitChange, Enter, Native, Called, Exit, Wait, Delete, Finish, WriteDump, Target, Nowhere, ToName, ToNative, KeptExcursion, KeptRestriction, KeptBuffer, KeptInhibition, Waiting, Config, Next, Step, Goes, Asks, Ended, KeptLifting}
+use Rattle.plain_machine.specs.Calls.{on, answered, unless, call, process_effect, spawned, spawned_child, is_new_child, started, sent_answer, closed_answer, with_input_closed, with_filter, with_sentinel, of_buffer, process_buffer, send, send_eof, change_call, with_editor, call_by, unless_fault, with_coding}
 use Rattle.plain_machine.specs.Refusals.{process_tests, may_ask, must_be_replaceable}
-use Rattle.plain_machine.specs.Arguments.{process_of, filter_of, sentinel_of, child_of, is_closed, encoded, handler_def, native_from, running_in}
+use Rattle.plain_machine.specs.Arguments.{process_of, filter_of, sentinel_of, child_of, is_closed, encoded, handler_def, native_from, running_in, coding_of}
 use Rattle.plain_machine.specs.Hooks.{before_change_functions, after_change_functions, set_hook_list}
 use Rattle.plain_machine.specs.Natives.{is_callable, normal}
 use Rattle.plain_machine.specs.Forms.{with_saved, saved_of, dropped, restored, evaluate, do_form, block, assigned, kept_reply, give, make_change, commit_change, at_kept, popped, bracket, current, says, after_commit, call_with, when_eq, opened, kept_of}
@@ -32,6 +32,7 @@ use Rattle.machine_laws.proofs.Committing.{commit_steady, prepare_fine, FinePrep
 use Rattle.machine_laws.proofs.Settling.{killed_steady}
 use Rattle.machine_laws.proofs.Working.{kinds}
 use Rattle.machine_laws.proofs.Stepping.{kept_change}
+use Rattle.machine_laws.proofs.Lifted.{apply_lifted, commit_lifted, killed_lifted}
 use Rattle.machine_laws.proofs.LevelStates.{behind_handler, behind_place, behind_block, editor_levels, inhibited_levels, live_levels, popped_levels, restored_levels, assigned_levels, change_levels, started_levels, left_levels, entered_levels}
 
 -- WORK
@@ -156,7 +157,7 @@ module _ (base : Levels) (floor : Floor) where
 
       change_call_stays : (target : Target) (p : Prepared) → GoodEditor s.editor → FinePrepared s.editor p → StepStays (change_call s target rest p)
       change_call_stays target (Changes c) g f = same s (MakeChange c ∷ GiveAnswer c.reply target ∷ front) refl u (d, (d, b))
-      change_call_stays target (Quiet c) g f = same (with_editor (commit s.editor c).editor s) (GiveAnswer c.reply target ∷ front) (editor_levels s (commit s.editor c).editor (commit_steady s.editor c g (λ q. f.fine)).same_shapes) u (d, b)
+      change_call_stays target (Quiet c) g f = same (with_editor (commit s.editor c).editor s) (GiveAnswer c.reply target ∷ front) (editor_levels s (commit s.editor c).editor (commit_steady s.editor c g (λ q. f.fine)).same_shapes (commit_lifted s.editor c)) u (d, b)
       change_call_stays target (Nothing v) g f = same s (GiveAnswer v target ∷ front) refl u (d, b)
       change_call_stays target (Barred y) g f = same s (Refuse y ∷ front) refl u (d, b)
 
@@ -218,6 +219,7 @@ module _ (base : Levels) (floor : Floor) where
       effect_stays target SetProcessFilter args = process_answer (process_of s (arg args 0)) (with_filter (filter_of (arg args 1))) s (arg args 1) target refl
       effect_stays target SetProcessSentinel args = process_answer (process_of s (arg args 0)) (with_sentinel (sentinel_of (arg args 1))) s (arg args 1) target refl
       effect_stays target SetProcessBuffer args = process_answer (process_of s (arg args 0)) (of_buffer (process_buffer s.editor (arg args 1))) s (arg args 1) target refl
+      effect_stays target SetProcessCodingSystem args = process_answer (process_of s (arg args 0)) (with_coding (coding_of (arg args 1))) s (arg args 1) target refl
       effect_stays target ProcessSendString args = send_stays target (child_of s (process_of s (arg args 0))) (encoded (string_of (arg args 1)))
       effect_stays target ProcessSendEof args = eof_stays target (process_of s (arg args 0)) (is_closed s (process_of s (arg args 0)))
       effect_stays target DeleteProcess args = same s (Delete (process_of s (arg args 0)) ∷ GiveAnswer Nil target ∷ front) refl u (d, (d, b))
@@ -228,7 +230,7 @@ module _ (base : Levels) (floor : Floor) where
       call_stays program bound target prim args g =
           (elim (manner_of prim) as (λ m. StepStays (call_by m program bound s target rest prim args)) [
             | OnlyAsks ↦ answered_stays s target (query s.editor prim args) refl
-            | SetsState ↦ answered_stays (with_editor (apply s.editor prim args).editor s) target (apply s.editor prim args).reply (editor_levels s (apply s.editor prim args).editor (apply_steady s.editor prim args g).same_shapes)
+            | SetsState ↦ answered_stays (with_editor (apply s.editor prim args).editor s) target (apply s.editor prim args).reply (editor_levels s (apply s.editor prim args).editor (apply_steady s.editor prim args g).same_shapes (apply_lifted s.editor prim args))
             | ChangesText ↦ change_call_stays target (prepare s.editor prim args) g (prepare_fine s.editor prim args g)
             | ConcernsHandlers ↦ unless_stays (process_tests program bound s prim args) (process_effect s target rest prim args) (effect_stays target prim args)
           ])
@@ -242,6 +244,7 @@ module _ (base : Levels) (floor : Floor) where
       block_stays SaveExcursion forms = above (Body forms ∷ Leave KeptExcursion ∷ front) faulted refl u (d, (d, b))
       block_stays SaveRestriction forms = above (Body forms ∷ Leave KeptRestriction ∷ front) faulted refl u (d, (d, b))
       block_stays SaveCurrentBuffer forms = above (Body forms ∷ Leave (KeptBuffer s.editor.current) ∷ front) faulted refl u (d, (d, b))
+      block_stays InhibitReadOnly forms = above (Body forms ∷ Leave (KeptLifting s.editor.lifted) ∷ front) faulted refl u (d, (d, b))
       block_stays InhibitHooks forms = above (Body forms ∷ Leave (KeptInhibition s.inhibited) ∷ front) faulted refl u (d, (d, b))
 
       pair_stays : (o : Option (List Value)) (forms : Forms) → StepStays (when_eq o forms s rest)
@@ -287,7 +290,7 @@ module _ (base : Levels) (floor : Floor) where
         where
           go : (fits : Bool) → AnswerStays (hear fits s w target rest p x bytes)
           go false = tt
-          go true = entered_stays _ p x _ _ target (change_levels p (λ y. record y { bytes = x.bytes ++ bytes }) (asked_more s))
+          go true = entered_stays _ p x _ _ target (change_levels p (λ y. record y { bytes = Some (read_so_far x ++ bytes) }) (asked_more s))
       read_stays w target p x Answer.Nothing = same (asked_more s) (Wait w target ∷ front) refl u (d, b)
       read_stays w target p x End = drain_stays w target p x
       read_stays w target p x Answer.Failed = drain_stays w target p x
@@ -348,7 +351,7 @@ module _ (base : Levels) (floor : Floor) where
         where
           go : (v : Bool) → StepStays (kill_live v s n target rest)
           go false = same s (GiveAnswer Nil target ∷ front) refl u (d, b)
-          go true = unless_stays (must_be_replaceable s.editor n ∷ []) (on (with_editor (killed n s.editor) s) (GiveAnswer T target ∷ rest)) (same (with_editor (killed n s.editor) s) (GiveAnswer T target ∷ front) (editor_levels s (killed n s.editor) (killed_steady n s.editor g).same_shapes) u (d, b))
+          go true = unless_stays (must_be_replaceable s.editor n ∷ []) (on (with_editor (killed n s.editor) s) (GiveAnswer T target ∷ rest)) (same (with_editor (killed n s.editor) s) (GiveAnswer T target ∷ front) (editor_levels s (killed n s.editor) (killed_steady n s.editor g).same_shapes (killed_lifted s.editor n)) u (d, b))
 
       -- CHANGES
       change_stays : (c : Change) → StepStays (make_change s c rest)
@@ -388,11 +391,11 @@ module _ (base : Levels) (floor : Floor) where
         default_stays t (OfAfter n) e = above (exit ∷ front) faulted refl (ap (unwound front) e ∙ u) b
 
         named : (o : Option HandlerDef) (n : ℕ) → Above base floor (named_body program (record s { depth = s.depth + 1 }) o n args (exit ∷ rest))
-        named None n = above (Native _ args [] ∷ exit ∷ front) faulted refl (ap (unwound front) (entered_levels s (record s { depth = s.depth + 1; scopes = [] ∷ s.scopes }) refl refl refl refl) ∙ u) (tt, b)
-        named (Some x) n = above (Body x.body ∷ exit ∷ front) faulted refl (ap (unwound front) (entered_levels s (record s { depth = s.depth + 1; scopes = bound_params x.params args ∷ s.scopes }) refl refl refl refl) ∙ u) (tt, b)
+        named None n = above (Native _ args [] ∷ exit ∷ front) faulted refl (ap (unwound front) (entered_levels s (record s { depth = s.depth + 1; scopes = [] ∷ s.scopes }) refl refl refl refl refl) ∙ u) (tt, b)
+        named (Some x) n = above (Body x.body ∷ exit ∷ front) faulted refl (ap (unwound front) (entered_levels s (record s { depth = s.depth + 1; scopes = bound_params x.params args ∷ s.scopes }) refl refl refl refl refl) ∙ u) (tt, b)
 
         go : (o : Option ℕ) → Above base floor (body_of program (record s { depth = s.depth + 1 }) kind o args (exit ∷ rest))
-        go None = default_stays (record s { depth = s.depth + 1; scopes = [] ∷ s.scopes }) kind (entered_levels s (record s { depth = s.depth + 1; scopes = [] ∷ s.scopes }) refl refl refl refl)
+        go None = default_stays (record s { depth = s.depth + 1; scopes = [] ∷ s.scopes }) kind (entered_levels s (record s { depth = s.depth + 1; scopes = [] ∷ s.scopes }) refl refl refl refl refl)
         go (Some n) = named (handler_def program.handlers n) n
 
     exit_stays : (kind : Kind) (x : Bool) (t : State) → unwound front (levels t) ≡ base → Built floor front → Above base floor (ended_handler kind x t rest)
@@ -420,7 +423,7 @@ module _ (base : Levels) (floor : Floor) where
         by_kind : (o : Committed) → StepStays (after_commit done.editor o s c rest)
         by_kind (Failed a) = above (Refuse a ∷ front) faulted refl (ap (unwound front) (popped_levels s) ∙ u) (d, b)
         by_kind (Done from to old) =
-            after_stays s.inhibited _ (OfAfter c.buffer) _ _ (ap (unwound front) (popped_levels (with_editor done.editor s) ∙ ap behind_place (editor_levels s done.editor kept)) ∙ u) refl d b
+            after_stays s.inhibited _ (OfAfter c.buffer) _ _ (ap (unwound front) (popped_levels (with_editor done.editor s) ∙ ap behind_place (editor_levels s done.editor kept (commit_lifted s.editor (at_kept c (saved_of s))))) ∙ u) refl d b
 
     -- THE ENDS OF RUNS
     finish_stays : (program : Program) (p : ℕ) → floor ≡ ground → levels s ≡ base → StepStays (finish program s p)

@@ -18,6 +18,7 @@ pub mod Moves
 pub mod Steps
 pub mod Traced
 pub mod Heard
+pub mod Coded
 pub mod Weights
 pub mod Falling
 pub mod Stopping
@@ -37,6 +38,7 @@ pub mod Tests
 pub mod Basics
 pub mod Bounded
 pub mod Rounds
+pub mod Lifted
 pub mod LevelStates
 pub mod Levels
 pub mod Bracketing

@@ -8,8 +8,8 @@ use Rattle.text_model.specs.Marks.{leave_buffer}
 use Rattle.text_model.specs.Undo.{passed, with_boundary, started, disabled, enabled}
 use Rattle.text_model.specs.Commit.{Buffer, Site, reset, undone_groups}
 use Rattle.text_model.proofs.Cases.{by_test}
-use Rattle.editor_model.specs.Values.{Value, Nil, Int, Str, TheBuffer, TheMarker, Fault, NoSuchBuffer, BufferKilled, Prim, SetBuffer, GetBufferCreate, GenerateNewBuffer, RenameBuffer, SetBufferModifiedP, GotoChar, NarrowToRegion, Widen, MakeMarker, PointMarker, CopyMarker, SetMarker, SetMarkerInsertionType, MakeOverlay, OverlayPut, MoveOverlay, DeleteOverlay, UndoBoundary, UndoStart, BufferDisableUndo, BufferEnableUndo}
-use Rattle.editor_model.specs.Editor.{Editor, Name, Live, live, is_live, find, find_from, live_from, same_name, scratch, with_buffer, renamed, named_as, change_site, change_buffer, killed, free_name, empty_buffer, others, buffer_at}
+use Rattle.editor_model.specs.Values.{Value, Nil, Int, Str, TheBuffer, TheMarker, Fault, NoSuchBuffer, BufferKilled, Prim, SetBuffer, GetBufferCreate, GenerateNewBuffer, RenameBuffer, SetBufferModifiedP, SetBufferReadOnly, GotoChar, NarrowToRegion, Widen, MakeMarker, PointMarker, CopyMarker, SetMarker, SetMarkerInsertionType, MakeOverlay, OverlayPut, MoveOverlay, DeleteOverlay, UndoBoundary, UndoStart, BufferDisableUndo, BufferEnableUndo}
+use Rattle.editor_model.specs.Editor.{Editor, Name, Live, live, is_live, find, find_from, live_from, same_name, scratch, with_buffer, new_live, renamed, protected, named_as, change_site, change_buffer, killed, free_name, empty_buffer, others, buffer_at}
 use Rattle.editor_model.specs.Answers.{Test, first_fault, applied_of, What, Put, Props, UndoGroups, Change}
 use Rattle.editor_model.specs.Arguments.{arg, flag, name_of, buffer_of, buffer_there, must_be_buffer, place, from_of, to_of}
 use Rattle.editor_model.specs.BufferCalls.{found_or_made, get_buffer_create, set_buffer}
@@ -180,12 +180,31 @@ site_here id f e h = record { lives = ap (is_live (change_site id f e)) (site_cu
 pub buffer_here : (id : ℕ) (f : Buffer → Buffer) (e : Editor) → Here e → Here (change_buffer id f e)
 buffer_here id f e h = site_here id (λ site. record site { buffer = f site.buffer }) e h
 
+protected_lives : (id : ℕ) (on : Bool) (e : Editor) (j : ℕ) → is_live (protected id on e) j ≡ is_live e j
+protected_lives id on e j = go (live e id) refl
+  where
+    go : (o : Option Live) → live e id ≡ o → let new : Editor = elim o [ None ↦ e | Some l ↦ record e { buffers = slice_set e.buffers id (Some (record l { read_only = on })) } ] in is_live new j ≡ is_live e j
+    go None q = refl
+    go (Some l) q = set_lives e (record e { buffers = slice_set e.buffers id (Some (record l { read_only = on })) }) id l (record l { read_only = on }) q refl j
+
+-- which buffer is current doesn't change as one is made read-only
+pub protected_current : (id : ℕ) (on : Bool) (e : Editor) → (protected id on e).current ≡ e.current
+protected_current id on e = go (live e id)
+  where
+    go : (o : Option Live) → let new : Editor = elim o [ None ↦ e | Some l ↦ record e { buffers = slice_set e.buffers id (Some (record l { read_only = on })) } ] in new.current ≡ e.current
+    go None = refl
+    go (Some l) = refl
+
+protected_here : (id : ℕ) (on : Bool) (e : Editor) → Here e → Here (protected id on e)
+protected_here id on e h = record { lives = ap (is_live (protected id on e)) (protected_current id on e) ∙ protected_lives id on e e.current ∙ h.lives }
+
 pub applies_here : (e : Editor) (prim : Prim) (args : List Value) → Here e → Here (apply e prim args).editor
 applies_here e SetBuffer args h = set_buffer_here e (arg args 0) h
 applies_here e GetBufferCreate args h = create_here e (arg args 0) h
 applies_here e GenerateNewBuffer args h = of_fault _ e _ _ h (starts_here e (free_name e.buffers (name_of (arg args 0))) h)
 applies_here e RenameBuffer args h = of_fault _ e _ _ h (renamed_here e.current (free_name (others e) (name_of (arg args 0))) e h)
 applies_here e SetBufferModifiedP args h = buffer_here e.current (λ b. record b { modified = flag (arg args 0) }) e h
+applies_here e SetBufferReadOnly args h = protected_here e.current (flag (arg args 0)) e h
 applies_here e GotoChar args h = of_fault _ e _ _ h (buffer_here e.current (point_at (place e (arg args 0))) e h)
 applies_here e NarrowToRegion args h = of_fault _ e _ _ h (buffer_here e.current (narrowed (from_of e (arg args 0) (arg args 1)) (to_of e (arg args 0) (arg args 1))) e h)
 applies_here e Widen args h = buffer_here e.current widened e h
@@ -236,7 +255,7 @@ kills_here e id h = go (live_from 0 gone.buffers) refl (e.current == id) refl
       | [] ↦ record (with_buffer scratch gone) { current = length gone.buffers }
       | n ∷ more ↦ if v then record gone { current = n } else gone
     ])
-    go [] q v r = record { lives = lives (with_buffer scratch gone) (length gone.buffers) (record { name = scratch; buffer = empty_buffer }) (with_buffer_new scratch gone) }
+    go [] q v r = record { lives = lives (with_buffer scratch gone) (length gone.buffers) (new_live scratch) (with_buffer_new scratch gone) }
     go (n ∷ more) q true r =
         let x : (m : ℕ) × (n ≡ 0 + m) × (is_some (unwrap_or (slice_get gone.buffers m) None) ≡ true) = first_lives 0 gone.buffers n more q in
         let s : n ≡ 0 + x.0 = x.1 in

@@ -1,9 +1,9 @@
 -- What a run does to processes, seen from afar: the child, the bytes and the two ends of each process, and the entry
 -- of a filter or sentinel that is the next step.
 use Rattle.std.proofs.Common.{◌≡◌, ℕ, true, false, List, [], ◌∷◌, ◌++◌, map}
-use Rattle.std.specs.Prelude.{Option, Some, None, slice_get, slice_set, ◌+◌, ◌==◌}
+use Rattle.std.specs.Prelude.{Option, Some, None, is_some, unwrap_or, slice_get, slice_set, ◌+◌, ◌==◌}
 use Rattle.text_model.specs.Characters.{Ch}
-use Rattle.text_model.specs.Decoding.{characters, all_characters}
+use Rattle.text_model.specs.Codings.{Coding, Utf8, decoded, all_decoded}
 use Rattle.editor_model.specs.Values.{Value}
 use Rattle.plain_machine.specs.Exchanges.{Ask, Read, AskEnd, Answer, Bytes, End, Failed, Exchange, children_started, gone}
 use Rattle.plain_machine.specs.Lines.{Kind, OfFilter, OfSentinel, OfBefore, OfAfter, Event, Entered}
@@ -102,7 +102,15 @@ abbrev pub IsNew : ℕ → List Core → Type 0
 IsNew child cs = (p : ℕ) (x : Core) → slice_get cs p ≡ Some x → x.child ≡ child → ⊥
 
 abbrev pub fresh : ℕ → Core
-fresh child = record { child = child; live = true; bytes = []; drained = false }
+fresh child = record { child = child; live = true; bytes = None; drained = false; coding = Utf8 }
+
+-- what was read of it
+abbrev pub so_far : Core → List ℕ
+so_far x = unwrap_or x.bytes []
+
+-- a coding that the process may have
+abbrev pub MayHave : Core → Coding → Type 0
+MayHave x k = is_some x.bytes ≡ true → k ≡ x.coding
 
 -- the event of an entry
 abbrev pub EntryOf : Coming → Event → Type 0
@@ -131,10 +139,10 @@ pub data Moves (cs : List Core) (e : Coming) (g : Phase) (xs : List Exchange) (s
   rests : e ≡ Nobody → f ≡ Nobody → ds ≡ cs → Idle cs xs → Silent said → g ≡ Working → h ≡ Working → Still xs → Moves cs e g xs said ds f h
   enters : (x : Said) → EntryOf e x.event → said ≡ x ∷ [] → f ≡ Nobody → ds ≡ cs → xs ≡ [] → g ≡ Working → h ≡ Working → Moves cs e g xs said ds f h
   spawns : (child : ℕ) → e ≡ Nobody → f ≡ Nobody → ds ≡ cs ++ fresh child ∷ [] → IsNew child cs → Idle cs xs → said ≡ [] → g ≡ Working → h ≡ Working → Starts child xs → Moves cs e g xs said ds f h
-  hears : (p : ℕ) (x : Core) (bytes : List ℕ) → e ≡ Nobody → slice_get cs p ≡ Some x → x.live ≡ true → x.drained ≡ false → xs ≡ record { ask = Read x.child; answer = Bytes bytes } ∷ [] → said ≡ [] →
-      ds ≡ slice_set cs p (record x { bytes = x.bytes ++ bytes }) → f ≡ output_of p (more_characters (characters x.bytes) (characters (x.bytes ++ bytes))) → g ≡ Working → h ≡ Working → Moves cs e g xs said ds f h
-  drains : (p : ℕ) (x : Core) (answer : Answer) → IsLast answer → e ≡ Nobody → slice_get cs p ≡ Some x → x.live ≡ true → x.drained ≡ false → xs ≡ record { ask = Read x.child; answer = answer } ∷ [] → said ≡ [] →
-      ds ≡ slice_set cs p (record x { drained = true }) → f ≡ output_of p (more_characters (characters x.bytes) (all_characters x.bytes)) → g ≡ Working → h ≡ Working → Moves cs e g xs said ds f h
+  hears : (p : ℕ) (x : Core) (k : Coding) (bytes : List ℕ) → MayHave x k → e ≡ Nobody → slice_get cs p ≡ Some x → x.live ≡ true → x.drained ≡ false → xs ≡ record { ask = Read x.child; answer = Bytes bytes } ∷ [] → said ≡ [] →
+      ds ≡ slice_set cs p (record x { bytes = Some (so_far x ++ bytes); coding = k }) → f ≡ output_of p (more_characters (decoded k (so_far x)) (decoded k (so_far x ++ bytes))) → g ≡ Working → h ≡ Working → Moves cs e g xs said ds f h
+  drains : (p : ℕ) (x : Core) (k : Coding) (answer : Answer) → MayHave x k → IsLast answer → e ≡ Nobody → slice_get cs p ≡ Some x → x.live ≡ true → x.drained ≡ false → xs ≡ record { ask = Read x.child; answer = answer } ∷ [] → said ≡ [] →
+      ds ≡ slice_set cs p (record x { drained = true }) → f ≡ output_of p (more_characters (decoded k (so_far x)) (all_decoded k (so_far x))) → g ≡ Working → h ≡ Working → Moves cs e g xs said ds f h
   dies : (p : ℕ) (x : Core) → e ≡ Nobody → slice_get cs p ≡ Some x → x.live ≡ true → Idle cs xs → said ≡ [] → ds ≡ slice_set cs p (record x { live = false }) → f ≡ Sentinel p → g ≡ Working → h ≡ Working → Ends x.child xs → Moves cs e g xs said ds f h
   closes : e ≡ Nobody → f ≡ Nobody → ds ≡ cs → xs ≡ [] → Silent said → g ≡ Working → h ≡ Killing 0 → Moves cs e g xs said ds f h
   passes : (p : ℕ) (x : Core) → e ≡ Nobody → f ≡ Nobody → ds ≡ cs → xs ≡ [] → Silent said → slice_get cs p ≡ Some x → x.live ≡ false → g ≡ Killing p → h ≡ Killing (p + 1) → Moves cs e g xs said ds f h

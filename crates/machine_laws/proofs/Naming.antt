@@ -8,8 +8,8 @@ use Rattle.text_model.specs.Marks.{leave_buffer}
 use Rattle.text_model.specs.Commit.{Buffer, Site, reset, undone_groups}
 use Rattle.text_model.proofs.Cases.{by_test}
 use Rattle.text_model.proofs.Lists.{set_other}
-use Rattle.editor_model.specs.Values.{Value, Nil, Int, Str, TheBuffer, TheMarker, Fault, TooMany, Prim, SetBuffer, GetBufferCreate, GenerateNewBuffer, RenameBuffer, SetBufferModifiedP, GotoChar, NarrowToRegion, Widen, MakeMarker, PointMarker, CopyMarker, SetMarker, SetMarkerInsertionType, MakeOverlay, OverlayPut, MoveOverlay, DeleteOverlay, UndoBoundary, UndoStart, BufferDisableUndo, BufferEnableUndo}
-use Rattle.editor_model.specs.Editor.{Editor, Name, Live, live, is_live, find, find_from, live_from, scratch, with_buffer, renamed, named_as, change_site, change_buffer, killed, free_name, empty_buffer, others, buffer_at}
+use Rattle.editor_model.specs.Values.{Value, Nil, Int, Str, TheBuffer, TheMarker, Fault, TooMany, Prim, SetBuffer, GetBufferCreate, GenerateNewBuffer, RenameBuffer, SetBufferModifiedP, SetBufferReadOnly, GotoChar, NarrowToRegion, Widen, MakeMarker, PointMarker, CopyMarker, SetMarker, SetMarkerInsertionType, MakeOverlay, OverlayPut, MoveOverlay, DeleteOverlay, UndoBoundary, UndoStart, BufferDisableUndo, BufferEnableUndo}
+use Rattle.editor_model.specs.Editor.{Editor, Name, Live, live, is_live, find, find_from, live_from, scratch, with_buffer, new_live, renamed, protected, named_as, change_site, change_buffer, killed, free_name, empty_buffer, others, buffer_at}
 use Rattle.editor_model.specs.Answers.{Test, first_fault, applied, applied_of, What, Put, Props, UndoGroups, Change}
 use Rattle.editor_model.specs.Arguments.{arg, flag, name_of, place, from_of, to_of, must_be_name, must_be_short, must_be_fewer}
 use Rattle.editor_model.specs.BufferCalls.{found_or_made, get_buffer_create}
@@ -84,6 +84,13 @@ site_names id f e n = go (live e id) refl
 pub buffer_named : (id : ℕ) (f : Buffer → Buffer) (e : Editor) → Named e → Named (change_buffer id f e)
 buffer_named id f e n = site_names id (λ site. record site { buffer = f site.buffer }) e n
 
+protected_named : (id : ℕ) (on : Bool) (e : Editor) → Named e → Named (protected id on e)
+protected_named id on e n = go (live e id) refl
+  where
+    go : (o : Option Live) → live e id ≡ o → Named (elim o [ None ↦ e | Some l ↦ record e { buffers = slice_set e.buffers id (Some (record l { read_only = on })) } ])
+    go None q = n
+    go (Some l) q = names_kept e _ (set_names e _ id l (record l { read_only = on }) q refl refl) n
+
 -- editors with the same buffers
 pub same_named : (e new : Editor) → new.buffers ≡ e.buffers → Named e → Named new
 same_named e new q n = names_kept e new (record { size = ap length q; old = λ id m r. (m, sym (ap (λ (bs : List (Option Live)). unwrap_or (slice_get bs id) None) q) ∙ r, refl) }) n
@@ -93,7 +100,7 @@ made_old : (name : Name) (e : Editor) (id : ℕ) (l : Live) → live (with_buffe
 made_old name e id l h = go (cases_order id (length e.buffers))
   where
     go : (id ≡ length e.buffers) ⊎ ((id < length e.buffers) ⊎ (length e.buffers < id)) → ((id ≡ length e.buffers) × (l.name ≡ name)) ⊎ (live e id ≡ Some l)
-    go (inl q) = let x : record { name = name; buffer = empty_buffer } ≡ l = same_Some _ l (sym (with_buffer_new name e) ∙ ap (live (with_buffer name e)) (sym q) ∙ h) in inl (q, sym (ap (λ (y : Live). y.name) x))
+    go (inl q) = let x : new_live name ≡ l = same_Some _ l (sym (with_buffer_new name e) ∙ ap (live (with_buffer name e)) (sym q) ∙ h) in inl (q, sym (ap (λ (y : Live). y.name) x))
     go (inr (inl q)) = inr (sym (with_buffer_old name e id q) ∙ h)
     go (inr (inr q)) = let x : length (with_buffer name e).buffers ≡ length e.buffers + 1 = with_buffer_longer name e in absurd (none-some l (sym (live_past (with_buffer name e) id (omega arith)) ∙ h))
 
@@ -233,6 +240,7 @@ applies_named e GetBufferCreate args n = create_named e (arg args 0) n
 applies_named e GenerateNewBuffer args n = of_tests (must_be_name (arg args 0) ∷ must_be_short (arg args 0) ∷ must_be_fewer most_buffers (length e.buffers) ∷ []) e _ _ n (λ t. made_named (free_name e.buffers (name_of (arg args 0))) e (name_is_free e.buffers (name_of (arg args 0)) n.few) (fewer_fits e (third (must_be_name (arg args 0)) (must_be_short (arg args 0)) (must_be_fewer most_buffers (length e.buffers)) t)) n)
 applies_named e RenameBuffer args n = in_buffer _ e _ _ n (renamed_named e.current (free_name (others e) (name_of (arg args 0))) e (name_is_free (others e) (name_of (arg args 0)) (others_few e n)) n)
 applies_named e SetBufferModifiedP args n = buffer_named e.current (λ b. record b { modified = flag (arg args 0) }) e n
+applies_named e SetBufferReadOnly args n = protected_named e.current (flag (arg args 0)) e n
 applies_named e GotoChar args n = in_buffer _ e _ _ n (buffer_named e.current (point_at (place e (arg args 0))) e n)
 applies_named e NarrowToRegion args n = in_buffer _ e _ _ n (buffer_named e.current (narrowed (from_of e (arg args 0) (arg args 1)) (to_of e (arg args 0) (arg args 1))) e n)
 applies_named e Widen args n = buffer_named e.current widened e n

@@ -9,8 +9,8 @@ use Rattle.text_model.specs.Undo.{Rec, Boundary, Point, Inserted, Deleted, Prop,
 use Rattle.text_model.specs.Commit.{Buffer, Site, recorded, inserted, deleted, deletion_records, adjustment, fresh_group, with_properties, property_records, no_pending, replaced, reset, set_point, undo_one, undo_each, undone_groups, moves_behind}
 use Rattle.text_model.specs.Marks.{Marks, leave_buffer}
 use Rattle.text_model.proofs.Cases.{by_test}
-use Rattle.editor_model.specs.Values.{Value, Nil, Int, Str, TheBuffer, TheMarker, Fault, Prim, SetBuffer, GetBufferCreate, GenerateNewBuffer, RenameBuffer, SetBufferModifiedP, GotoChar, NarrowToRegion, Widen, MakeMarker, PointMarker, CopyMarker, SetMarker, SetMarkerInsertionType, MakeOverlay, OverlayPut, MoveOverlay, DeleteOverlay, UndoBoundary, UndoStart, BufferDisableUndo, BufferEnableUndo}
-use Rattle.editor_model.specs.Editor.{Editor, Name, Live, live, find, live_from, scratch, with_buffer, renamed, named_as, change_site, change_buffer, killed, free_name, empty_buffer, others, buffer_at}
+use Rattle.editor_model.specs.Values.{Value, Nil, Int, Str, TheBuffer, TheMarker, Fault, Prim, SetBuffer, GetBufferCreate, GenerateNewBuffer, RenameBuffer, SetBufferModifiedP, SetBufferReadOnly, GotoChar, NarrowToRegion, Widen, MakeMarker, PointMarker, CopyMarker, SetMarker, SetMarkerInsertionType, MakeOverlay, OverlayPut, MoveOverlay, DeleteOverlay, UndoBoundary, UndoStart, BufferDisableUndo, BufferEnableUndo}
+use Rattle.editor_model.specs.Editor.{Editor, Name, Live, live, find, live_from, scratch, with_buffer, new_live, renamed, protected, named_as, change_site, change_buffer, killed, free_name, empty_buffer, others, buffer_at}
 use Rattle.editor_model.specs.Answers.{first_fault, applied_of, What, Put, Props, UndoGroups, Change}
 use Rattle.editor_model.specs.Arguments.{arg, flag, name_of, place, from_of, to_of}
 use Rattle.editor_model.specs.BufferCalls.{found_or_made, get_buffer_create}
@@ -217,6 +217,13 @@ site_end id f e k a = go (live e id) refl
 pub buffer_end : (id : ℕ) (f : Buffer → Buffer) (e : Editor) → ((b : Buffer) → Ends b → Ends (f b)) → AllEnd e → AllEnd (change_buffer id f e)
 buffer_end id f e k a = site_end id (λ site. record site { buffer = f site.buffer }) e (λ site h. k site.buffer h) a
 
+protected_end : (id : ℕ) (on : Bool) (e : Editor) → AllEnd e → AllEnd (protected id on e)
+protected_end id on e a = go (live e id) refl
+  where
+    go : (o : Option Live) → live e id ≡ o → AllEnd (elim o [ None ↦ e | Some l ↦ record e { buffers = slice_set e.buffers id (Some (record l { read_only = on })) } ])
+    go None q = a
+    go (Some l) q = set_end e (record e { buffers = slice_set e.buffers id (Some (record l { read_only = on })) }) id l (record l { read_only = on }) q refl (a.each id l q) a
+
 none_end : (e new : Editor) (id : ℕ) → new.buffers ≡ slice_set e.buffers id None → AllEnd e → AllEnd new
 none_end e new id q a = record { each = λ j m r. go j m r (cases_eq j id) }
   where
@@ -237,7 +244,7 @@ pub made_end : (name : Name) (e : Editor) → AllEnd e → AllEnd (with_buffer n
 made_end name e a = record { each = λ id l h. go id l h (cases_order id (length e.buffers)) }
   where
     go : (id : ℕ) (l : Live) → live (with_buffer name e) id ≡ Some l → (id ≡ length e.buffers) ⊎ ((id < length e.buffers) ⊎ (length e.buffers < id)) → Ends l.buffer
-    go id l h (inl q) = let x : record { name = name; buffer = empty_buffer } ≡ l = same_Some _ l (sym (with_buffer_new name e) ∙ ap (live (with_buffer name e)) (sym q) ∙ h) in subst (λ (y : Live). Ends y.buffer) x tt
+    go id l h (inl q) = let x : new_live name ≡ l = same_Some _ l (sym (with_buffer_new name e) ∙ ap (live (with_buffer name e)) (sym q) ∙ h) in subst (λ (y : Live). Ends y.buffer) x tt
     go id l h (inr (inl q)) = a.each id l (sym (with_buffer_old name e id q) ∙ h)
     go id l h (inr (inr q)) = let x : length (with_buffer name e).buffers ≡ length e.buffers + 1 = with_buffer_longer name e in absurd (none-some l (sym (live_past (with_buffer name e) id (omega arith)) ∙ h))
 
@@ -294,6 +301,7 @@ applies_end e GetBufferCreate args a = create_end e (arg args 0) a
 applies_end e GenerateNewBuffer args a = of_fault _ e _ _ a (made_end (free_name e.buffers (name_of (arg args 0))) e a)
 applies_end e RenameBuffer args a = of_fault _ e _ _ a (renamed_end e.current (free_name (others e) (name_of (arg args 0))) e a)
 applies_end e SetBufferModifiedP args a = buffer_end e.current (λ b. record b { modified = flag (arg args 0) }) e (λ b h. h) a
+applies_end e SetBufferReadOnly args a = protected_end e.current (flag (arg args 0)) e a
 applies_end e GotoChar args a = of_fault _ e _ _ a (buffer_end e.current (point_at (place e (arg args 0))) e (λ b h. h) a)
 applies_end e NarrowToRegion args a = of_fault _ e _ _ a (buffer_end e.current (narrowed (from_of e (arg args 0) (arg args 1)) (to_of e (arg args 0) (arg args 1))) e (λ b h. h) a)
 applies_end e Widen args a = buffer_end e.current widened e (λ b h. h) a

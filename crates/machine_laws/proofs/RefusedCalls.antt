@@ -4,19 +4,19 @@ use Rattle.std.specs.Prelude.{Option, Some, None, nat_lt, ◌&&◌, codes}
 use Rattle.std.specs.List.{list_all}
 use Rattle.text_model.specs.Characters.{Ch}
 use Rattle.text_model.specs.Marks.{Pending}
-use Rattle.editor_model.specs.Values.{Value, Nil, T, Int, Fault, ExchangesSpent, BrokenPipe, SpawnFailed, at_place, Reply, Answered, Prim, StartProcess, KillBuffer, DeleteProcess, ProcessSendString, ProcessSendEof, AcceptProcessOutput, AddHook, RemoveHook, SetProcessFilter, SetProcessSentinel, SetProcessBuffer, Script}
+use Rattle.editor_model.specs.Values.{Value, Nil, T, Int, Fault, ExchangesSpent, BrokenPipe, SpawnFailed, at_place, Reply, Answered, Prim, StartProcess, KillBuffer, DeleteProcess, ProcessSendString, ProcessSendEof, AcceptProcessOutput, AddHook, RemoveHook, SetProcessFilter, SetProcessSentinel, SetProcessBuffer, SetProcessCodingSystem, Script}
 use Rattle.editor_model.specs.Editor.{Editor, is_live, killed}
 use Rattle.editor_model.specs.Arguments.{arg, string_of, buffer_of}
 use Rattle.editor_model.specs.Answers.{first_fault}
 use Rattle.editor_model.specs.Prims.{Manner, OnlyAsks, SetsState, ChangesText, ConcernsHandlers, manner_of}
 use Rattle.editor_model.specs.Table.{Change, Commit, Committed, Done, Failed, Prepared, Changes, Quiet, Nothing, Barred, query, apply, prepare, commit}
 use Rattle.plain_machine.specs.Exchanges.{Exchange, Ask, Spawn, Read, AskEnd, Send, Close, Kill, Answer, Started, Bytes, Code, End, Signal, Running, Sent, Broken, Closed, Killed}
-use Rattle.plain_machine.specs.State.{State, Process, Status, Runs, Exited, Signalled, Lost, Program, hooks_of, process, change_process}
+use Rattle.plain_machine.specs.State.{State, Process, Status, Runs, Exited, Signalled, Lost, Program, hooks_of, process, change_process, read_so_far}
 use Rattle.plain_machine.specs.Lines.{Kind, OfBefore, OfAfter, OfFilter, OfSentinel}
 use Rattle.plain_machine.specs.Items.{Item, MakeCall, GiveAnswer, Refuse, MakeChange, Hooks, Calm, CommitChange, Enter, Exit, Wait, Delete, Target, Nowhere, ToName, ToNative, Waiting, Said, Config, Next, Step, Goes, Asks, Ended}
-use Rattle.plain_machine.specs.Calls.{silent, on, answered, unless_fault, with_editor, change_call, call, call_by, process_effect, spawned, spawned_child, started, is_new_child, send, sent_answer, send_eof, closed_answer, with_input_closed, waiting, with_filter, with_sentinel, of_buffer, process_buffer}
+use Rattle.plain_machine.specs.Calls.{silent, on, answered, unless_fault, with_editor, change_call, call, call_by, process_effect, spawned, spawned_child, started, is_new_child, send, sent_answer, send_eof, closed_answer, with_input_closed, waiting, with_filter, with_sentinel, of_buffer, process_buffer, with_coding}
 use Rattle.plain_machine.specs.Refusals.{process_tests, may_ask, must_be_replaceable}
-use Rattle.plain_machine.specs.Arguments.{process_of, filter_of, sentinel_of, child_of, is_closed, encoded, running_in}
+use Rattle.plain_machine.specs.Arguments.{process_of, filter_of, sentinel_of, child_of, is_closed, encoded, running_in, coding_of}
 use Rattle.plain_machine.specs.Forms.{at_kept, saved_of, popped, after_commit, bracket, with_saved, make_change, give, commit_change}
 use Rattle.plain_machine.specs.Waits.{wait, wait_case, ask_process, ask_if, ask_next, read_answer, hear, drain, end_answer, exit_text, ends, entry_of, asked_more, is_room, from_eligible, eligible, target_is_eligible, delete, delete_one, delete_running, kill_answer, kill_at_end, kill_live}
 use Rattle.plain_machine.specs.Step.{step, item_step}
@@ -202,6 +202,7 @@ module _ (u : State) (d : ℕ) (t : State) (h : t ≡ u) (k : SameDepth t d) whe
   effect_comes target rest SetProcessFilter args = set_comes target rest (process_of t (arg args 0)) (with_filter (filter_of (arg args 1))) (arg args 1)
   effect_comes target rest SetProcessSentinel args = set_comes target rest (process_of t (arg args 0)) (with_sentinel (sentinel_of (arg args 1))) (arg args 1)
   effect_comes target rest SetProcessBuffer args = set_comes target rest (process_of t (arg args 0)) (of_buffer (process_buffer t.editor (arg args 1))) (arg args 1)
+  effect_comes target rest SetProcessCodingSystem args = set_comes target rest (process_of t (arg args 0)) (with_coding (coding_of (arg args 1))) (arg args 1)
   effect_comes target rest ProcessSendString args = send_comes target rest (child_of t (process_of t (arg args 0))) (encoded (string_of (arg args 1)))
   effect_comes target rest ProcessSendEof args = eof_comes target rest (process_of t (arg args 0)) (is_closed t (process_of t (arg args 0)))
   effect_comes target rest AcceptProcessOutput args = stands refl (own (Wait (waiting t (arg args 0) (arg args 1) (arg args 2)) target ∷ rest) refl tt h)
@@ -230,14 +231,14 @@ module _ (u : State) (d : ℕ) (t : State) (h : t ≡ u) (k : SameDepth t d) whe
   read_comes w target rest p x (Bytes bytes) e = go (is_room bytes)
     where
       v : State
-      v = change_process p (λ y. record y { bytes = x.bytes ++ bytes }) (asked_more t)
+      v = change_process p (λ y. record y { bytes = Some (read_so_far x ++ bytes) }) (asked_more t)
 
       noted : Leaves (Read x.child) (Bytes bytes) t v
-      noted = (p, x, e, refl, same_change (asked_more t) p x (λ y. record y { bytes = x.bytes ++ bytes }) (λ y. record y { bytes = y.bytes ++ bytes }) e refl)
+      noted = (p, x, e, refl, same_change (asked_more t) p x (λ y. record y { bytes = Some (read_so_far x ++ bytes) }) (λ y. record y { bytes = Some (read_so_far y ++ bytes) }) e refl)
 
       go : (fits : Bool) → AnswerOwn u d (Read x.child) (Bytes bytes) (hear fits t w target rest p x bytes)
       go false = tt
-      go true = left_at v (Read x.child) (Bytes bytes) _ noted (changed_depth p (λ y. record y { bytes = x.bytes ++ bytes }) (asked_more t)) (heard_comes v p x _ _ target rest)
+      go true = left_at v (Read x.child) (Bytes bytes) _ noted (changed_depth p (λ y. record y { bytes = Some (read_so_far x ++ bytes) }) (asked_more t)) (heard_comes v p x _ _ target rest)
   read_comes w target rest p x Answer.Nothing e = left_at (asked_more t) (Read x.child) Answer.Nothing _ refl refl (stands refl (own (Wait w target ∷ rest) refl tt refl))
   read_comes w target rest p x End e = drain_comes w target rest p x End (λ v l. l) e
   read_comes w target rest p x Answer.Failed e = drain_comes w target rest p x Answer.Failed (λ v l. l) e

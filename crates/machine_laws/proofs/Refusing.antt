@@ -5,7 +5,7 @@ use Rattle.std.specs.Prelude.{Option, Some, None, slice_set, drop}
 use Rattle.std.proofs.lemmas.Option.{same_Some, none-some}
 use Rattle.text_model.specs.Characters.{Ch}
 use Rattle.text_model.specs.Marks.{Pending}
-use Rattle.editor_model.specs.Values.{Value, Nil, Int, Str, TheMarker, TheBuffer, Fault, VoidVariable, ExchangesSpent, BrokenPipe, SpawnFailed, at_place, Reply, Answered, Prim, Do, Setq, SetBuffer, GetBufferCreate, GenerateNewBuffer, RenameBuffer, SetBufferModifiedP, GotoChar, NarrowToRegion, Widen, MakeMarker, PointMarker, CopyMarker, SetMarker, SetMarkerInsertionType, MakeOverlay, OverlayPut, MoveOverlay, DeleteOverlay, UndoBoundary, UndoStart, BufferDisableUndo, BufferEnableUndo, StartProcess, KillBuffer, ProcessSendString, ProcessSendEof, AcceptProcessOutput}
+use Rattle.editor_model.specs.Values.{Value, Nil, Int, Str, TheMarker, TheBuffer, Fault, VoidVariable, ExchangesSpent, BrokenPipe, SpawnFailed, at_place, Reply, Answered, Prim, Do, Setq, SetBuffer, GetBufferCreate, GenerateNewBuffer, RenameBuffer, SetBufferModifiedP, SetBufferReadOnly, GotoChar, NarrowToRegion, Widen, MakeMarker, PointMarker, CopyMarker, SetMarker, SetMarkerInsertionType, MakeOverlay, OverlayPut, MoveOverlay, DeleteOverlay, UndoBoundary, UndoStart, BufferDisableUndo, BufferEnableUndo, StartProcess, KillBuffer, ProcessSendString, ProcessSendEof, AcceptProcessOutput}
 use Rattle.editor_model.specs.Editor.{Editor, is_live, find}
 use Rattle.editor_model.specs.Arguments.{arg, string_of, buffer_of, name_of}
 use Rattle.editor_model.specs.Answers.{first_fault, Applied, applied_of, Prepared, Changes, Quiet, Nothing, Barred, Change, Committed, Done, Failed}
@@ -14,7 +14,7 @@ use Rattle.editor_model.specs.MarkerCalls.{copy_marker}
 use Rattle.editor_model.specs.Table.{query, apply, prepare, commit}
 use Rattle.editor_model.specs.Prims.{Manner, OnlyAsks, SetsState, ChangesText, ConcernsHandlers, manner_of}
 use Rattle.plain_machine.specs.Exchanges.{Exchange, Ask, Spawn, Read, AskEnd, Send, Close, Kill, Answer, Started, Bytes, Code, End, Signal, Running, Sent, Broken, Closed, Killed}
-use Rattle.plain_machine.specs.State.{State, Process, Status, Runs, Program, hooks_of, process, change_process}
+use Rattle.plain_machine.specs.State.{State, Process, Status, Runs, Program, hooks_of, process, change_process, read_so_far}
 use Rattle.plain_machine.specs.Lines.{Kind, OfBefore}
 use Rattle.plain_machine.specs.Items.{Item, DoForm, MakeCall, GiveAnswer, Refuse, MakeChange, Hooks, Calm, CommitChange, Enter, Exit, Wait, Delete, Target, Nowhere, ToName, ToNative, Waiting, Said, Config, Next, Step, Goes, Asks, Ended}
 use Rattle.plain_machine.specs.Calls.{answered, unless_fault, with_editor, change_call, call, call_by, process_effect, spawned, spawned_child, is_new_child, send, sent_answer, send_eof, closed_answer, waiting}
@@ -125,6 +125,7 @@ apply_leaves e GetBufferCreate args = create_leaves e (arg args 0)
 apply_leaves e GenerateNewBuffer args = of_fault _ e _ _
 apply_leaves e RenameBuffer args = of_fault _ e _ _
 apply_leaves e SetBufferModifiedP args = λ f h. cc
+apply_leaves e SetBufferReadOnly args = λ f h. cc
 apply_leaves e GotoChar args = of_fault _ e _ _
 apply_leaves e NarrowToRegion args = of_fault _ e _ _
 apply_leaves e Widen args = λ f h. cc
@@ -280,10 +281,10 @@ module _ (s : State) where
   read_stands t w target rest p x (Bytes bytes) k h = go (is_room bytes)
     where
       u : State
-      u = change_process p (λ y. record y { bytes = x.bytes ++ bytes }) (asked_more t)
+      u = change_process p (λ y. record y { bytes = Some (read_so_far x ++ bytes) }) (asked_more t)
 
       noted : Leaves (Read x.child) (Bytes bytes) t u
-      noted = (p, x, k, refl, same_change (asked_more t) p x (λ y. record y { bytes = x.bytes ++ bytes }) (λ y. record y { bytes = y.bytes ++ bytes }) k refl)
+      noted = (p, x, k, refl, same_change (asked_more t) p x (λ y. record y { bytes = Some (read_so_far x ++ bytes) }) (λ y. record y { bytes = Some (read_so_far y ++ bytes) }) k refl)
 
       go : (fits : Bool) → AnswerStands s (Read x.child) (Bytes bytes) (hear fits t w target rest p x bytes)
       go false = tt

@@ -28,6 +28,7 @@ here_kept = record {
   moves = λ e id l h. record { lives = l };
   keeps = λ e saved h. record { lives = h.lives };
   names = λ e registers h. record { lives = h.lives };
+  lifts = λ e on h. record { lives = h.lives };
   starts = λ e name q t h. starts_here e (name_of name) h;
   marks = λ e m h. record { lives = h.lives };
 }
@@ -41,6 +42,7 @@ ends_kept = record {
   moves = λ e id l h. same_end e (record e { current = id }) refl h;
   keeps = λ e saved h. same_end e (record e { marks = record e.marks { saved = saved } }) refl h;
   names = λ e registers h. same_end e (record e { registers = registers }) refl h;
+  lifts = λ e on h. same_end e (record e { lifted = on }) refl h;
   starts = λ e name q t h. made_end (name_of name) e h;
   marks = λ e m h. same_end e (with_marker m e) refl h;
 }
@@ -62,6 +64,7 @@ names_differ = record {
   moves = λ e id l h. same_named e (record e { current = id }) refl h;
   keeps = λ e saved h. same_named e (record e { marks = record e.marks { saved = saved } }) refl h;
   names = λ e registers h. same_named e (record e { registers = registers }) refl h;
+  lifts = λ e on h. same_named e (record e { lifted = on }) refl h;
   starts = λ e name q t h. made_named (name_of name) e (new_is_free e name q) (fewer_fits e t) h;
   marks = λ e m h. same_named e (with_marker m e) refl h;
 }

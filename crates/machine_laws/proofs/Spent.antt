@@ -5,7 +5,7 @@ use Rattle.std.proofs.lemmas.List.Elements.{filter-append}
 use Rattle.std.specs.Prelude.{Option, Some, None, not, filter, codes, if◌then◌else◌}
 use Rattle.editor_model.specs.Values.{Value, Script}
 use Rattle.plain_machine.specs.Exchanges.{Exchange, Ask, Answer, Started, Bytes, Code, End, Signal, Running, Sent, Broken, Closed, Killed}
-use Rattle.plain_machine.specs.State.{State, Program, Process, Exited, Signalled, Lost, change_process}
+use Rattle.plain_machine.specs.State.{State, Program, Process, Exited, Signalled, Lost, change_process, read_so_far}
 use Rattle.plain_machine.specs.Lines.{KilledLast}
 use Rattle.plain_machine.specs.Items.{Item, Finish, Target, Waiting, Said, Config, Next, Goes, Asks}
 use Rattle.plain_machine.specs.Calls.{spawned, spawned_child, is_new_child, sent_answer, closed_answer, with_input_closed}
@@ -58,7 +58,7 @@ read_counts : (s : State) (w : Waiting) (target : Target) (rest : List Item) (p 
 read_counts s w target rest p x (Bytes bytes) l = go (is_room bytes)
   where
     go : (fits : Bool) → Counts false s (hear fits s w target rest p x bytes)
-    go true = changed_counts false s (asked_more s) p (λ y. record y { bytes = x.bytes ++ bytes }) (l, refl)
+    go true = changed_counts false s (asked_more s) p (λ y. record y { bytes = Some (read_so_far x ++ bytes) }) (l, refl)
     go false = tt
 read_counts s w target rest p x Answer.Nothing l = (l, refl)
 read_counts s w target rest p x End l = changed_counts false s (asked_more s) p (λ y. record y { drained = true }) (l, refl)

@@ -3,7 +3,7 @@ use Rattle.std.proofs.Common.{◌≡◌, ℕ, zero, suc, ◌+◌, ◌≤◌, Boo
 use Rattle.std.specs.Prelude.{◌-◌, ◌==◌, ◌&&◌, ◌||◌, pos, nat_lt, codes, Option, Some, None, unwrap_or}
 use Rattle.std.proofs.lemmas.Bool.{eqb-true, eq-eqb}
 use Rattle.text_model.specs.Characters.{Ch, Scalar}
-use Rattle.text_model.specs.Decoding.{characters, all_characters}
+use Rattle.text_model.specs.Codings.{decoded, all_decoded}
 use Rattle.text_model.specs.Properties.{Cell, bare}
 use Rattle.text_model.specs.Ordered.{AreOrdered}
 use Rattle.text_model.specs.Marks.{Spot, Saved, Excursion, Restriction, Pending}
@@ -11,7 +11,7 @@ use Rattle.text_model.proofs.Cases.{by_test}
 use Rattle.machine_laws.specs.Fits.{KeptFits, SavedFits}
 use Rattle.machine_laws.specs.Brackets.{shape, shapes}
 use Rattle.machine_laws.proofs.Changes.{ordered-append}
-use Rattle.editor_model.specs.Values.{Value, Nil, T, Int, ExchangesSpent, at_place, Reply, Answered, Fault, Prim, AddHook, RemoveHook, KillBuffer, StartProcess, SetProcessFilter, SetProcessSentinel, SetProcessBuffer, ProcessSendString, ProcessSendEof, DeleteProcess, AcceptProcessOutput, Form, Forms, NoForms, Then, Do, Setq, In, WhenEq, Block, SaveExcursion, SaveRestriction, SaveCurrentBuffer, InhibitHooks, HandlerDef, equal}
+use Rattle.editor_model.specs.Values.{Value, Nil, T, Int, ExchangesSpent, at_place, Reply, Answered, Fault, Prim, AddHook, RemoveHook, KillBuffer, StartProcess, SetProcessFilter, SetProcessSentinel, SetProcessBuffer, SetProcessCodingSystem, ProcessSendString, ProcessSendEof, DeleteProcess, AcceptProcessOutput, Form, Forms, NoForms, Then, Do, Setq, In, WhenEq, Block, SaveExcursion, SaveRestriction, SaveCurrentBuffer, InhibitHooks, HandlerDef, equal, InhibitReadOnly}
 use Rattle.editor_model.specs.Editor.{Editor, Live, live, is_live, here, killed, register, with_register, with_buffer, with_marker}
 use Rattle.editor_model.specs.Answers.{Test, first_fault, Change, Prepared, Changes, Quiet, Nothing, Barred, Commit, Done, Failed}
 use Rattle.editor_model.specs.Arguments.{arg, string_of, name_of, buffer_of}
@@ -24,13 +24,13 @@ use Rattle.machine_laws.proofs.Applying.{Lies, lies, apply_steady, markers_appen
 use Rattle.machine_laws.proofs.Committing.{FinePrepared, prepare_fine, output_fine, commit_steady, some_of}
 use Rattle.machine_laws.proofs.Settling.{Settles, settles_self, settles_advances, advances_settles, marks_settle, killed_steady}
 use Rattle.plain_machine.specs.Exchanges.{Answer, Started, Bytes, End, Code, Signal, Running, Sent, Broken, Closed, Killed}
-use Rattle.plain_machine.specs.State.{State, hooks_of, Program, Process, Status, Runs, Signalled, process, change_process}
+use Rattle.plain_machine.specs.State.{State, hooks_of, Program, Process, Status, Runs, Signalled, process, change_process, read_so_far}
 use Rattle.plain_machine.specs.Lines.{Kind, KilledLast, OfBefore, OfAfter, OfFilter, OfSentinel}
-use Rattle.plain_machine.specs.Items.{Item, Top, Body, DoForm, MakeCall, Leave, GiveAnswer, Refuse, MakeChange, Hooks, Calm, CommitChange, Enter, Native, Called, Exit, Wait, Delete, Finish, WriteDump, Target, Nowhere, ToName, ToNative, KeptExcursion, KeptRestriction, KeptBuffer, KeptInhibition, Waiting, Config, Next, Step, Goes, Asks, Ended}
+use Rattle.plain_machine.specs.Items.{Item, Top, Body, DoForm, MakeCall, Leave, GiveAnswer, Refuse, MakeChange, Hooks, Calm, CommitChange, Enter, Native, Called, Exit, Wait, Delete, Finish, WriteDump, Target, Nowhere, ToName, ToNative, KeptExcursion, KeptRestriction, KeptBuffer, KeptInhibition, KeptLifting, Waiting, Config, Next, Step, Goes, Asks, Ended}
 use Rattle.plain_machine.specs.Refusals.{process_tests, may_ask, must_be_replaceable}
-use Rattle.plain_machine.specs.Arguments.{process_of, filter_of, sentinel_of, child_of, is_closed, encoded, handler_def, native_from, running_in, is_new_name}
-use Rattle.plain_machine.specs.Calls.{on, answered, unless, call, process_effect, with_filter, with_sentinel, of_buffer, process_buffer, with_process_buffer, is_new_child, started, spawned, send, sent_answer, send_eof, closed_answer, with_input_closed, change_call, with_editor, call_by, end_of, spawned_child, unless_fault}
-use Rattle.plain_machine.specs.Forms.{says, with_saved, saved_of, if_live, current, restored, evaluate, do_form, block, bounds_kept, assigned, scope_of, kept_reply, give, make_change, commit_change, at_kept, popped, bracket, after_commit, when_eq, call_with}
+use Rattle.plain_machine.specs.Arguments.{process_of, filter_of, sentinel_of, child_of, is_closed, encoded, handler_def, native_from, running_in, is_new_name, coding_of}
+use Rattle.plain_machine.specs.Calls.{on, answered, unless, call, process_effect, with_filter, with_sentinel, of_buffer, process_buffer, with_process_buffer, is_new_child, started, spawned, send, sent_answer, send_eof, closed_answer, with_input_closed, change_call, with_editor, call_by, end_of, spawned_child, unless_fault, with_coding}
+use Rattle.plain_machine.specs.Forms.{says, with_saved, saved_of, if_live, current, restored, evaluate, do_form, block, bounds_kept, assigned, scope_of, kept_reply, give, make_change, commit_change, at_kept, popped, bracket, after_commit, when_eq, call_with, lifting}
 use Rattle.plain_machine.specs.Handling.{plain_text, second, sentinel_words, bound_params, unlisted, body_of, default_handler, put_in, output_in, put_output, process_buffer_of, mark_of_process, native, native_call, left_state, ended_handler, without_hooks_item, named_body, native_next, where_live}
 use Rattle.plain_machine.specs.Waits.{ask_process, read_answer, end_answer, drain, entry_of, asked_more, more_characters, is_room, counts, target_is_eligible, from_eligible, eligible, delete, kill_answer, ends, exit_text, kill_at_end, finish, wait, ask_if, ask_next, delete_one, delete_running, finish_one, finish_running, kill_live, wait_case, hear}
 use Rattle.plain_machine.specs.Step.{step, item_step}
@@ -147,6 +147,7 @@ effect_well s target rest StartProcess args r = λ a. spawned_well s target rest
 effect_well s target rest SetProcessFilter args r = process_answer s (process_of s (arg args 0)) (with_filter (filter_of (arg args 1))) (arg args 1) target rest r
 effect_well s target rest SetProcessSentinel args r = process_answer s (process_of s (arg args 0)) (with_sentinel (sentinel_of (arg args 1))) (arg args 1) target rest r
 effect_well s target rest SetProcessBuffer args r = process_answer s (process_of s (arg args 0)) (of_buffer (process_buffer s.editor (arg args 1))) (arg args 1) target rest r
+effect_well s target rest SetProcessCodingSystem args r = process_answer s (process_of s (arg args 0)) (with_coding (coding_of (arg args 1))) (arg args 1) target rest r
 effect_well s target rest ProcessSendString args r = send_well s target rest (child_of s (process_of s (arg args 0))) (encoded (string_of (arg args 1))) r
 effect_well s target rest ProcessSendEof args r = eof_well s target rest (process_of s (arg args 0)) (is_closed s (process_of s (arg args 0))) r
 effect_well s target rest DeleteProcess args r = well_same s s (Delete (process_of s (arg args 0)) ∷ GiveAnswer Nil target ∷ rest) r.editor refl (tt, (tt, r.fine)) r.stacked
@@ -189,6 +190,7 @@ block_well : (k : Block) (forms : Forms) (s : State) (rest : List Item) → Read
 block_well SaveExcursion forms s rest r = pushed_well s (Excursion s.editor.current (here s.editor).point) (Body forms ∷ Leave KeptExcursion ∷ rest) r.editor (λ id. point_fits s id r.editor) (tt, (tt, r.fine)) r.stacked
 block_well SaveRestriction forms s rest r = pushed_well s (Restriction s.editor.current (bounds_kept (here s.editor))) (Body forms ∷ Leave KeptRestriction ∷ rest) r.editor (λ id. bounds_fit s id r.editor) (tt, (tt, r.fine)) r.stacked
 block_well SaveCurrentBuffer forms s rest r = well_same s s (Body forms ∷ Leave (KeptBuffer s.editor.current) ∷ rest) r.editor refl (tt, (tt, r.fine)) r.stacked
+block_well InhibitReadOnly forms s rest r = well_settled s.editor (lifting true s) (Body forms ∷ Leave (KeptLifting s.editor.lifted) ∷ rest) r.editor (marks_settle s.editor (lifting true s).editor r.editor refl (λ id m. m)) (tt, (tt, r.fine)) r.stacked
 block_well InhibitHooks forms s rest r = well_same s (record s { inhibited = true }) (Body forms ∷ Leave (KeptInhibition s.inhibited) ∷ rest) r.editor refl (tt, (tt, r.fine)) r.stacked
 
 pair_well : (s : State) (rest : List Item) (o : Option (List Value)) (forms : Forms) → Ready s rest → StepWell s (when_eq o forms s rest)
@@ -430,7 +432,7 @@ entry_stacked s p x (c ∷ text) rest ks h = h
 
 drain_well : (s : State) (w : Waiting) (target : Target) (rest : List Item) (p : ℕ) (x : Process) → Ready s rest → AnswerWell s (drain s w target rest p x)
 drain_well s w target rest p x r =
-    let text : List Ch = more_characters (characters x.bytes) (all_characters x.bytes) in
+    let text : List Ch = more_characters (decoded x.coding (read_so_far x)) (all_decoded x.coding (read_so_far x)) in
     let f : Process → Process = (λ y. record y { drained = true }) in
     well_same s (change_process p f (asked_more s)) (entry_of s p x text (Wait w target ∷ rest)) r.editor (change_editor p f (asked_more s)) (entry_fine s p x text (Wait w target ∷ rest) (tt, r.fine)) (entry_stacked s p x text (Wait w target ∷ rest) (kinds s) r.stacked)
 
@@ -438,17 +440,17 @@ read_well : (s : State) (w : Waiting) (target : Target) (rest : List Item) (p : 
 read_well s w target rest p x (Bytes bytes) r = go (is_room bytes)
   where
     text : List Ch
-    text = more_characters (characters x.bytes) (characters (x.bytes ++ bytes))
+    text = more_characters (decoded x.coding (read_so_far x)) (decoded x.coding (read_so_far x ++ bytes))
 
     f : Process → Process
-    f y = record y { bytes = x.bytes ++ bytes }
+    f y = record y { bytes = Some (read_so_far x ++ bytes) }
 
     work : List Item
     work = Wait (record w { counted = w.counted || counts w p }) target ∷ rest
 
     go : (v : Bool) → AnswerWell s (hear v s w target rest p x bytes)
     go false = tt
-    go true = well_same s (change_process p (λ y. record y { bytes = x.bytes ++ bytes }) (asked_more s)) (entry_of s p x text work) r.editor (change_editor p (λ y. record y { bytes = x.bytes ++ bytes }) (asked_more s)) (entry_fine s p x text work (tt, r.fine)) (entry_stacked s p x text work (kinds s) r.stacked)
+    go true = well_same s (change_process p (λ y. record y { bytes = Some (read_so_far x ++ bytes) }) (asked_more s)) (entry_of s p x text work) r.editor (change_editor p (λ y. record y { bytes = Some (read_so_far x ++ bytes) }) (asked_more s)) (entry_fine s p x text work (tt, r.fine)) (entry_stacked s p x text work (kinds s) r.stacked)
 read_well s w target rest p x Answer.Nothing r = well_same s (asked_more s) (Wait w target ∷ rest) r.editor refl (tt, r.fine) r.stacked
 read_well s w target rest p x End r = drain_well s w target rest p x r
 read_well s w target rest p x Answer.Failed r = drain_well s w target rest p x r

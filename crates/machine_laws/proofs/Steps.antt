@@ -1,12 +1,12 @@
 -- Each step of the machine is one of those moves.
 use Rattle.std.proofs.Common.{◌≡◌, ℕ, zero, suc, ◌+◌, Bool, true, false, List, [], ◌∷◌, ◌++◌, length, map, refl, ap, sym, ◌∙◌, subst, arith}
 use Rattle.std.proofs.lemmas.List.{map-append}
-use Rattle.std.specs.Prelude.{pos, Option, Some, None, ◌==◌, not, ◌||◌, nat_lt, drop, codes, slice_get, slice_set}
+use Rattle.std.specs.Prelude.{pos, Option, Some, None, is_some, ◌==◌, not, ◌||◌, nat_lt, drop, codes, slice_get, slice_set}
 use Rattle.std.specs.List.{list_any}
 use Rattle.text_model.specs.Characters.{Ch}
-use Rattle.text_model.specs.Decoding.{characters, all_characters}
+use Rattle.text_model.specs.Codings.{Coding, decoded, all_decoded}
 use Rattle.text_model.specs.Properties.{Cell, bare}
-use Rattle.editor_model.specs.Values.{Value, T, Int, at_place, Reply, Answered, Fault, Prim, StartProcess, KillBuffer, ProcessSendString, ProcessSendEof, DeleteProcess, Form, Forms, NoForms, Then, Do, Setq, In, WhenEq, Block, SaveExcursion, SaveRestriction, SaveCurrentBuffer, InhibitHooks, HandlerDef, equal}
+use Rattle.editor_model.specs.Values.{Value, T, Int, at_place, Reply, Answered, Fault, Prim, StartProcess, KillBuffer, ProcessSendString, ProcessSendEof, DeleteProcess, Form, Forms, NoForms, Then, Do, Setq, In, WhenEq, Block, SaveExcursion, SaveRestriction, SaveCurrentBuffer, InhibitHooks, InhibitReadOnly, HandlerDef, equal}
 use Rattle.editor_model.specs.Editor.{is_live, killed}
 use Rattle.editor_model.specs.Arguments.{arg, string_of, buffer_of}
 use Rattle.editor_model.specs.Answers.{Test, first_fault}
@@ -14,7 +14,7 @@ use Rattle.editor_model.specs.TextCalls.{prepare_output}
 use Rattle.editor_model.specs.Table.{Change, Commit, query, apply, prepare, Prepared, Changes, Quiet, Nothing, Barred, Done, Failed, commit}
 use Rattle.editor_model.specs.Prims.{OnlyAsks, SetsState, ChangesText, ConcernsHandlers, manner_of}
 use Rattle.plain_machine.specs.Exchanges.{Ask, Spawn, Read, AskEnd, Send, Close, Kill, Answer, Started, Sent, Broken, Closed, Killed, Bytes, End, Code, Signal, Running, Exchange}
-use Rattle.plain_machine.specs.State.{State, hooks_of, Program, Process, Status, Runs, Exited, Signalled, Lost, process, change_process}
+use Rattle.plain_machine.specs.State.{State, hooks_of, Program, Process, Status, Runs, Exited, Signalled, Lost, process, change_process, read_so_far}
 use Rattle.plain_machine.specs.Lines.{Kind, KilledLast, OfBefore, OfAfter, OfFilter, OfSentinel}
 use Rattle.plain_machine.specs.Items.{Item, Top, Body, DoForm, MakeCall, Leave, GiveAnswer, Refuse, MakeChange, Hooks, Calm, CommitChange, Enter, Native, Called, Exit, Wait, Delete, Finish, WriteDump, Target, Nowhere, ToName, ToNative, Waiting, Config, Next, Step, Goes, Asks, Ended}
 use Rattle.plain_machine.specs.Calls.{silent, on, answered, unless, call, process_effect, spawned, started, is_new_child, sent_answer, closed_answer, with_input_closed, send, send_eof, change_call, with_editor, call_by, spawned_child, unless_fault}
@@ -24,7 +24,7 @@ use Rattle.plain_machine.specs.Step.{step, item_step}
 use Rattle.plain_machine.specs.Forms.{dropped, restored, evaluate, do_form, block, give, kept_reply, commit_change, at_kept, saved_of, popped, bracket, says, current, after_commit, call_with, when_eq}
 use Rattle.plain_machine.specs.Handling.{mark_of_process, second, sentinel_words, plain_text, enter, body_of, default_handler, put_in, output_in, process_buffer_of, native, left_state, ended_handler, without_hooks_item, named_body, native_next}
 use Rattle.plain_machine.specs.Waits.{ask_process, asked_more, read_answer, end_answer, drain, is_room, entry_of, counts, more_characters, ends, exit_text, is_eligible, target_is_eligible, from_eligible, eligible, delete, kill_answer, kill_at_end, finish, wait, ask_if, ask_next, delete_one, delete_running, hear, is_eligible_one, kill_live, wait_case, finish_one, finish_running}
-use Rattle.machine_laws.proofs.Keeping.{Core, core, cores, change_cores, step_keeps}
+use Rattle.machine_laws.proofs.Keeping.{Core, core, cores, fixed, change_cores, step_keeps}
 use Rattle.machine_laws.proofs.Moves.{IsHook, Plain, AllPlain, Valid, Silent, Nobody, Output, coming, output_of, Working, phase, IsIdle, IsNew, IsLast, Still, Ends, Moves, rests, enters, spawns, hears, drains, dies, closes, passes, kills, dumps}
 use Rattle.machine_laws.proofs.Basics.{and_left, or_nil}
 
@@ -222,6 +222,7 @@ block_does SaveExcursion forms s rest r = ((tt, (tt, r)), tt)
 block_does SaveRestriction forms s rest r = ((tt, (tt, r)), tt)
 block_does SaveCurrentBuffer forms s rest r = ((tt, (tt, r)), tt)
 block_does InhibitHooks forms s rest r = ((tt, (tt, r)), tt)
+block_does InhibitReadOnly forms s rest r = ((tt, (tt, r)), tt)
 
 pair_does : (s : State) (rest : List Item) (o : Option (List Value)) (forms : Forms) → AllPlain rest → Does s (when_eq o forms s rest)
 pair_does s rest None forms r = ((tt, r), tt)
@@ -288,6 +289,10 @@ changed_cores : (p : ℕ) (f : Process → Process) (s : State) (x : Process) �
 changed_cores p f s x e =
     (subst (λ o. cores (elim o [ None ↦ s | Some x ↦ record s { processes = slice_set s.processes p (f x) } ]) ≡ slice_set (cores s) p (core (f x))) (sym e) (set_cores s.processes p x (f x)))
 
+pub may_have : (o : Option (List ℕ)) (c : Coding) → is_some o ≡ true → c ≡ fixed o c
+may_have (Some bytes) c h = refl
+may_have None c h = cc
+
 module _ (s : State) (target : Target) (rest : List Item) (r : AllPlain rest) where
   abbrev Comes : Ask → Answer → Next → Type 0
   Comes ask answer n = Moves (cores s) Nobody Working (record { ask = ask; answer = answer } ∷ []) n.said (cores n.config.state) (coming n.config.work) (phase n.config.work) × Valid n.config.work
@@ -300,19 +305,19 @@ module _ (s : State) (target : Target) (rest : List Item) (r : AllPlain rest) wh
     where
       last : (answer : Answer) → IsLast answer → (n : Next) → drain s w target rest p x ≡ Some n → Comes (Read x.child) answer n
       last answer l n e =
-          let text : List Ch = more_characters (characters x.bytes) (all_characters x.bytes) in
+          let text : List Ch = more_characters (decoded x.coding (read_so_far x)) (all_decoded x.coding (read_so_far x)) in
           let t : (coming (entry_of s p x text (Wait w target ∷ rest)) ≡ output_of p text) × Valid (entry_of s p x text (Wait w target ∷ rest)) × (phase (entry_of s p x text (Wait w target ∷ rest)) ≡ Working) = entry_coming s p x text (Wait w target ∷ rest) (tt, r) in
           comes (Read x.child) answer _ n e
-          (drains p (core x) answer l refl (get_cores s.processes p x h) live undrained refl refl (changed_cores p (λ y. record y { drained = true }) (asked_more s) x h) t.0 refl t.2, t.1)
+          (drains p (core x) x.coding answer (may_have x.bytes x.coding) l refl (get_cores s.processes p x h) live undrained refl refl (changed_cores p (λ y. record y { drained = true }) (asked_more s) x h) t.0 refl t.2, t.1)
 
       heard : (bytes : List ℕ) (room : Bool) (n : Next) → hear room s w target rest p x bytes ≡ Some n → Comes (Read x.child) (Bytes bytes) n
       heard bytes false n e = cc
       heard bytes true n e =
-          let text : List Ch = more_characters (characters x.bytes) (characters (x.bytes ++ bytes)) in
+          let text : List Ch = more_characters (decoded x.coding (read_so_far x)) (decoded x.coding (read_so_far x ++ bytes)) in
           let w' : Waiting = record w { counted = w.counted || counts w p } in
           let t : (coming (entry_of s p x text (Wait w' target ∷ rest)) ≡ output_of p text) × Valid (entry_of s p x text (Wait w' target ∷ rest)) × (phase (entry_of s p x text (Wait w' target ∷ rest)) ≡ Working) = entry_coming s p x text (Wait w' target ∷ rest) (tt, r) in
           comes (Read x.child) (Bytes bytes) _ n e
-          (hears p (core x) bytes refl (get_cores s.processes p x h) live undrained refl refl (changed_cores p (λ y. record y { bytes = x.bytes ++ bytes }) (asked_more s) x h) t.0 refl t.2, t.1)
+          (hears p (core x) x.coding bytes (may_have x.bytes x.coding) refl (get_cores s.processes p x h) live undrained refl refl (changed_cores p (λ y. record y { bytes = Some (read_so_far x ++ bytes) }) (asked_more s) x h) t.0 refl t.2, t.1)
 
       go : (answer : Answer) (n : Next) → read_answer s w target rest p x answer ≡ Some n → Comes (Read x.child) answer n
       go (Bytes bytes) n e = heard bytes (is_room bytes) n e

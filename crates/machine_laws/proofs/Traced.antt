@@ -4,11 +4,11 @@ use Rattle.std.proofs.lemmas.List.{append-nil}
 use Rattle.std.proofs.lemmas.Grind.{flat_map-append}
 use Rattle.std.proofs.lemmas.List.Folds.{list_any-append}
 use Rattle.std.proofs.Math.Seq.{drop-append_seam}
-use Rattle.std.specs.Prelude.{Some, None, ◌==◌, not, ◌||◌, slice_get, slice_set, if◌then◌else◌}
+use Rattle.std.specs.Prelude.{Option, Some, None, is_some, unwrap_or, ◌==◌, not, ◌||◌, slice_get, slice_set, if◌then◌else◌}
 use Rattle.std.specs.List.{list_any}
-use Rattle.text_model.specs.Characters.{Ch, Raw}
-use Rattle.text_model.specs.Decoding.{characters, tail, all_characters}
-use Rattle.text_model.proofs.Decodings.{open_law}
+use Rattle.text_model.specs.Characters.{Ch}
+use Rattle.text_model.specs.Codings.{Coding, decoded, undecoded, all_decoded}
+use Rattle.text_model.proofs.Codings.{decoded_law, all_decoded_law, none_decoded}
 use Rattle.text_model.proofs.Lists.{set_same, set_other}
 use Rattle.plain_machine.specs.Exchanges.{Ask, Read, AskEnd, Answer, Bytes, End, Failed, Exchange}
 use Rattle.plain_machine.specs.Lines.{OfFilter, OfSentinel, Event, Entered}
@@ -16,7 +16,7 @@ use Rattle.plain_machine.specs.Items.{Said}
 use Rattle.machine_laws.specs.Entries.{entered_text, entered, read_bytes, read, is_end, output_ended, is_entry, has_entry}
 use Rattle.plain_machine.specs.Waits.{more_characters}
 use Rattle.machine_laws.proofs.Keeping.{Core}
-use Rattle.machine_laws.proofs.Moves.{IsQuiet, Silent, Coming, Nobody, Output, Sentinel, output_of, IsIdle, Idle, IsNew, fresh, EntryOf, IsLast, Moves, rests, enters, spawns, hears, drains, dies, Phase, closes, passes, kills, dumps}
+use Rattle.machine_laws.proofs.Moves.{IsQuiet, Silent, Coming, Nobody, Output, Sentinel, output_of, IsIdle, Idle, IsNew, fresh, so_far, MayHave, EntryOf, IsLast, Moves, rests, enters, spawns, hears, drains, dies, Phase, closes, passes, kills, dumps}
 use Rattle.machine_laws.proofs.Basics.{get_more, is_same, or_nil, or_right, other_is, same_is}
 
 -- SMALL THINGS
@@ -51,13 +51,18 @@ abbrev pub to_end : ℕ → Coming → Bool
 to_end p (Sentinel q) = q == p
 to_end p _ = false
 
-abbrev pub decoded : Core → List Ch
-decoded x = if x.drained then all_characters x.bytes else characters x.bytes
+abbrev pub heard_of : Core → List Ch
+heard_of x = if x.drained then all_decoded x.coding (so_far x) else decoded x.coding (so_far x)
+
+-- of no bytes each coding makes the same
+pub same_decoded : (o : Option (List ℕ)) (c k : Coding) → (is_some o ≡ true → k ≡ c) → (decoded c (unwrap_or o []) ≡ decoded k (unwrap_or o [])) × (all_decoded c (unwrap_or o []) ≡ all_decoded k (unwrap_or o []))
+same_decoded None c k h = ((none_decoded c).0 ∙ sym (none_decoded k).0, (none_decoded c).1 ∙ sym (none_decoded k).1)
+same_decoded (Some bytes) c k h = (ap (λ d. decoded d bytes) (sym (h refl)), ap (λ d. all_decoded d bytes) (sym (h refl)))
 
 pub record Holds (r : List ℕ) (o : Bool) (t : List Ch) (n : Bool) (x : Core) : Type 0 where
-  pub bytes : x.bytes ≡ r
+  pub bytes : so_far x ≡ r
   pub drained : x.drained ≡ o
-  pub text : t ≡ decoded x
+  pub text : t ≡ heard_of x
   pub ended : n ≡ not x.live
 
 abbrev pub HoldsAt : List Exchange → List Said → Coming → ℕ → Core → Type 0
@@ -348,34 +353,41 @@ last_is c d Failed l = (refl, refl)
 last_is c d (Bytes bytes) l = absurd l
 last_is c d _ l = absurd l
 
-hears_traced : (xs : List Exchange) (said : List Said) (cs : List Core) (p : ℕ) (x : Core) (bytes : List ℕ) → Traced xs said cs Nobody → slice_get cs p ≡ Some x → x.live ≡ true → x.drained ≡ false →
-    Traced (xs ++ record { ask = Read x.child; answer = Bytes bytes } ∷ []) said (slice_set cs p (record x { bytes = x.bytes ++ bytes })) (output_of p (more_characters (characters x.bytes) (characters (x.bytes ++ bytes))))
-hears_traced xs said cs p x bytes t g live undrained =
-    let x' : Core = record x { bytes = x.bytes ++ bytes } in
-    let text : List Ch = more_characters (characters x.bytes) (characters (x.bytes ++ bytes)) in
+hears_traced : (xs : List Exchange) (said : List Said) (cs : List Core) (p : ℕ) (x : Core) (k : Coding) (bytes : List ℕ) → MayHave x k → Traced xs said cs Nobody → slice_get cs p ≡ Some x → x.live ≡ true → x.drained ≡ false →
+    Traced (xs ++ record { ask = Read x.child; answer = Bytes bytes } ∷ []) said (slice_set cs p (record x { bytes = Some (so_far x ++ bytes); coding = k })) (output_of p (more_characters (decoded k (so_far x)) (decoded k (so_far x ++ bytes))))
+hears_traced xs said cs p x k bytes may t g live undrained =
+    let x' : Core = record x { bytes = Some (so_far x ++ bytes); coding = k } in
+    let text : List Ch = more_characters (decoded k (so_far x)) (decoded k (so_far x ++ bytes)) in
     let h : HoldsAt xs said Nobody p x = t.each p x g in
     let own : (x.child == x.child) ≡ true = is_same x.child x.child refl in
-    let before : entered p said ≡ characters x.bytes = sym (append-nil (entered p said)) ∙ (h.text ∙ ap (λ b. if b then all_characters x.bytes else characters x.bytes) undrained) in
+    let before : entered p said ≡ decoded k (so_far x) =
+    sym (append-nil (entered p said)) ∙ (h.text ∙ (ap (λ b. if b then all_decoded x.coding (so_far x) else decoded x.coding (so_far x)) undrained ∙ (same_decoded x.bytes x.coding k may).0)) in
     set_traced xs (record { ask = Read x.child; answer = Bytes bytes } ∷ []) said cs p x x' g (output_of p text) t refl
     (λ c n. (read_more c xs (Read x.child) (Bytes bytes) ∙ (ap (λ b. read c xs ++ (if b then bytes else [])) (other_is x.child c n) ∙ append-nil (read c xs)), ended_more c xs (Read x.child) (Bytes bytes) ∙ or_nil (output_ended c xs)))
     (λ q n. other_text p q text n)
     (record {
       bytes = (λ i. h.bytes i ++ bytes) ∙ sym (read_more x.child xs (Read x.child) (Bytes bytes) ∙ ap (λ b. read x.child xs ++ (if b then bytes else [])) own);
       drained = h.drained ∙ sym (ended_more x.child xs (Read x.child) (Bytes bytes) ∙ or_nil (output_ended x.child xs));
-      text = (λ i. before i ++ own_text p text i) ∙ (grown (characters x.bytes) (characters (x.bytes ++ bytes)) (characters (tail x.bytes ++ bytes)) (open_law x.bytes bytes) ∙ ap (λ b. if b then all_characters (x.bytes ++ bytes) else characters (x.bytes ++ bytes)) (sym undrained));
+      text = (λ i. before i ++ own_text p text i) ∙ (grown (decoded k (so_far x)) (decoded k (so_far x ++ bytes)) (decoded k (undecoded k (so_far x) ++ bytes)) (decoded_law k (so_far x) bytes) ∙ ap (λ b. if b then all_decoded k (so_far x ++ bytes) else decoded k (so_far x ++ bytes)) (sym undrained));
       ended = ap (λ b. has_entry true p said || b) (no_end p p text) ∙ h.ended;
     })
     (output_expected said (slice_set cs p x') p x' text (set_same cs p x' x g) live)
     (ends_more [] xs (record { ask = Read x.child; answer = Bytes bytes }) t.ends (λ c k. cc))
 
-drains_traced : (xs : List Exchange) (said : List Said) (cs : List Core) (p : ℕ) (x : Core) (answer : Answer) → IsLast answer → Traced xs said cs Nobody → slice_get cs p ≡ Some x → x.live ≡ true → x.drained ≡ false →
-    Traced (xs ++ record { ask = Read x.child; answer = answer } ∷ []) said (slice_set cs p (record x { drained = true })) (output_of p (more_characters (characters x.bytes) (all_characters x.bytes)))
-drains_traced xs said cs p x answer last t g live undrained =
+-- all characters are those without what is left out, and then those of that
+all_apart : (k : Coding) (bytes : List ℕ) → all_decoded k bytes ≡ decoded k bytes ++ all_decoded k (undecoded k bytes)
+all_apart k bytes = ap (all_decoded k) (sym (append-nil bytes)) ∙ (all_decoded_law k bytes [] ∙ ap (λ t. decoded k bytes ++ all_decoded k t) (append-nil (undecoded k bytes)))
+
+drains_traced : (xs : List Exchange) (said : List Said) (cs : List Core) (p : ℕ) (x : Core) (k : Coding) (answer : Answer) → MayHave x k → IsLast answer → Traced xs said cs Nobody → slice_get cs p ≡ Some x → x.live ≡ true → x.drained ≡ false →
+    Traced (xs ++ record { ask = Read x.child; answer = answer } ∷ []) said (slice_set cs p (record x { drained = true })) (output_of p (more_characters (decoded k (so_far x)) (all_decoded k (so_far x))))
+drains_traced xs said cs p x k answer may last t g live undrained =
     let x' : Core = record x { drained = true } in
-    let text : List Ch = more_characters (characters x.bytes) (all_characters x.bytes) in
+    let text : List Ch = more_characters (decoded k (so_far x)) (all_decoded k (so_far x)) in
     let h : HoldsAt xs said Nobody p x = t.each p x g in
     let own : (x.child == x.child) ≡ true = is_same x.child x.child refl in
-    let before : entered p said ≡ characters x.bytes = sym (append-nil (entered p said)) ∙ (h.text ∙ ap (λ b. if b then all_characters x.bytes else characters x.bytes) undrained) in
+    let same : (decoded x.coding (so_far x) ≡ decoded k (so_far x)) × (all_decoded x.coding (so_far x) ≡ all_decoded k (so_far x)) = same_decoded x.bytes x.coding k may in
+    let before : entered p said ≡ decoded k (so_far x) =
+    sym (append-nil (entered p said)) ∙ (h.text ∙ (ap (λ b. if b then all_decoded x.coding (so_far x) else decoded x.coding (so_far x)) undrained ∙ same.0)) in
     let l : (c : ℕ) → (read_bytes c (Read x.child) answer ≡ []) × (is_end c (Read x.child) answer ≡ (x.child == c)) = λ c. last_is c x.child answer last in
     set_traced xs (record { ask = Read x.child; answer = answer } ∷ []) said cs p x x' g (output_of p text) t refl
     (λ c n. (read_more c xs (Read x.child) answer ∙ (ap (λ t. read c xs ++ t) (l c).0 ∙ append-nil (read c xs)), ended_more c xs (Read x.child) answer ∙ (ap (λ b. output_ended c xs || b) ((l c).1 ∙ other_is x.child c n) ∙ or_nil (output_ended c xs))))
@@ -383,7 +395,7 @@ drains_traced xs said cs p x answer last t g live undrained =
     (record {
       bytes = h.bytes ∙ sym (read_more x.child xs (Read x.child) answer ∙ (ap (λ t. read x.child xs ++ t) (l x.child).0 ∙ append-nil (read x.child xs)));
       drained = sym (ended_more x.child xs (Read x.child) answer ∙ or_right (output_ended x.child xs) (is_end x.child (Read x.child) answer) ((l x.child).1 ∙ own));
-      text = (λ i. before i ++ own_text p text i) ∙ grown (characters x.bytes) (all_characters x.bytes) (map Raw (tail x.bytes)) refl;
+      text = (λ i. before i ++ own_text p text i) ∙ (grown (decoded k (so_far x)) (all_decoded k (so_far x)) (all_decoded k (undecoded k (so_far x))) (all_apart k (so_far x)) ∙ sym same.1);
       ended = ap (λ b. has_entry true p said || b) (no_end p p text) ∙ h.ended;
     })
     (output_expected said (slice_set cs p x') p x' text (set_same cs p x' x g) live)
@@ -413,8 +425,8 @@ pub moves_traced : (xs ys : List Exchange) (said more : List Said) (cs ds : List
 moves_traced xs ys said more cs ds e f g h t (rests a b d i q r s u) = rested xs ys said more cs ds e f t a b d i q
 moves_traced xs ys said more cs ds e f g h t (enters x k m b d n r s) = rw (b, d, m, n, append-nil) (enters_traced xs said x cs e t k)
 moves_traced xs ys said more cs ds e f g h t (spawns child a b d new i m r s u) = rw (b, d, m, append-nil) (spawns_traced xs ys said cs child (subst (λ e. Traced xs said cs e) a t) i new)
-moves_traced xs ys said more cs ds e f g h t (hears p x bytes a k live undrained n m d b r s) = rw (b, d, m, n, append-nil) (hears_traced xs said cs p x bytes (subst (λ e. Traced xs said cs e) a t) k live undrained)
-moves_traced xs ys said more cs ds e f g h t (drains p x answer last a k live undrained n m d b r s) = rw (b, d, m, n, append-nil) (drains_traced xs said cs p x answer last (subst (λ e. Traced xs said cs e) a t) k live undrained)
+moves_traced xs ys said more cs ds e f g h t (hears p x c bytes may a k live undrained n m d b r s) = rw (b, d, m, n, append-nil) (hears_traced xs said cs p x c bytes may (subst (λ e. Traced xs said cs e) a t) k live undrained)
+moves_traced xs ys said more cs ds e f g h t (drains p x c answer may last a k live undrained n m d b r s) = rw (b, d, m, n, append-nil) (drains_traced xs said cs p x c answer may last (subst (λ e. Traced xs said cs e) a t) k live undrained)
 moves_traced xs ys said more cs ds e f g h t (dies p x a k live i m d b r s u) = rw (b, d, m, append-nil) (dies_traced xs ys said cs p x (subst (λ e. Traced xs said cs e) a t) i k live)
 moves_traced xs ys said more cs ds e f g h t (closes a b d n q r s) = rested xs ys said more cs ds e f t a b d (nothing cs ys n) q
 moves_traced xs ys said more cs ds e f g h t (passes p x a b d n q k dead r s) = rested xs ys said more cs ds e f t a b d (nothing cs ys n) q

@@ -16,8 +16,8 @@ use Rattle.machine_laws.proofs.Advancing.{advances_self, site_advances, site_sha
 use Rattle.machine_laws.proofs.Applying.{clip_lies}
 use Rattle.machine_laws.proofs.Settling.{Settles, settles_self, settles_then, settles_advances, marks_settle, site_settles}
 use Rattle.plain_machine.specs.State.{State, Process, process, change_process}
-use Rattle.plain_machine.specs.Items.{Item, Top, Native, Called, Exit, Leave, MakeChange, CommitChange, Kept, KeptExcursion, KeptRestriction, KeptBuffer, KeptInhibition}
-use Rattle.plain_machine.specs.Forms.{with_saved, if_live, current, in_buffer, put_back, pop, popped, restored, dropped}
+use Rattle.plain_machine.specs.Items.{Item, Top, Native, Called, Exit, Leave, MakeChange, CommitChange, Kept, KeptExcursion, KeptRestriction, KeptBuffer, KeptInhibition, KeptLifting}
+use Rattle.plain_machine.specs.Forms.{with_saved, if_live, current, in_buffer, put_back, pop, lifting, popped, restored, dropped}
 use Rattle.machine_laws.proofs.GoodConfig.{AllFine, WorkFine, Stacked, Well}
 
 -- the kinds of the kept places of a state
@@ -139,12 +139,14 @@ restored_rests KeptExcursion s g = pop_rests s g
 restored_rests KeptRestriction s g = pop_rests s g
 restored_rests (KeptBuffer b) s g = live_rests s b (current b s) g (λ q. current_rests b s g)
 restored_rests (KeptInhibition old) s g = record { settles = settles_self s.editor g; same_kinds = refl }
+restored_rests (KeptLifting old) s g = record { settles = marks_settle s.editor (lifting old s).editor g refl (λ id h. h); same_kinds = refl }
 
 pub leave_stacked : (k : Kept) (rest : List Item) (ks : List (ℕ × ℕ)) → Stacked (Leave k ∷ rest) ks → Stacked rest (left_kinds k ks)
 leave_stacked KeptExcursion rest ks h = h
 leave_stacked KeptRestriction rest ks h = h
 leave_stacked (KeptBuffer b) rest ks h = h
 leave_stacked (KeptInhibition old) rest ks h = h
+leave_stacked (KeptLifting old) rest ks h = h
 
 -- what a fault drops
 pub dropped_well : (f : Fault) (rest : List Item) (e : Editor) (s : State) → GoodEditor e → Settles e s.editor → AllFine rest → Stacked rest (kinds s) → Well e (dropped f rest s)

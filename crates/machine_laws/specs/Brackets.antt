@@ -19,15 +19,17 @@ shape (Pending b from to) = (2, b)
 abbrev pub shapes : List Saved → List (ℕ × ℕ)
 shapes saved = map shape saved
 
--- how many handlers run, how many scopes there are, whether hooks are inhibited, which places are kept
+-- how many handlers run, how many scopes there are, whether hooks are inhibited, whether nothing counts as read-only,
+-- which places are kept
 pub record Levels : Type 0 where
   pub depth : ℕ
   pub scopes : ℕ
   pub inhibited : Bool
+  pub lifted : Bool
   pub kept : List (ℕ × ℕ)
 
 abbrev pub levels : State → Levels
-levels s = record { depth = s.depth; scopes = length s.scopes; inhibited = s.inhibited; kept = shapes s.editor.marks.saved }
+levels s = record { depth = s.depth; scopes = length s.scopes; inhibited = s.inhibited; lifted = s.editor.lifted; kept = shapes s.editor.marks.saved }
 
 -- THE TOP LEVEL
 -- the forms of the top level are next, or what stands behind them
@@ -43,6 +45,7 @@ pub record NothingLeft (s : State) : Type 0 where
   pub scopes : s.scopes ≡ []
   pub kept : s.editor.marks.saved ≡ []
   pub inhibited : s.inhibited ≡ false
+  pub lifted : s.editor.lifted ≡ false
 
 -- Whenever a run comes to the top level, no handler, no block and no change has left anything over.
 abbrev pub TopIsClear : Program → ℕ → Config → Type 0

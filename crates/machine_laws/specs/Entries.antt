@@ -1,11 +1,11 @@
 -- Entries: what the filters and sentinels of a process are entered with, in every run.
-use Rattle.std.specs.Prelude.{◌≡◌, ◌⊎◌, ℕ, Bool, true, false, ◌==◌, List, [], ◌∷◌, ◌++◌, map, flat_map, slice_get, if◌then◌else◌, Some}
+use Rattle.std.specs.Prelude.{◌≡◌, ◌⊎◌, ℕ, Bool, true, false, ◌==◌, List, [], ◌∷◌, ◌++◌, map, flat_map, slice_get, if◌then◌else◌, Some, None}
 use Rattle.std.specs.List.{list_any}
 use Rattle.text_model.specs.Characters.{Ch}
-use Rattle.text_model.specs.Decoding.{characters, all_characters}
+use Rattle.text_model.specs.Codings.{Coding, Utf8, decoded, all_decoded}
 use Rattle.editor_model.specs.Values.{Script}
 use Rattle.plain_machine.specs.Exchanges.{Ask, Read, AskEnd, Kill, Answer, Bytes, End, Exchange, children_started}
-use Rattle.plain_machine.specs.State.{Process, Program, process}
+use Rattle.plain_machine.specs.State.{State, Process, Program, process}
 use Rattle.plain_machine.specs.Lines.{OfFilter, OfSentinel, Event, Entered}
 use Rattle.plain_machine.specs.Items.{Said, Config}
 use Rattle.plain_machine.specs.Arguments.{runs}
@@ -40,8 +40,13 @@ is_end child _ _ = false
 abbrev pub output_ended : (child : ℕ) → List Exchange → Bool
 output_ended child exchanges = list_any (λ x. is_end child x.ask x.answer) exchanges
 
-abbrev pub heard : (child : ℕ) → List Exchange → List Ch
-heard child exchanges = if output_ended child exchanges then all_characters (read child exchanges) else characters (read child exchanges)
+-- what was heard of it, in a coding
+abbrev pub heard : Coding → (child : ℕ) → List Exchange → List Ch
+heard coding child exchanges = if output_ended child exchanges then all_decoded coding (read child exchanges) else decoded coding (read child exchanges)
+
+-- how the output of a process is decoded
+abbrev pub coding_in : State → (p : ℕ) → Coding
+coding_in s p = elim (process s p) [ Some x ↦ x.coding | None ↦ Utf8 ]
 
 -- a sentinel's entry, or a filter's, of a process
 abbrev pub is_entry : (sentinel : Bool) → (p : ℕ) → Event → Bool
@@ -57,13 +62,19 @@ has_entry sentinel p said = list_any (λ x. is_entry sentinel p x.event) said
 abbrev pub Entries : Program → ℕ → Config → Type 0
 Entries program bound from =
     (exchanges : List Exchange) (said : List Said) (c : Config) → Reaches program bound from exchanges said c → IsBetweenEntries c →
-    (p : ℕ) (x : Process) → process c.state p ≡ Some x → entered p said ≡ heard x.child exchanges
+    (p : ℕ) (x : Process) → process c.state p ≡ Some x → entered p said ≡ heard x.coding x.child exchanges
 
--- the same by the exchanges and the lines alone: process p is the one whose child was started as number p
+-- the same by the exchanges and the lines: process p is the one whose child was started as number p
 abbrev pub EntriesOfChildren : Program → ℕ → Config → Type 0
 EntriesOfChildren program bound from =
     (exchanges : List Exchange) (said : List Said) (c : Config) → Reaches program bound from exchanges said c → IsBetweenEntries c →
-    (p child : ℕ) → slice_get (children_started exchanges) p ≡ Some child → entered p said ≡ heard child exchanges
+    (p child : ℕ) → slice_get (children_started exchanges) p ≡ Some child → entered p said ≡ heard (coding_in c.state p) child exchanges
+
+-- once bytes were read of a process its coding stays
+abbrev pub CodingsStay : Program → ℕ → Config → Type 0
+CodingsStay program bound from =
+    (before after : List Exchange) (said more : List Said) (c d : Config) → Reaches program bound from before said c → Reaches program bound c after more d →
+    (p : ℕ) (x : Process) → process c.state p ≡ Some x → (read x.child before ≡ [] → ⊥) → (y : Process) × (process d.state p ≡ Some y) × (y.coding ≡ x.coding)
 
 -- at most one sentinel entry, and no filter entry of the process after it
 abbrev pub Sentinels : Program → ℕ → Config → Type 0
@@ -96,8 +107,8 @@ SentinelsAfterOutput program bound from =
 -- Of a whole run, and of one that was broken off: what the filters were entered with is what was read, decoded.
 abbrev pub RanEntries : Program → ℕ → Script → Type 0
 RanEntries program bound script =
-    (exchanges : List Exchange) (written : List ℕ) (r : Ran program bound script exchanges written) (p child : ℕ) → slice_get (children_started exchanges) p ≡ Some child → entered p r.said ≡ heard child exchanges
+    (exchanges : List Exchange) (written : List ℕ) (r : Ran program bound script exchanges written) (p child : ℕ) → slice_get (children_started exchanges) p ≡ Some child → entered p r.said ≡ heard (coding_in r.last.state p) child exchanges
 
 abbrev pub BrokenEntries : Program → ℕ → Script → Type 0
 BrokenEntries program bound script =
-    (exchanges : List Exchange) (written : List ℕ) (r : BrokenOff program bound script exchanges written) (p child : ℕ) → slice_get (children_started r.made) p ≡ Some child → entered p r.said ≡ heard child r.made
+    (exchanges : List Exchange) (written : List ℕ) (r : BrokenOff program bound script exchanges written) (p child : ℕ) → slice_get (children_started r.made) p ≡ Some child → entered p r.said ≡ heard (coding_in r.last.state p) child r.made

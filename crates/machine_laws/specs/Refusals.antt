@@ -2,7 +2,7 @@
 use Rattle.std.specs.Prelude.{◌≡◌, ℕ, ◌+◌, true, List, [], ◌∷◌, ◌++◌, length, Some}
 use Rattle.editor_model.specs.Values.{Fault, Do, Setq}
 use Rattle.plain_machine.specs.Exchanges.{Ask, Spawn, Read, AskEnd, Send, Answer, Bytes, Refused, Nothing, End, Running, Broken, Failed, Exchange}
-use Rattle.plain_machine.specs.State.{State, Process, Program, process, change_process}
+use Rattle.plain_machine.specs.State.{State, Process, Program, process, change_process, read_so_far}
 use Rattle.plain_machine.specs.Items.{Item, DoForm, MakeCall, GiveAnswer, Refuse, Hooks, Calm, CommitChange, Enter, Exit, Wait, Delete}
 use Rattle.plain_machine.specs.Forms.{popped}
 use Rattle.plain_machine.specs.Waits.{asked_more}
@@ -16,7 +16,7 @@ Noted child change s t = (p : ℕ) × (x : Process) × (process s p ≡ Some x) 
 -- What an exchange leaves that enters no handler and answers no call. A read leaves its bytes, or that the output has ended,
 -- in the process that it names; a send leaves the count of its bytes; and all are counted.
 abbrev pub Leaves : Ask → Answer → State → State → Type 0
-Leaves (Read child) (Bytes bytes) s t = Noted child (λ x. record x { bytes = x.bytes ++ bytes }) s t
+Leaves (Read child) (Bytes bytes) s t = Noted child (λ x. record x { bytes = Some (read_so_far x ++ bytes) }) s t
 Leaves (Read child) End s t = Noted child (λ x. record x { drained = true }) s t
 Leaves (Read child) Failed s t = Noted child (λ x. record x { drained = true }) s t
 Leaves (Read child) Nothing s t = t ≡ asked_more s

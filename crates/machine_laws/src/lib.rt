@@ -18,7 +18,7 @@ ghost use Rattle.machine_laws.specs.Boundaries.{BoundaryKeeps, RecordingKeeps, R
 ghost use Rattle.machine_laws.specs.Boundaries.{ResettingKeeps, UndoingKeeps};
 ghost use Rattle.machine_laws.specs.Children.{FewExchanges, FewInAll, KillsLeft, KillsOnce};
 ghost use Rattle.machine_laws.specs.Editors.{EditorsAreSound};
-ghost use Rattle.machine_laws.specs.Entries.{BrokenEntries, EndsAfterOutput, Entries};
+ghost use Rattle.machine_laws.specs.Entries.{BrokenEntries, CodingsStay, EndsAfterOutput, Entries};
 ghost use Rattle.machine_laws.specs.Entries.{EntriesOfChildren, RanEntries, Sentinels};
 ghost use Rattle.machine_laws.specs.Entries.{SentinelsAfterOutput};
 ghost use Rattle.machine_laws.specs.FaultLines.{OneFaultLine};
@@ -110,6 +110,13 @@ pub fn kills_are_left()
 
 // WHAT IS HEARD OF A PROCESS
 
+/// A process's coding changes only while nothing was read of it.
+#[tactic(auto, using(crate::proofs::Coded::codings_stay))]
+pub fn codings_stay()
+    ensures { (program : Program) (bound : ℕ) (script : Script) →
+        CodingsStay program bound (start script) }
+{}
+
 /// What the filters of a process were entered with is the decoding of what was read from it: nothing is lost, doubled or
 /// out of order, whatever handlers do in between.
 #[tactic(auto, using(crate::proofs::Heard::entries))]
@@ -117,7 +124,7 @@ pub fn filters_hear_what_was_read()
     ensures { (program : Program) (bound : ℕ) (script : Script) → Entries program bound (start script) }
 {}
 
-/// The same by the exchanges and the lines alone.
+/// The same by the exchanges and the lines, process by process in the order of their starts.
 #[tactic(auto, using(crate::proofs::Alive::entries_of_children))]
 pub fn filters_hear_what_children_wrote()
     ensures { (program : Program) (bound : ℕ) (script : Script) →
@@ -214,8 +221,8 @@ pub fn undo_returns()
 // BRACKETS
 
 /// Whenever a run comes to the forms of the top level, the depth is 0, there are no scopes and no
-/// kept places, and hooks aren't inhibited: no handler, no block and no change has left anything
-/// over.
+/// kept places, hooks aren't inhibited, and what is read-only counts as that: no handler, no block
+/// and no change has left anything over.
 #[tactic(auto, using(crate::proofs::Bracketing::top_is_clear))]
 pub fn nothing_is_left_at_the_top()
     ensures { (program : Program) (bound : ℕ) (script : Script) →
@@ -223,8 +230,8 @@ pub fn nothing_is_left_at_the_top()
 {}
 
 /// Behind a call, answered or refused, whatever handlers ran in it: as many handlers run as before,
-/// there are as many scopes, hooks are inhibited or not as before, and the same places are kept
-/// below. The buffer that was current is so again, unless it was killed, or the call names one.
+/// there are as many scopes, hooks are inhibited or not as before, so are the tests for what is
+/// read-only lifted, and the same places are kept below. The buffer that was current is so again, unless it was killed, or the call names one.
 pub fn calls_bracket()
     ensures { (program : Program) (bound : ℕ) (script : Script) →
         CallsBracket program bound (start script) }

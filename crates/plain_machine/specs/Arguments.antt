@@ -1,9 +1,10 @@
 -- Handlers and processes as arguments of calls. GNU Emacs Lisp Reference Manual, chapter "Processes".
-use Rattle.std.specs.Prelude.{ℕ, zero, suc, ◌+◌, Bool, true, false, ◌&&◌, ◌||◌, not, ◌==◌, List, [], ◌∷◌, map, flat_map, filter, length, Option, Some, None, is_some, unwrap_or}
+use Rattle.std.specs.Prelude.{ℕ, zero, suc, ◌+◌, Bool, true, false, ◌&&◌, ◌||◌, not, ◌==◌, List, [], ◌∷◌, map, flat_map, filter, length, if◌then◌else◌, Option, Some, None, is_some, unwrap_or}
 use Rattle.std.specs.List.{list_all, enumerate_from}
 use Rattle.text_model.specs.Characters.{Scalar, Raw}
 use Rattle.text_model.specs.Characters as Characters
 use Rattle.text_model.specs.Properties.{Cell}
+use Rattle.text_model.specs.Codings.{Coding, Utf8, Utf8Dos, Latin1}
 use Rattle.editor_model.specs.Values.{Value, Nil, T, Sym, Str, TheBuffer, TheProcess, HandlerDef}
 use Rattle.editor_model.specs.Editor.{Editor, Name, same_name, find, numbered_name}
 use Rattle.editor_model.specs.Arguments.{string_of, name_of}
@@ -56,6 +57,27 @@ abbrev pub sentinel_value : Option ℕ → Value
 sentinel_value None = Nil
 sentinel_value (Some s) = Sym s
 
+-- CODINGS
+-- the symbols `utf-8-unix`, `utf-8-dos`, `latin-1-unix`
+abbrev pub coding_symbol : Coding → ℕ
+coding_symbol Utf8 = 14
+coding_symbol Utf8Dos = 15
+coding_symbol Latin1 = 16
+
+abbrev pub coding_value : Coding → Value
+coding_value c = Sym (coding_symbol c)
+
+abbrev pub is_coding : Value → Bool
+is_coding (Sym s) = (s == 14) || ((s == 15) || (s == 16))
+is_coding _ = false
+
+abbrev pub coding_named : ℕ → Coding
+coding_named s = if s == 15 then Utf8Dos else (if s == 16 then Latin1 else Utf8)
+
+abbrev pub coding_of : Value → Coding
+coding_of (Sym s) = coding_named s
+coding_of _ = Utf8
+
 -- PROCESSES
 -- the listed process of a name
 abbrev pub find_process : ℕ → List Process → Name → Option ℕ
@@ -89,6 +111,10 @@ child_of s p = elim (process s p) [ Some x ↦ x.child | None ↦ 0 ]
 
 abbrev pub is_closed : State → ℕ → Bool
 is_closed s p = elim (process s p) [ Some x ↦ x.closed | None ↦ true ]
+
+-- a read of it gave bytes
+abbrev pub is_fed : State → ℕ → Bool
+is_fed s p = elim (process s p) [ None ↦ false | Some x ↦ is_some x.bytes ]
 
 abbrev pub stands_in : (buffer : ℕ) → Process → Bool
 stands_in b x = elim x.buffer [ Some c ↦ c == b | None ↦ false ]

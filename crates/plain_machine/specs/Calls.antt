@@ -4,7 +4,8 @@
 use Rattle.std.specs.Prelude.{ℕ, ◌+◌, pos, Bool, true, false, not, ◌==◌, List, [], ◌∷◌, ◌++◌, map, filter, length, drop, if◌then◌else◌, Option, Some, None}
 use Rattle.std.specs.List.{list_any, enumerate_from}
 use Rattle.text_model.specs.Marks.{Spot}
-use Rattle.editor_model.specs.Values.{Value, Nil, Int, Sym, Str, TheBuffer, TheMarker, TheProcess, list, is_nil, plain, truth, Fault, BrokenPipe, SpawnFailed, Reply, Answered, Prim, KillBuffer, AddHook, RemoveHook, StartProcess, ProcessList, GetProcess, ProcessName, ProcessStatus, ProcessBuffer, ProcessMark, ProcessLiveP, ProcessExitStatus, ProcessFilter, ProcessSentinel, SetProcessFilter, SetProcessSentinel, SetProcessBuffer, ProcessSendString, ProcessSendEof, DeleteProcess, AcceptProcessOutput}
+use Rattle.text_model.specs.Codings.{Coding, Utf8}
+use Rattle.editor_model.specs.Values.{Value, Nil, Int, Sym, Str, TheBuffer, TheMarker, TheProcess, list, is_nil, plain, truth, Fault, BrokenPipe, SpawnFailed, Reply, Answered, Prim, KillBuffer, AddHook, RemoveHook, StartProcess, ProcessList, GetProcess, ProcessName, ProcessStatus, ProcessBuffer, ProcessMark, ProcessLiveP, ProcessExitStatus, ProcessFilter, ProcessSentinel, SetProcessFilter, SetProcessSentinel, SetProcessBuffer, ProcessSendString, ProcessSendEof, DeleteProcess, AcceptProcessOutput, SetProcessCodingSystem, ProcessCodingSystem}
 use Rattle.editor_model.specs.Editor.{Editor, buffer_at, with_buffer, with_marker}
 use Rattle.editor_model.specs.Arguments.{arg, string_of, name_of, buffer_of, symbol_of}
 use Rattle.editor_model.specs.Prims.{Manner, OnlyAsks, SetsState, ChangesText, ConcernsHandlers, manner_of}
@@ -14,7 +15,7 @@ use Rattle.plain_machine.specs.Exchanges.{Spawn, Send, Close, Answer, Started, S
 use Rattle.plain_machine.specs.State.{State, Process, Status, Runs, Exited, Signalled, Lost, Filter, Default, Program, process, change_process}
 use Rattle.plain_machine.specs.Hooks.{set_hook_list, hook_added, hook_removed}
 use Rattle.plain_machine.specs.Refusals.{process_tests, rounds_of}
-use Rattle.plain_machine.specs.Arguments.{filter_of, filter_value, sentinel_of, sentinel_value, find_process, process_of, runs, child_of, is_closed, running_in, encoded, is_new_name, process_name}
+use Rattle.plain_machine.specs.Arguments.{filter_of, filter_value, sentinel_of, sentinel_value, coding_of, coding_value, find_process, process_of, runs, child_of, is_closed, running_in, encoded, is_new_name, process_name}
 use Rattle.plain_machine.specs.Items.{Item, GiveAnswer, Refuse, MakeChange, Wait, Delete, Target, Waiting, Next, Step, Goes, Asks}
 
 -- a step that says nothing
@@ -63,7 +64,7 @@ started s name b child =
     let buffer : Option ℕ = process_buffer e b in
     record s {
       editor = with_marker (record { spot = end_of e buffer; advances = false }) e;
-      processes = s.processes ++ record { name = process_name s.processes (name_of name); child = child; status = Runs; buffer = buffer; mark = length e.marks.markers; filter = Default; sentinel = None; bytes = []; drained = false; closed = false; listed = true } ∷ [];
+      processes = s.processes ++ record { name = process_name s.processes (name_of name); child = child; status = Runs; buffer = buffer; mark = length e.marks.markers; filter = Default; sentinel = None; coding = Utf8; bytes = None; drained = false; closed = false; listed = true } ∷ [];
       asked = s.asked + 1;
     }
 
@@ -90,6 +91,10 @@ with_sentinel h x = record x { sentinel = h }
 
 abbrev pub of_buffer : Option ℕ → Process → Process
 of_buffer b x = record x { buffer = b }
+
+-- as long as nothing was read
+abbrev pub with_coding : Coding → Process → Process
+with_coding c x = elim x.bytes [ Some bytes ↦ x | None ↦ record x { coding = c } ]
 
 -- SENDING
 abbrev pub sent_answer : State → Target → List Item → (size : ℕ) → Answer → Option Next
@@ -146,6 +151,7 @@ told_of ProcessLiveP x = truth (runs x.status)
 told_of ProcessExitStatus x = exit_value x.status
 told_of ProcessFilter x = filter_value x.filter
 told_of ProcessSentinel x = sentinel_value x.sentinel
+told_of ProcessCodingSystem x = coding_value x.coding
 told_of _ x = Nil
 
 abbrev pub told_of_one : Prim → Option Process → Value
@@ -177,6 +183,7 @@ process_effect s target rest GetProcess args = on s (GiveAnswer (get_process s (
 process_effect s target rest SetProcessFilter args = on (change_process (process_of s (arg args 0)) (with_filter (filter_of (arg args 1))) s) (GiveAnswer (arg args 1) target ∷ rest)
 process_effect s target rest SetProcessSentinel args = on (change_process (process_of s (arg args 0)) (with_sentinel (sentinel_of (arg args 1))) s) (GiveAnswer (arg args 1) target ∷ rest)
 process_effect s target rest SetProcessBuffer args = on (change_process (process_of s (arg args 0)) (of_buffer (process_buffer s.editor (arg args 1))) s) (GiveAnswer (arg args 1) target ∷ rest)
+process_effect s target rest SetProcessCodingSystem args = on (change_process (process_of s (arg args 0)) (with_coding (coding_of (arg args 1))) s) (GiveAnswer (arg args 1) target ∷ rest)
 process_effect s target rest ProcessSendString args = send s target rest (child_of s (process_of s (arg args 0))) (encoded (string_of (arg args 1)))
 process_effect s target rest ProcessSendEof args = send_eof s target rest (process_of s (arg args 0)) (is_closed s (process_of s (arg args 0)))
 process_effect s target rest DeleteProcess args = on s (Delete (process_of s (arg args 0)) ∷ GiveAnswer Nil target ∷ rest)

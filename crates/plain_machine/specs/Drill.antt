@@ -42,31 +42,31 @@ drill_reads n = let output : List ℕ = output_from 0 n in pieces (length output
 -- THE SCRIPT
 -- its names, numbered behind the first symbols: f p s b m e n out g
 abbrev pub f : ℕ
-f = 14
+f = 17
 
 abbrev pub p : ℕ
-p = 15
+p = 18
 
 abbrev pub s : ℕ
-s = 16
+s = 19
 
 abbrev pub b : ℕ
-b = 17
+b = 20
 
 abbrev pub m : ℕ
-m = 18
+m = 21
 
 abbrev pub e : ℕ
-e = 19
+e = 22
 
 abbrev pub n : ℕ
-n = 20
+n = 23
 
 abbrev pub out : ℕ
-out = 21
+out = 24
 
 abbrev pub g : ℕ
-g = 22
+g = 25
 
 abbrev pub drill_symbols : List (List ℕ)
 drill_symbols =

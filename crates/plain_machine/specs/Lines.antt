@@ -4,7 +4,7 @@ use Rattle.std.specs.List.{enumerate_from}
 use Rattle.text_model.specs.Characters.{Ch, Scalar, Raw}
 use Rattle.text_model.specs.Properties.{Cell, PropSet, PropVal, stretches, same_set}
 use Rattle.text_model.specs.Marks.{Marker}
-use Rattle.editor_model.specs.Values.{Value, Values, Nil, T, Int, Sym, Str, Items, Dotted, TheBuffer, TheMarker, TheOverlay, TheProcess, End, More, Reply, Answered, Refused, Fault, ArgsOutOfRange, WrongType, VoidVariable, NoSuchBuffer, BufferKilled, NoFurtherUndo, UndoOutside, UndoDisabled, NoSuchProcess, ProcessEnded, BrokenPipe, SpawnFailed, Nesting, ExchangesSpent, BufferFull, TooMany}
+use Rattle.editor_model.specs.Values.{Value, Values, Nil, T, Int, Sym, Str, Items, Dotted, TheBuffer, TheMarker, TheOverlay, TheProcess, End, More, Reply, Answered, Refused, Fault, ArgsOutOfRange, WrongType, VoidVariable, NoSuchBuffer, BufferKilled, NoFurtherUndo, UndoOutside, UndoDisabled, NoSuchProcess, ProcessEnded, BrokenPipe, SpawnFailed, Nesting, ExchangesSpent, BufferFull, TooMany, CodingFixed, BufferReadOnly, TextReadOnly}
 use Rattle.editor_model.specs.Editor.{Editor, Name, Live, live}
 use Rattle.editor_model.specs.Arguments.{marker_of}
 use Rattle.plain_machine.specs.State.{State, Status, Runs, Exited, Signalled, Lost, process}
@@ -143,6 +143,9 @@ fault_words Nesting = codes "13 nesting"
 fault_words ExchangesSpent = codes "14 exchanges-spent"
 fault_words BufferFull = codes "15 buffer-full"
 fault_words TooMany = codes "16 too-many"
+fault_words BufferReadOnly = codes "17 buffer-read-only"
+fault_words TextReadOnly = codes "18 text-read-only"
+fault_words CodingFixed = codes "19 coding-fixed"
 
 abbrev pub indented : ℕ → List ℕ → List ℕ
 indented zero line = line ++ 10 ∷ []
@@ -165,7 +168,8 @@ shown_live symbols current numbered = elim numbered.1 [
   | Some l ↦
       codes "buffer " ++ (shown_name l.name ++ (codes " point " ++ (decimal (l.buffer.point + 1) ++ (codes " min " ++ (decimal (l.buffer.begin + 1) ++
       (codes " max " ++ (decimal (l.buffer.end + 1) ++ (codes " modified " ++ ((if l.buffer.modified then codes "t" else codes "nil") ++
-      ((if numbered.0 == current then codes " current\ntext " else codes "\ntext ") ++ (shown_text symbols l.buffer.text ++ 10 ∷ [])))))))))))
+      ((if l.read_only then codes " read-only" else []) ++ ((if numbered.0 == current then codes " current\ntext " else codes "\ntext ") ++
+      (shown_text symbols l.buffer.text ++ 10 ∷ []))))))))))))
 ]
 
 abbrev pub shown_status : Status → List ℕ

@@ -1,13 +1,13 @@
 -- What the calls that concern hooks and processes refuse, and in which order.
 use Rattle.std.specs.Prelude.{ℕ, ◌+◌, pos, Bool, true, false, ◌&&◌, ◌||◌, not, ◌==◌, nat_lt, nat_le, List, [], ◌∷◌, ◌++◌, map, length, drop, None}
-use Rattle.editor_model.specs.Values.{Value, Nil, Int, TheBuffer, is_nil, ArgsOutOfRange, WrongType, VoidVariable, BufferKilled, NoSuchProcess, ProcessEnded, Nesting, ExchangesSpent, TooMany, Prim, KillBuffer, AddHook, RemoveHook, StartProcess, ProcessList, GetProcess, SetProcessFilter, SetProcessSentinel, SetProcessBuffer, ProcessSendString, ProcessSendEof, DeleteProcess, AcceptProcessOutput}
+use Rattle.editor_model.specs.Values.{Value, Nil, Int, TheBuffer, is_nil, ArgsOutOfRange, WrongType, VoidVariable, BufferKilled, NoSuchProcess, ProcessEnded, Nesting, ExchangesSpent, TooMany, CodingFixed, Prim, KillBuffer, AddHook, RemoveHook, StartProcess, ProcessList, GetProcess, SetProcessFilter, SetProcessSentinel, SetProcessBuffer, ProcessSendString, ProcessSendEof, DeleteProcess, AcceptProcessOutput, SetProcessCodingSystem}
 use Rattle.editor_model.specs.Editor.{Editor, is_live, live_from}
 use Rattle.editor_model.specs.Limits.{most_buffers, most_markers}
 use Rattle.editor_model.specs.Answers.{Test, refuse}
 use Rattle.editor_model.specs.Arguments.{arg, string_of, buffer_of, must_be_string, must_be_symbol, must_be_name, must_be_buffer_or_nil, buffer_there, must_be_fewer, must_be_short}
 use Rattle.plain_machine.specs.State.{State, Program}
 use Rattle.plain_machine.specs.Hooks.{is_hook, most_hooks, hook_added}
-use Rattle.plain_machine.specs.Arguments.{is_handler_argument, is_handler_place, is_filter_place, is_process, is_process_there, process_of, is_running, is_closed, running_in, encoded, is_word, is_empty, is_process_buffer, is_new_name}
+use Rattle.plain_machine.specs.Arguments.{is_handler_argument, is_handler_place, is_filter_place, is_process, is_process_there, is_coding, process_of, is_running, is_closed, is_fed, running_in, encoded, is_word, is_empty, is_process_buffer, is_new_name}
 
 -- LIMITS
 abbrev pub most_exchanges : ℕ
@@ -114,6 +114,10 @@ process_tests program bound s SetProcessSentinel args =
 process_tests program bound s SetProcessBuffer args =
     must_be_process (arg args 0) ∷ must_be_buffer_or_nil (arg args 1) ∷
     process_there s (arg args 0) ∷ buffer_there s.editor (arg args 1) ∷ []
+process_tests program bound s SetProcessCodingSystem args =
+    must_be_process (arg args 0) ∷ refuse WrongType (is_coding (arg args 1)) ∷
+    process_there s (arg args 0) ∷
+    refuse CodingFixed (not (is_fed s (process_of s (arg args 0)))) ∷ []
 process_tests program bound s ProcessSendString args =
     let p : ℕ = process_of s (arg args 0) in
     let sends : Bool = not (is_empty (arg args 1)) in

@@ -3,12 +3,12 @@
 use Rattle.std.specs.Prelude.{ℕ, zero, suc, ◌+◌, ℤ, pos, negsuc, Bool, true, false, ◌&&◌, ◌||◌, not, ◌==◌, nat_lt, nat_le, List, [], ◌∷◌, ◌++◌, map, filter, length, drop, codes, decimal, Option, Some, None}
 use Rattle.std.specs.List.{enumerate_from, list_all}
 use Rattle.text_model.specs.Characters.{Ch, Scalar}
-use Rattle.text_model.specs.Decoding.{characters, all_characters}
+use Rattle.text_model.specs.Codings.{decoded, all_decoded}
 use Rattle.text_model.specs.Properties.{bare}
 use Rattle.editor_model.specs.Values.{Nil, T, Str, TheProcess, ExchangesSpent}
 use Rattle.editor_model.specs.Editor.{is_live, killed}
 use Rattle.plain_machine.specs.Exchanges.{Read, AskEnd, Kill, Answer, Bytes, End, Code, Signal, Running, Killed}
-use Rattle.plain_machine.specs.State.{State, Process, Status, Runs, Exited, Signalled, Lost, Filter, Off, Named, Program, process, change_process}
+use Rattle.plain_machine.specs.State.{State, Process, Status, Runs, Exited, Signalled, Lost, Filter, Off, Named, Program, process, change_process, read_so_far}
 use Rattle.plain_machine.specs.Lines.{OfFilter, OfSentinel, KilledLast}
 use Rattle.plain_machine.specs.Items.{Item, GiveAnswer, Refuse, Enter, Wait, Finish, WriteDump, Target, Waiting, Next, Step, Asks}
 use Rattle.plain_machine.specs.Refusals.{may_ask, must_be_replaceable}
@@ -67,10 +67,10 @@ asked_more s = record s { asked = s.asked + 1 }
 abbrev pub more_characters : (old new : List Ch) → List Ch
 more_characters old new = drop (length old) new
 
--- the output has ended: a tail that was held comes out as raw bytes
+-- the output has ended: what was held back comes out too
 abbrev pub drain : State → Waiting → Target → List Item → ℕ → Process → Option Next
 drain s w target rest p x =
-    Some (silent (change_process p (λ y. record y { drained = true }) (asked_more s)) (entry_of s p x (more_characters (characters x.bytes) (all_characters x.bytes)) (Wait w target ∷ rest)))
+    Some (silent (change_process p (λ y. record y { drained = true }) (asked_more s)) (entry_of s p x (more_characters (decoded x.coding (read_so_far x)) (all_decoded x.coding (read_so_far x))) (Wait w target ∷ rest)))
 
 -- one read gives 1 to 4,096 bytes
 abbrev pub is_room : List ℕ → Bool
@@ -79,8 +79,8 @@ is_room bytes = nat_le 1 (length bytes) && (nat_le (length bytes) 4096 && list_a
 abbrev pub hear : (fits : Bool) → State → Waiting → Target → List Item → ℕ → Process → List ℕ → Option Next
 hear false s w target rest p x bytes = None
 hear true s w target rest p x bytes =
-    Some (silent (change_process p (λ y. record y { bytes = x.bytes ++ bytes }) (asked_more s))
-    (entry_of s p x (more_characters (characters x.bytes) (characters (x.bytes ++ bytes))) (Wait (record w { counted = w.counted || counts w p }) target ∷ rest)))
+    Some (silent (change_process p (λ y. record y { bytes = Some (read_so_far x ++ bytes) }) (asked_more s))
+    (entry_of s p x (more_characters (decoded x.coding (read_so_far x)) (decoded x.coding (read_so_far x ++ bytes))) (Wait (record w { counted = w.counted || counts w p }) target ∷ rest)))
 
 abbrev pub read_answer : State → Waiting → Target → List Item → ℕ → Process → Answer → Option Next
 read_answer s w target rest p x (Bytes bytes) = hear (is_room bytes) s w target rest p x bytes

@@ -7,6 +7,7 @@ use ek_types::{Ch, Chars, Piece, Sym};
 use process_table::{Filter, Processes, Status};
 use std::alloc::Global;
 use std::process::Abort;
+use utf8_stream::Coding;
 
 /// Characters of one byte each.
 fn text(rt: &impl Abort, alloc: Global, bytes: &[u8]) -> Chars {
@@ -114,6 +115,35 @@ fn what_is_held_at_the_end_of_output(rt: HostRuntime) {
     assert!(rt; table.get(0).held().is_empty());
     table.drain(0, &mut out);
     is(&rt, out.len(), 3);
+}
+
+#[test]
+fn a_coding_until_bytes_are_read(rt: HostRuntime) {
+    let mut table = one(&rt, rt.alloc());
+    let mut out = Chars::new(rt.alloc());
+    is(&rt, table.get(0).coding(), Coding::Utf8);
+    assert!(rt; table.set_coding(0, Coding::Latin1));
+    assert!(rt; table.set_coding(0, Coding::Utf8Dos));
+    assert!(rt; !table.get(0).fed());
+    feed(&rt, &mut table, b"a\r", &mut out);
+    is(&rt, table.get(0).held(), b"\r".as_slice());
+    assert!(rt; table.get(0).fed());
+    assert!(rt; !table.set_coding(0, Coding::Latin1));
+    is(&rt, table.get(0).coding(), Coding::Utf8Dos);
+    is(&rt, table.get(0).held(), b"\r".as_slice());
+    feed(&rt, &mut table, b"\n", &mut out);
+    assert_eq!(rt; out.len(), 2);
+    is(&rt, out.at(1), Ch::Scalar('\n'));
+}
+
+#[test]
+fn a_coding_behind_the_end_of_output(rt: HostRuntime) {
+    let mut table = one(&rt, rt.alloc());
+    let mut out = Chars::new(rt.alloc());
+    table.drain(0, &mut out);
+    assert!(rt; out.is_empty());
+    assert!(rt; table.set_coding(0, Coding::Latin1));
+    is(&rt, table.get(0).coding(), Coding::Latin1);
 }
 
 /// What a string gives as an argument of a call.

@@ -1,11 +1,9 @@
 -- Finding a listed process by its name, and names that differ.
-use Rattle.std.proofs.Common.{◌≡◌, ◌≢◌, ℕ, zero, suc, ◌+◌, ◌<◌, ◌≤◌, Bool, true, false, List, [], ◌∷◌, ◌++◌, length, map, drop, refl, ap, sym, ◌∙◌, arith}
+use Rattle.std.proofs.Common.{◌≡◌, ◌≢◌, ℕ, zero, suc, ◌+◌, ◌<◌, ◌≤◌, Bool, true, false, List, [], ◌∷◌, ◌++◌, length, map, refl, ap, sym, ◌∙◌, arith}
 use Rattle.std.specs.Prelude.{◌==◌, ◌&&◌, slice_get, slice_set, Option, Some, None, option_map}
 use Rattle.std.proofs.lemmas.Bool.{eqb-true}
 use Rattle.std.proofs.lemmas.Option.{slice_get-map, slice_get_within}
-use Rattle.text_model.specs.Characters.{Ch}
-use Rattle.text_model.specs.Properties.{same_ch}
-use Rattle.text_model.proofs.Lists.{set_same, set_other, get_front, drop_at}
+use Rattle.text_model.proofs.Lists.{set_same, set_other, get_front}
 use Rattle.editor_model.specs.Editor.{Name, same_name}
 use Rattle.editor_model.proofs.NumberedNames.{same_name-same}
 use Rattle.plain_machine.specs.State.{Process}
@@ -129,14 +127,3 @@ differ_added xs new on free differ q y at listed = go (slice_get xs q) refl
             let name : new.name ≡ y.name = ap (λ (z : Process). z.name) last.1 in
             let test : (new.listed && same_name new.name new.name) ≡ true = rw (on, same_name-same new.name) refl in
             ap (find_process 0 (xs ++ new ∷ [])) (sym name) ∙ find_behind 0 xs (new ∷ []) new.name free ∙ ap (λ b. chosen b (0 + length xs) None) test ∙ ap Some (omega (arith, last.0))
-
--- STEP BY STEP
-
-pub same_step : (a b : Name) (i : ℕ) (x y : Ch) → slice_get a i ≡ Some x → slice_get b i ≡ Some y → same_name (drop i a) (drop i b) ≡ (same_ch x y && same_name (drop (i + 1) a) (drop (i + 1) b))
-same_step a b i x y ea eb = ap (λ l. same_name l (drop i b)) (drop_at a i x ea) ∙ ap (same_name (x ∷ drop (i + 1) a)) (drop_at b i y eb)
-
-pub differ_here : (a b : Name) (i : ℕ) (x y : Ch) (r : Bool) → same_name a b ≡ same_name (drop i a) (drop i b) → slice_get a i ≡ Some x → slice_get b i ≡ Some y → r ≡ same_ch x y → r ≡ false → false ≡ same_name a b
-differ_here a b i x y r so_far ea eb is e = sym (so_far ∙ same_step a b i x y ea eb ∙ ap (λ t. t && same_name (drop (i + 1) a) (drop (i + 1) b)) (sym is ∙ e))
-
-pub same_here : (a b : Name) (i : ℕ) (x y : Ch) (r : Bool) → same_name a b ≡ same_name (drop i a) (drop i b) → slice_get a i ≡ Some x → slice_get b i ≡ Some y → r ≡ same_ch x y → r ≡ true → same_name a b ≡ same_name (drop (i + 1) a) (drop (i + 1) b)
-same_here a b i x y r so_far ea eb is e = so_far ∙ same_step a b i x y ea eb ∙ ap (λ t. t && same_name (drop (i + 1) a) (drop (i + 1) b)) (sym is ∙ e)

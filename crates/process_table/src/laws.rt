@@ -1,15 +1,16 @@
 //! What the table is to the machine: laws over all changes, so that no call tells it again.
 ghost use Rattle.std.specs.Prelude.{◌≡◌, ℕ, false, true, List, [], ◌∷◌, ◌++◌, Option};
 ghost use Rattle.std.specs.Prelude.{Result, Some, slice_get};
-ghost use Rattle.text_model.specs.Decoding.{characters, tail, all_characters};
+ghost use Rattle.text_model.specs.Codings.{decoded, undecoded, all_decoded};
 ghost use Rattle.editor_model.specs.Editor.{Name};
 ghost use Rattle.editor_model.specs.Values.{Value};
 ghost use Rattle.plain_machine.specs.State.{State, Process as Meant, process, change_process};
+ghost use Rattle.plain_machine.specs.State.{read_so_far};
 ghost use Rattle.plain_machine.specs.Arguments.{process_name};
 ghost use Rattle.plain_machine.specs.Waits.{more_characters};
 ghost use Rattle.ek_call.specs.declared.fault.Fault.{Fault};
-ghost use Rattle.process_table.specs.Table.{kept, StandsFor, new_process, changed, held_by};
-ghost use Rattle.process_table.specs.Table.{with_table, with_held, with_drained};
+ghost use Rattle.process_table.specs.Table.{kept, StandsFor, new_process, changed, coding_by};
+ghost use Rattle.process_table.specs.Table.{held_by, with_table, with_held, with_drained};
 ghost use Rattle.process_table.specs.Resolving.{Resolves};
 
 /// A process of the table is the machine's of the same number, as the table keeps it.
@@ -52,17 +53,17 @@ pub fn answers_stand()
 pub fn output_stands()
     ensures fed { (table : List Meant) (s : State) (p : ℕ) (x : Meant) (bytes : List ℕ) →
         StandsFor table s.processes → process s p ≡ Some x → x.drained ≡ false →
-        StandsFor (changed p (with_held (tail (held_by table p ++ bytes))) table)
-        (change_process p (λ y. record y { bytes = x.bytes ++ bytes }) s).processes }
+        StandsFor (changed p (with_held (undecoded (coding_by table p) (held_by table p ++ bytes))) table)
+        (change_process p (λ y. record y { bytes = Some (read_so_far x ++ bytes) }) s).processes }
     ensures fed_text { (table : List Meant) (s : State) (p : ℕ) (x : Meant) (bytes : List ℕ) →
         StandsFor table s.processes → process s p ≡ Some x → x.drained ≡ false →
-        characters (held_by table p ++ bytes) ≡
-        more_characters (characters x.bytes) (characters (x.bytes ++ bytes)) }
+        decoded (coding_by table p) (held_by table p ++ bytes) ≡
+        more_characters (decoded x.coding (read_so_far x)) (decoded x.coding (read_so_far x ++ bytes)) }
     ensures drained { (table : List Meant) (s : State) (p : ℕ) → StandsFor table s.processes →
         StandsFor (changed p with_drained table)
         (change_process p (λ y. record y { drained = true }) s).processes }
     ensures drained_text { (table : List Meant) (s : State) (p : ℕ) (x : Meant) →
         StandsFor table s.processes → process s p ≡ Some x → x.drained ≡ false →
-        all_characters (held_by table p) ≡
-        more_characters (characters x.bytes) (all_characters x.bytes) }
+        all_decoded (coding_by table p) (held_by table p) ≡
+        more_characters (decoded x.coding (read_so_far x)) (all_decoded x.coding (read_so_far x)) }
 {}

@@ -1,17 +1,20 @@
 //! One process.
-ghost use Rattle.std.specs.Prelude.{◌≡◌, ◌+◌, ◌≤◌, ◌++◌, ◌&&◌, true, length, option_map};
-ghost use Rattle.text_model.specs.Decoding.{characters, tail, all_characters};
+ghost use Rattle.std.specs.Prelude.{◌≡◌, ◌+◌, ◌≤◌, ◌++◌, ◌&&◌, true, false, length, option_map};
+ghost use Rattle.std.specs.Prelude.{is_some, not};
+ghost use Rattle.text_model.specs.Codings.{decoded, undecoded, all_decoded};
 ghost use Rattle.editor_model.specs.Editor.{same_name};
-ghost use Rattle.plain_machine.specs.Calls.{with_filter, with_sentinel, of_buffer, with_input_closed};
+ghost use Rattle.plain_machine.specs.State.{read_so_far};
+ghost use Rattle.plain_machine.specs.Calls.{with_filter, with_sentinel, of_buffer, with_coding};
+ghost use Rattle.plain_machine.specs.Calls.{with_input_closed};
 ghost use Rattle.plain_machine.specs.Handling.{unlisted};
 ghost use Rattle.ek_types.specs.Property.{number_of};
 ghost use Rattle.process_table.specs.Meaning.{status_of, filter_of};
 ghost use Rattle.process_table.specs.Table.{new_process, with_status, with_held, with_drained};
+ghost use Rattle.utf8_stream.specs.Codings.{coding_of};
 
-use crate::names::{Letters, are_same};
 use ek_types::{Chars, Sym};
 use std::marker::Model;
-use utf8_stream::Decoder;
+use utf8_stream::{Coding, Decoder};
 
 /// How a process stands (GNU Emacs Lisp Reference Manual, Process Information).
 #[derive(Clone, Copy, Debug, PartialEq, Eq)]
@@ -36,7 +39,7 @@ pub enum Filter {
     Named(Sym),
 }
 
-/// A process, seen as the machine's with `bytes` for those that its decoder holds.
+/// A process, seen as the machine's with those bytes that its decoder holds in the place of all that were read.
 #[derive(Drop)]
 pub struct Process {
     name: Chars,
@@ -47,13 +50,14 @@ pub struct Process {
     filter: Filter,
     sentinel: Option<Sym>,
     decoder: Decoder,
+    fed: bool,
     drained: bool,
     closed: bool,
     listed: bool,
 }
 
 impl Model for Process {
-    ghost use Rattle.std.specs.Prelude.{option_map};
+    ghost use Rattle.std.specs.Prelude.{◌≡◌, false, [], if◌then◌else◌, option_map, Some, None};
     ghost use Rattle.ek_types.specs.Property.{number_of};
     ghost use Rattle.plain_machine.specs.State.{Process as Meant};
 
@@ -69,11 +73,14 @@ impl Model for Process {
       mark = p.mark;
       filter = filter_of p.filter;
       sentinel = option_map number_of p.sentinel;
-      bytes = p.decoder;
+      coding = p.decoder.coding;
+      bytes = if p.fed then Some p.decoder.bytes else None;
       drained = p.drained;
       closed = p.closed;
       listed = p.listed;
     } };
+
+    ghost invariant = { λ p. p.fed ≡ false → p.decoder.bytes ≡ [] };
 }
 
 impl Process {
@@ -90,6 +97,7 @@ impl Process {
             filter: Filter::Default,
             sentinel: None,
             decoder: Decoder::new(),
+            fed: false,
             drained: false,
             closed: false,
             listed: true,
@@ -145,11 +153,25 @@ impl Process {
         self.sentinel
     }
 
-    /// The bytes that its decoder holds, at most 3: those read that may still become a character.
+    /// How its output is decoded.
+    pub fn coding(&self) -> Coding
+        ensures { coding_of result ≡ self.now.coding }
+    {
+        self.decoder.coding()
+    }
+
+    /// Whether a read of it gave bytes, so that its coding stays as it is.
+    pub fn fed(&self) -> bool
+        ensures { result ≡ is_some self.now.bytes }
+    {
+        self.fed
+    }
+
+    /// The bytes that its decoder holds, at most 3: those read that the next ones may still change.
     pub fn held(&self) -> &[u8]
-        ensures held { result.now ≡ self.now.bytes }
-        ensures tail { tail self.now.bytes ≡ self.now.bytes }
-        ensures at_most { length self.now.bytes ≤ 3 }
+        ensures held { result.now ≡ read_so_far self.now }
+        ensures tail { undecoded self.now.coding (read_so_far self.now) ≡ read_so_far self.now }
+        ensures at_most { length (read_so_far self.now) ≤ 3 }
     {
         self.decoder.held()
     }
@@ -176,10 +198,10 @@ impl Process {
     }
 
     /// Whether it is on the process list under this name.
-    pub(crate) fn is_listed_as<N: Letters>(&self, name: &N) -> bool
-        ensures { result ≡ (self.now.listed && same_name self.now.name (N.letters name.now)) }
+    pub(crate) fn is_listed_as(&self, name: &Chars) -> bool
+        ensures { result ≡ (self.now.listed && same_name self.now.name name.now.items) }
     {
-        self.listed && are_same(&self.name, name)
+        self.listed && self.name.same(name)
     }
 
     pub(crate) fn set_filter(&mut self, filter: Filter)
@@ -200,6 +222,18 @@ impl Process {
         self.buffer = buffer;
     }
 
+    /// Sets how its output is decoded, as long as nothing was read, and tells whether nothing was.
+    pub(crate) fn set_coding(&mut self, coding: Coding) -> bool
+        ensures answer { result ≡ not (is_some self.old.bytes) }
+        ensures process { self.new ≡ with_coding (coding_of coding) self.old }
+    {
+        if self.fed {
+            return false;
+        }
+        self.decoder = Decoder::with(coding);
+        true
+    }
+
     pub(crate) fn note_end(&mut self, status: Status)
         ensures { self.new ≡ with_status (status_of status) self.old }
     {
@@ -218,22 +252,27 @@ impl Process {
         self.listed = false;
     }
 
-    /// Appends the characters of the bytes held and given, and holds what may still become one.
+    /// Appends the characters of the bytes held and given, and holds what the next bytes may still change.
     pub(crate) fn feed(&mut self, bytes: &[u8], out: &mut Chars)
-        requires { length self.old.bytes + length bytes.now ≤ out.old.spare }
-        ensures items { out.new.items ≡ out.old.items ++ characters (self.old.bytes ++ bytes.now) }
-        ensures spare { out.new.spare + length (characters (self.old.bytes ++ bytes.now)) ≡
-            out.old.spare }
-        ensures process { self.new ≡ with_held (tail (self.old.bytes ++ bytes.now)) self.old }
+        requires { length (read_so_far self.old) + length bytes.now ≤ out.old.spare }
+        ensures items { out.new.items ≡ out.old.items ++ decoded self.old.coding
+            (read_so_far self.old ++ bytes.now) }
+        ensures spare { out.new.spare + length (decoded self.old.coding
+            (read_so_far self.old ++ bytes.now)) ≡ out.old.spare }
+        ensures process { self.new ≡ with_held (undecoded self.old.coding
+            (read_so_far self.old ++ bytes.now)) self.old }
     {
         self.decoder.feed(bytes, out);
+        self.fed = true;
     }
 
-    /// Appends the bytes held as raw bytes, since its output has ended.
+    /// Appends all characters of the bytes held, since its output has ended.
     pub(crate) fn drain(&mut self, out: &mut Chars)
-        requires { length self.old.bytes ≤ out.old.spare }
-        ensures items { out.new.items ≡ out.old.items ++ all_characters self.old.bytes }
-        ensures spare { out.new.spare + length (all_characters self.old.bytes) ≡ out.old.spare }
+        requires { length (read_so_far self.old) ≤ out.old.spare }
+        ensures items { out.new.items ≡ out.old.items ++ all_decoded self.old.coding
+            (read_so_far self.old) }
+        ensures spare { out.new.spare + length (all_decoded self.old.coding (read_so_far self.old)) ≡
+            out.old.spare }
         ensures process { self.new ≡ with_drained self.old }
     {
         self.decoder.finish(out);

@@ -2,19 +2,23 @@
 ghost use Rattle.std.specs.Prelude.{◌≡◌, ◌+◌, ◌<◌, ◌≤◌, [], ◌∷◌, ◌++◌, List, length, map};
 ghost use Rattle.std.specs.Prelude.{option_map, slice_get, Some, None, OnOk, OnErr};
 ghost use Rattle.std.specs.Prelude.{IfOk};
-ghost use Rattle.text_model.specs.Decoding.{characters, tail, all_characters};
+ghost use Rattle.std.specs.Prelude.{not};
+ghost use Rattle.text_model.specs.Codings.{decoded, undecoded, all_decoded};
 ghost use Rattle.plain_machine.specs.State.{Process as Meant};
-ghost use Rattle.plain_machine.specs.Arguments.{find_process, free_name, process_name};
-ghost use Rattle.plain_machine.specs.Calls.{with_filter, with_sentinel, of_buffer, with_input_closed};
+ghost use Rattle.plain_machine.specs.Arguments.{find_process, free_name, process_name, is_fed};
+ghost use Rattle.plain_machine.specs.Calls.{with_filter, with_sentinel, of_buffer, with_coding};
+ghost use Rattle.plain_machine.specs.Calls.{with_input_closed};
 ghost use Rattle.plain_machine.specs.Handling.{unlisted};
 ghost use Rattle.ek_types.specs.Property.{number_of};
 ghost use Rattle.ek_call.specs.Meaning.{view};
 ghost use Rattle.process_table.specs.Meaning.{status_of, filter_of};
 ghost use Rattle.process_table.specs.Table.{NamesDiffer, new_process, with_table};
-ghost use Rattle.process_table.specs.Table.{changed, held_by, with_status, with_held, with_drained};
+ghost use Rattle.process_table.specs.Table.{changed, coding_by, held_by, with_status, with_held};
+ghost use Rattle.process_table.specs.Table.{with_drained};
+ghost use Rattle.utf8_stream.specs.Codings.{coding_of};
 ghost use Rattle.process_table.specs.Resolving.{Resolves, IsMade};
 
-use crate::names::{Letters, numbered};
+use crate::names::numbered;
 use crate::place::{Place, moved};
 use crate::process::{Filter, Process, Status};
 use ek_call::{Fault, Value};
@@ -22,6 +26,7 @@ use ek_types::{Chars, Mem, Piece, Sym};
 use std::alloc::Global;
 use std::marker::Model;
 use std::mem;
+use utf8_stream::Coding;
 
 /// Processes by number, from 0 in the order in which they were made, seen as the list of them. A run makes at most 256.
 /// Names of listed processes differ. A process that a call is given, by its number, was made.
@@ -124,14 +129,14 @@ impl Processes {
     {
         match v {
             Value::Process(p) => Ok(*p),
-            Value::Str(name) => self.find(name).ok_or(Fault::NoSuchProcess),
+            Value::Str(name) => self.named(name).ok_or(Fault::NoSuchProcess),
             _ => Err(Fault::WrongType),
         }
     }
 
     /// The number of the listed process of a name.
-    fn find<N: Letters>(&self, name: &N) -> Option<u32>
-        ensures { result ≡ find_process 0 self.now (N.letters name.now) }
+    fn find(&self, name: &Chars) -> Option<u32>
+        ensures { result ≡ find_process 0 self.now name.now.items }
     {
         for p in 0..self.list.len() {
             if self.list[p].is_listed_as(name) {
@@ -145,7 +150,7 @@ impl Processes {
     pub fn named(&self, name: &Piece) -> Option<u32>
         ensures { result ≡ find_process 0 self.now (map (λ c. c.0) name.now) }
     {
-        self.find(name)
+        self.find(name.text())
     }
 
     /// The name itself, or the first with `<1>`, `<2>` and so on behind it that no listed process has.
@@ -203,6 +208,16 @@ impl Processes {
         self.list[p as usize].set_buffer(b);
     }
 
+    /// Sets how the output of process `p` is decoded. Where a read of it gave bytes, it answers false, and nothing changes.
+    pub fn set_coding(&mut self, p: u32, c: Coding) -> bool
+        requires { p < length self.old }
+        ensures answer { result ≡ not (is_fed (with_table self.old) p) }
+        ensures count { length self.new ≡ length self.old }
+        ensures table { self.new ≡ changed p (with_coding (coding_of c)) self.old }
+    {
+        self.list[p as usize].set_coding(c)
+    }
+
     /// Takes process `p` off the process list. The process stays.
     pub fn unlist(&mut self, p: u32)
         requires { p < length self.old }
@@ -230,28 +245,31 @@ impl Processes {
         self.list[p as usize].close_input();
     }
 
-    /// Bytes of process `p` were read: appends the characters of the bytes held and these, and then holds what may still
-    /// become a character. `out` has spare for as many characters as there are bytes held and given; no memory is taken.
+    /// Bytes of process `p` were read: appends the characters of the bytes held and these, and then holds what the next bytes
+    /// may still change. `out` has spare for as many characters as there are bytes held and given; no memory is taken.
     pub fn feed(&mut self, p: u32, bytes: &[u8], out: &mut Chars)
         requires made { p < length self.old }
         requires room { length (held_by self.old p) + length bytes.now ≤ out.old.spare }
-        ensures items { out.new.items ≡ out.old.items ++ characters (held_by self.old p ++ bytes.now) }
-        ensures spare { out.new.spare + length (characters (held_by self.old p ++ bytes.now)) ≡
-            out.old.spare }
+        ensures items { out.new.items ≡ out.old.items ++ decoded (coding_by self.old p)
+            (held_by self.old p ++ bytes.now) }
+        ensures spare { out.new.spare + length (decoded (coding_by self.old p)
+            (held_by self.old p ++ bytes.now)) ≡ out.old.spare }
         ensures count { length self.new ≡ length self.old }
-        ensures table { self.new ≡ changed p (with_held (tail (held_by self.old p ++ bytes.now)))
-            self.old }
+        ensures table { self.new ≡ changed p (with_held (undecoded (coding_by self.old p)
+            (held_by self.old p ++ bytes.now))) self.old }
     {
         self.list[p as usize].feed(bytes, out);
     }
 
-    /// The output of process `p` has ended: appends the bytes held as raw bytes, and then holds nothing. `out` has spare
+    /// The output of process `p` has ended: appends all characters of the bytes held, and then holds nothing. `out` has spare
     /// for as many characters as there are bytes held; no memory is taken.
     pub fn drain(&mut self, p: u32, out: &mut Chars)
         requires made { p < length self.old }
         requires room { length (held_by self.old p) ≤ out.old.spare }
-        ensures items { out.new.items ≡ out.old.items ++ all_characters (held_by self.old p) }
-        ensures spare { out.new.spare + length (all_characters (held_by self.old p)) ≡ out.old.spare }
+        ensures items { out.new.items ≡ out.old.items ++ all_decoded (coding_by self.old p)
+            (held_by self.old p) }
+        ensures spare { out.new.spare + length (all_decoded (coding_by self.old p)
+            (held_by self.old p)) ≡ out.old.spare }
         ensures count { length self.new ≡ length self.old }
         ensures table { self.new ≡ changed p with_drained self.old }
     {

@@ -13,7 +13,7 @@ struct Case {
     fault: Option<u32>,
 }
 
-const CASES: [Case; 69] = [
+const CASES: [Case; 70] = [
     Case {
         bytes: b"",
         fault: None,
@@ -174,6 +174,10 @@ const CASES: [Case; 69] = [
     Case {
         bytes: b"(point)\n(inhibit-hooks (poin))",
         fault: Some(2),
+    },
+    Case {
+        bytes: b"(inhibit-read-only (set-buffer-read-only t)\n(buffer-read-only-p))\n(inhibit-read-only (poin))",
+        fault: Some(3),
     },
     Case {
         bytes: b"(point)\n(setq a (poin))\n",
@@ -499,11 +503,11 @@ fn names_are_numbered(rt: HostRuntime) {
         rt.alloc(),
         b"(setq zeta (insert alpha 'run zeta 'face))",
     );
-    is(&rt, script.symbols.count(), 17);
+    is(&rt, script.symbols.count(), 20);
     is(&rt, script.symbols.find("run"), Some(Sym(6)));
-    is(&rt, script.symbols.find("zeta"), Some(Sym(14)));
-    is(&rt, script.symbols.find("alpha"), Some(Sym(15)));
-    is(&rt, script.symbols.find("face"), Some(Sym(16)));
+    is(&rt, script.symbols.find("zeta"), Some(Sym(17)));
+    is(&rt, script.symbols.find("alpha"), Some(Sym(18)));
+    is(&rt, script.symbols.find("face"), Some(Sym(19)));
     is(&rt, script.symbols.find("insert"), None);
 }
 
@@ -678,7 +682,7 @@ fn has_properties(rt: &impl Abort, text: &Piece, i: usize, count: usize) {
     assert!(rt; i < text.len());
     let set = text.props(i);
     assert_eq!(rt; set.len(), count);
-    assert_eq!(rt; set.get(Sym(14)).is_some(), i == 1);
+    assert_eq!(rt; set.get(Sym(17)).is_some(), i == 1);
 }
 
 /// Properties stand by the number of the name; nil takes no place.

@@ -1,11 +1,11 @@
 -- Calls that go by themselves, in front of any rest.
 use Rattle.std.proofs.Common.{◌≡◌, ℕ, List, [], ◌∷◌, ◌++◌, refl, ◌∙◌, ap}
-use Rattle.std.specs.Prelude.{Option, Some, None}
-use Rattle.editor_model.specs.Values.{Value, Fault, Reply, Answered, Refused, Prim}
+use Rattle.std.specs.Prelude.{None}
+use Rattle.editor_model.specs.Values.{Value, Fault, Answered, Refused, Prim}
 use Rattle.editor_model.specs.Editor.{Editor}
 use Rattle.editor_model.specs.Prims.{OnlyAsks, SetsState, ChangesText, ConcernsHandlers, manner_of}
 use Rattle.editor_model.specs.Answers.{first_fault}
-use Rattle.editor_model.specs.Table.{Applied, Prepared, Change, Changes, Nothing, Barred, query, apply, prepare}
+use Rattle.editor_model.specs.Table.{Applied, Prepared, Change, Changes, Barred, query, apply, prepare}
 use Rattle.plain_machine.specs.State.{State, Program}
 use Rattle.plain_machine.specs.Refusals.{process_tests}
 use Rattle.plain_machine.specs.Items.{Item, GiveAnswer, MakeChange, Target, Nowhere, ToName, ToNative, Said}

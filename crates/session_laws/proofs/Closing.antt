@@ -1,6 +1,6 @@
 -- The last character of the text that a session gathers, as its sentinel asks for it.
-use Rattle.std.proofs.Common.{◌≡◌, ℕ, zero, suc, ◌+◌, ◌-◌, ◌≤◌, Bool, true, false, ◌&&◌, not, List, [], ◌∷◌, length, refl, sym, ap, ap₂, ◌∙◌, arith}
-use Rattle.std.specs.Prelude.{ℤ, pos, ◌-ℤ◌, ◌==◌, nat_lt, nat_le, slice_get, if◌then◌else◌, Option, Some, None}
+use Rattle.std.proofs.Common.{◌≡◌, ℕ, suc, ◌+◌, ◌-◌, ◌≤◌, Bool, true, false, ◌&&◌, not, List, [], ◌∷◌, length, refl, ap, ap₂, ◌∙◌, arith}
+use Rattle.std.specs.Prelude.{pos, ◌-ℤ◌, ◌==◌, nat_lt, nat_le, slice_get, if◌then◌else◌, Option, Some, None}
 use Rattle.std.specs.Ordering.{int_eq}
 use Rattle.std.proofs.lemmas.Bool.{lt-ltb, le-leb, eq-eqb, ne_eqb, eqb-true}
 use Rattle.std.proofs.lemmas.Bool.Decides.{Decides-int_eq}
@@ -8,7 +8,7 @@ use Rattle.std.proofs.Math.IntN.{suc_ℤ, -ℤ_one}
 use Rattle.text_model.specs.Characters.{Ch, Scalar, Raw, code}
 use Rattle.text_model.proofs.Cases.{same_tests}
 use Rattle.text_model.specs.Properties.{Cell, bare, same_ch}
-use Rattle.editor_model.specs.Values.{Value, Nil, Int, at_place}
+use Rattle.editor_model.specs.Values.{Nil, Int, at_place}
 use Rattle.editor_model.specs.TextCalls.{code_value, char_at_position}
 use Rattle.editor_model.specs.Limits.{longest_text}
 use Rattle.plain_machine.specs.Shipped.{is_i64}

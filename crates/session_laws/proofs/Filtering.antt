@@ -1,21 +1,23 @@
 -- The filter of a session: it puts its text at the end, or stops its process.
-use Rattle.std.proofs.Common.{◌≡◌, ℕ, ◌+◌, ◌-◌, Bool, true, false, List, [], ◌∷◌, ◌++◌, length, map, refl, sym, ap, ◌∙◌, subst, arith}
-use Rattle.std.specs.Prelude.{nat_lt, slice_get, slice_set, Option, Some, None}
+use Rattle.std.proofs.Common.{◌≡◌, ℕ, zero, suc, ◌+◌, ◌-◌, Bool, true, false, List, [], ◌∷◌, ◌++◌, length, map, refl, sym, ap, ap₂, ◌∙◌, arith, ◌⊎◌, inl, inr}
+use Rattle.std.specs.Prelude.{◌&&◌, ◌==◌, nat_le, nat_lt, slice_get, slice_set, if◌then◌else◌, Option, Some, None, option_map}
 use Rattle.std.specs.List.{list_all}
 use Rattle.std.proofs.lemmas.Bool.{lt-ltb}
 use Rattle.std.proofs.lemmas.Option.{slice_get_within}
 use Rattle.std.proofs.lemmas.List.{length-map}
 use Rattle.text_model.specs.Characters.{Ch}
-use Rattle.text_model.specs.Properties.{Cell, bare}
+use Rattle.text_model.specs.Properties.{Cell, PropSet, bare}
+use Rattle.text_model.specs.Sticky.{inherited}
 use Rattle.text_model.specs.Places.{clip}
-use Rattle.editor_model.specs.Values.{Value, Nil, T, Str, TheBuffer, TheProcess, at_place, Reply, Answered, Refused, Prim, BufferFull, ProcessBuffer, SetBuffer, PointMax, GotoChar, Insert, SetProcessFilter}
-use Rattle.editor_model.specs.Answers.{Applied, Prepared, Changes, Barred, refuse, first_fault, prepared, prepared_of}
+use Rattle.editor_model.specs.Values.{Value, Fault, Nil, T, Str, TheBuffer, TheProcess, at_place, Reply, Answered, Refused, Prim, BufferFull, ProcessBuffer, SetBuffer, PointMax, GotoChar, Insert, SetProcessFilter}
+use Rattle.editor_model.specs.Answers.{Applied, Prepared, refuse, first_fault, prepared, prepared_of}
 use Rattle.editor_model.specs.Arguments.{has_room, must_have_room}
-use Rattle.editor_model.specs.TextCalls.{with_inherited, insertion, joined}
+use Rattle.editor_model.specs.TextCalls.{with_inherited, insertion, takes_no_text, must_take_text}
+use Rattle.editor_model.specs.ReadOnly.{bars, is_tested, must_be_writable}
 use Rattle.editor_model.specs.Table.{apply, prepare}
 use Rattle.plain_machine.specs.State.{State, Process, Program, Off, process, change_process}
 use Rattle.plain_machine.specs.Lines.{OfFilter}
-use Rattle.plain_machine.specs.Items.{Item, GiveAnswer, MakeCall, Native, Called, Target, ToNative, Config, Said}
+use Rattle.plain_machine.specs.Items.{Item, GiveAnswer, MakeCall, Native, Called, ToNative, Config, Said}
 use Rattle.plain_machine.specs.Natives.{normal, is_callable, set_was_made}
 use Rattle.plain_machine.specs.Calls.{on, buffer_value, told_of_one, with_filter}
 use Rattle.plain_machine.specs.Handling.{native, native_call}
@@ -39,13 +41,53 @@ goto_is parts =
     let to : ℕ → Applied = λ k. record { editor = editor_with 1 (record parts { point = k }); reply = Answered (at_place (length parts.text)) } in
     ap to (goes_to_end (length parts.text))
 
+-- NO PROPERTIES ARE INHERITED
+abbrev IsBare : Option PropSet → Type 0
+IsBare o = (o ≡ None) ⊎ (o ≡ Some [])
+
+abbrev set_at : Option Cell → Option PropSet
+set_at o = option_map (λ c. c.1) o
+
+bare_at : (text : List Ch) (k : ℕ) → IsBare (set_at (slice_get (bare text) k))
+bare_at [] k = inl refl
+bare_at (c ∷ text) zero = inr refl
+bare_at (c ∷ text) (suc k) = bare_at text k
+
+bare_where : (b : Bool) (o : Option Cell) → IsBare (set_at o) → IsBare (set_at (if b then o else None))
+bare_where true o h = h
+bare_where false o h = inl refl
+
+bare_unless : (b : Bool) (o : Option Cell) → IsBare (set_at o) → IsBare (set_at (if b then None else o))
+bare_unless true o h = inl refl
+bare_unless false o h = h
+
+bars_none : (a b : Option PropSet) → IsBare a → IsBare b → bars (inherited a b) ≡ false
+bars_none a b (inl h) (inl k) = ap₂ (λ a b. bars (inherited a b)) h k
+bars_none a b (inl h) (inr k) = ap₂ (λ a b. bars (inherited a b)) h k
+bars_none a b (inr h) (inl k) = ap₂ (λ a b. bars (inherited a b)) h k
+bars_none a b (inr h) (inr k) = ap₂ (λ a b. bars (inherited a b)) h k
+
+takes_text : (parts : Parts) → takes_no_text (editor_with 1 (pointed parts)) 1 (length parts.text) ≡ false
+takes_text parts =
+    let n : ℕ = length parts.text in
+    bars_none _ _
+    (bare_unless (n == 0) _ (bare_where (nat_le 0 (n - 1) && nat_lt (n - 1) n) _ (bare_at parts.text (n - 1))))
+    (bare_where (nat_le 0 n && nat_lt n n) _ (bare_at parts.text n))
+
+writable : (tested : Bool) → must_be_writable tested false false ≡ None
+writable true = refl
+writable false = refl
+
 -- a piece is prepared by whether there is room
 pub prepared_by : (parts : Parts) (piece : List Ch) (b : Bool) → has_room (editor_with 1 (pointed parts)) 1 (length (bare piece)) ≡ b →
     prepare (editor_with 1 (pointed parts)) Insert (Str (bare piece) ∷ []) ≡ prepared_of (first_fault (None ∷ refuse BufferFull b ∷ [])) (insertion 1 (length parts.text) (bare piece) false)
 prepared_by parts piece b room =
     let e = editor_with 1 (pointed parts) in
-    let by : List Cell → List Cell → Prepared = λ l m. prepared (None ∷ must_have_room e 1 (length l) ∷ []) (insertion 1 (length parts.text) m false) in
-    ap (λ l. by l (with_inherited [] l)) (piece_is piece) ∙ ap (by (bare piece)) (inherits_nothing piece) ∙ ap (λ r. prepared_of (first_fault (None ∷ refuse BufferFull r ∷ [])) (insertion 1 (length parts.text) (bare piece) false)) room
+    let by : List Cell → List Cell → Prepared = λ l m. prepared (None ∷ must_take_text e (length l) ∷ must_have_room e 1 (length l) ∷ []) (insertion 1 (length parts.text) m false) in
+    let test : Option Fault = must_take_text e (length (bare piece)) in
+    let free : test ≡ None = ap (λ b. must_be_writable (is_tested e (nat_lt 0 (length (bare piece)))) false b) (takes_text parts) ∙ writable (is_tested e (nat_lt 0 (length (bare piece)))) in
+    ap (λ l. by l (with_inherited [] l)) (piece_is piece) ∙ ap (by (bare piece)) (inherits_nothing piece)
+    ∙ ap₂ (λ t r. prepared_of (first_fault (None ∷ t ∷ refuse BufferFull r ∷ [])) (insertion 1 (length parts.text) (bare piece) false)) free room
 
 -- It goes from an item to this, in front of any rest. It asks nothing, whatever it says.
 pub record Leads (program : Program) (bound : ℕ) (item : Item) (s : State) (to : List Item → Config) : Type 0 where

@@ -1,23 +1,22 @@
 -- An insertion at the end of the text that a session gathers.
-use Rattle.std.proofs.Common.{◌≡◌, ℕ, zero, suc, ◌+◌, ◌-◌, ◌≤◌, min, max, Bool, true, false, ◌&&◌, List, [], ◌∷◌, ◌++◌, length, take, drop, map, refl, sym, ap, ap₂, ◌∙◌, subst, arith, append-nil, append_assoc, length-append}
-use Rattle.std.specs.Prelude.{nat_lt, pos, Option, Some, None}
+use Rattle.std.proofs.Common.{◌≡◌, ℕ, zero, suc, ◌+◌, ◌-◌, Bool, true, false, List, [], ◌∷◌, ◌++◌, length, take, drop, map, refl, sym, ap, ◌∙◌, subst, arith, append-nil, length-append}
+use Rattle.std.specs.Prelude.{Some, None}
 use Rattle.std.proofs.lemmas.Bool.{lt-ltb, le-ltb}
 use Rattle.std.proofs.lemmas.List.{length-map, map-append, take_all, drop_all}
 use Rattle.text_model.specs.Characters.{Ch}
 use Rattle.text_model.specs.Properties.{Cell, bare, splice}
 use Rattle.text_model.specs.Undo.{Undo, Inserted, without_pending}
-use Rattle.text_model.specs.Marks.{Marks, Marker, move_marker, insertion}
+use Rattle.text_model.specs.Marks.{move_marker, insertion}
 use Rattle.text_model.specs.Places.{after_insert, clip}
-use Rattle.text_model.specs.Commit.{Buffer, Site, recorded}
-use Rattle.editor_model.specs.Values.{Value, Str, Nil, Int, BufferFull, Insert}
-use Rattle.editor_model.specs.Editor.{Editor, scratch, empty_buffer}
-use Rattle.editor_model.specs.Answers.{Put, Change, Changes, Barred, Done, refuse, first_fault}
+use Rattle.text_model.specs.Commit.{Buffer, recorded}
+use Rattle.editor_model.specs.Values.{Str, Nil, BufferFull}
+use Rattle.editor_model.specs.Editor.{Editor, new_live, scratch}
+use Rattle.editor_model.specs.Answers.{Put, Change, Done, refuse, first_fault}
 use Rattle.editor_model.specs.Arguments.{has_room}
 use Rattle.editor_model.specs.TextCalls.{with_inherited, joined}
-use Rattle.editor_model.specs.Table.{prepare}
 use Rattle.editor_model.specs.Commits.{changed, commit_of}
 use Rattle.plain_machine.specs.Lines.{OfBefore, OfAfter}
-use Rattle.plain_machine.specs.State.{State, Scope, Program}
+use Rattle.plain_machine.specs.State.{State, Program}
 use Rattle.plain_machine.specs.Items.{MakeChange}
 use Rattle.plain_machine.specs.Run.{Runs, Fine}
 use Rattle.plain_machine.proofs.Composed.{change_done, hooks_none, begun, done, done_at, ends_of, ends_behind}
@@ -109,10 +108,11 @@ module _ (program : Program) (bound : ℕ) (parts : Parts) (c : Ch) (more : List
       let b : Buffer = record { text = text; begin = begin; end = end; point = point; modified = true; undo = behind.undo } in
       record s {
         editor = record {
-          buffers = Some (record { name = scratch; buffer = empty_buffer }) ∷ Some (record { name = session_name; buffer = b }) ∷ [];
+          buffers = Some (new_live scratch) ∷ Some (record { name = session_name; buffer = b; read_only = false }) ∷ [];
           current = 1;
           marks = record { markers = behind.markers; overlays = []; saved = [] };
           registers = parts.registers;
+          lifted = false;
         };
       }
 

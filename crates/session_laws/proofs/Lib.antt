@@ -7,3 +7,15 @@ pub mod Closing
 pub mod Ending
 pub mod Starting
 pub mod Room
+pub mod Waiting
+pub mod Lined
+pub mod Lasting
+pub mod Living
+pub mod Dying
+pub mod Restarting
+pub mod Beginning
+pub mod Counted
+pub mod Held
+pub mod Hearing
+pub mod Sessions
+pub mod Whole

@@ -1,5 +1,5 @@
 -- A run that comes to rest again and again has ended at rest.
-use Rattle.std.proofs.Common.{◌≡◌, ℕ, List, [], ◌∷◌, ◌++◌, refl, sym, ◌∙◌, ap, subst}
+use Rattle.std.proofs.Common.{◌≡◌, ℕ, List, [], ◌∷◌, ◌++◌, refl, sym, ◌∙◌, subst}
 use Rattle.std.specs.Prelude.{Option, Some}
 use Rattle.plain_machine.specs.Exchanges.{Ask, Answer, Exchange}
 use Rattle.plain_machine.specs.State.{Program}

@@ -2,16 +2,16 @@
 use Rattle.std.proofs.Common.{◌≡◌, ℕ, ◌+◌, List, [], ◌∷◌, ◌++◌, length, refl, ap, ◌∙◌, arith, length-append}
 use Rattle.std.specs.Prelude.{Some, None, true, false, codes, nat_lt, slice_get, slice_set}
 use Rattle.std.proofs.lemmas.Bool.{lt-ltb}
-use Rattle.text_model.specs.Marks.{Marker}
+use Rattle.text_model.specs.Codings.{Utf8}
 use Rattle.editor_model.specs.Values.{Value, Sym, TheProcess, Reply, Answered, SetProcessFilter, SetProcessSentinel}
 use Rattle.editor_model.specs.Arguments.{name_of}
 use Rattle.plain_machine.specs.State.{State, Process, Program, Runs, Default, Named, change_process}
 use Rattle.plain_machine.specs.Arguments.{process_name}
 use Rattle.plain_machine.specs.Lines.{OfSentinel}
-use Rattle.plain_machine.specs.Items.{Item, GiveAnswer, Enter, Native, Exit, Config, Said}
+use Rattle.plain_machine.specs.Items.{Item, GiveAnswer, Enter, Native, Exit, Config}
 use Rattle.plain_machine.specs.Calls.{on, started, with_filter, with_sentinel}
 use Rattle.plain_machine.specs.Handling.{enter, exit, unlisted}
-use Rattle.plain_machine.specs.Run.{Reaches, stays, goes}
+use Rattle.plain_machine.specs.Run.{stays, goes}
 use Rattle.line_session.specs.Handlers.{ascii}
 use Rattle.line_session.specs.Script.{filter_name, sentinel_name}
 use Rattle.session_laws.specs.Standing.{Parts, session_program, outside, inside}
@@ -22,7 +22,7 @@ module _ (limit : ℕ) (command : List Value) (bound : ℕ) (parts : Parts) (p :
   abbrev program : Program
   program = session_program limit command
 
-  abbrev leave : Item
+  abbrev pub leave : Item
   leave = Exit (OfSentinel p) (Some sentinel_name) 0 false
 
   -- a sentinel is entered
@@ -53,7 +53,8 @@ new_one parts child = record {
   mark = length parts.markers;
   filter = Default;
   sentinel = None;
-  bytes = [];
+  coding = Utf8;
+  bytes = None;
   drained = false;
   closed = false;
   listed = true;
@@ -71,15 +72,15 @@ child_started parts child = refl
 
 -- ITS HANDLERS
 module _ {X : Type 0} (x : X) where
-  last_there : (xs : List X) → slice_get (xs ++ x ∷ []) (length xs) ≡ Some x
+  pub last_there : (xs : List X) → slice_get (xs ++ x ∷ []) (length xs) ≡ Some x
   last_there [] = refl
   last_there (y ∷ xs) = last_there xs
 
-  last_set : (xs : List X) (y : X) → slice_set (xs ++ x ∷ []) (length xs) y ≡ xs ++ y ∷ []
+  pub last_set : (xs : List X) (y : X) → slice_set (xs ++ x ∷ []) (length xs) y ≡ xs ++ y ∷ []
   last_set [] y = refl
   last_set (z ∷ xs) y = ap (λ l. z ∷ l) (last_set xs y)
 
-  last_made : (xs : List X) → nat_lt (length xs) (length (xs ++ x ∷ [])) ≡ true
+  pub last_made : (xs : List X) → nat_lt (length xs) (length (xs ++ x ∷ [])) ≡ true
   last_made xs = lt-ltb (length xs) (length (xs ++ x ∷ [])) (omega (arith, length-append xs (x ∷ [])))
 
 -- a process more, with some handlers

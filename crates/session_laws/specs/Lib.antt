@@ -1,3 +1,4 @@
 pub mod Resting
 pub mod Standing
 pub mod Filtering
+pub mod Sessions

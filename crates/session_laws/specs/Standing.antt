@@ -1,12 +1,12 @@
 -- The states of a session's run: what may differ between them, and all that doesn't.
-use Rattle.std.specs.Prelude.{ℕ, ◌+◌, Bool, false, List, [], ◌∷◌, ◌++◌, map, length, codes, Some}
+use Rattle.std.specs.Prelude.{ℕ, Bool, false, List, [], ◌∷◌, map, length, codes, Some}
 use Rattle.text_model.specs.Characters.{Ch, Scalar}
 use Rattle.text_model.specs.Properties.{bare}
 use Rattle.text_model.specs.Undo.{Undo}
 use Rattle.text_model.specs.Marks.{Marker}
 use Rattle.text_model.specs.Commit.{Buffer}
 use Rattle.editor_model.specs.Values.{Value}
-use Rattle.editor_model.specs.Editor.{Editor, Name, scratch, empty_buffer}
+use Rattle.editor_model.specs.Editor.{Editor, Name, new_live, scratch}
 use Rattle.plain_machine.specs.State.{State, Scope, Process, Program}
 use Rattle.line_session.specs.Handlers.{session_does}
 use Rattle.line_session.specs.Script.{session_symbols, filter_name, sentinel_name}
@@ -36,10 +36,11 @@ gathering parts = record { text = bare parts.text; begin = 0; end = length parts
 -- beside the buffer `*scratch*`, which stays empty
 abbrev pub editor_with : (current : ℕ) → Parts → Editor
 editor_with current parts = record {
-  buffers = Some (record { name = scratch; buffer = empty_buffer }) ∷ Some (record { name = session_name; buffer = gathering parts }) ∷ [];
+  buffers = Some (new_live scratch) ∷ Some (record { name = session_name; buffer = gathering parts; read_only = false }) ∷ [];
   current = current;
   marks = record { markers = parts.markers; overlays = []; saved = [] };
   registers = parts.registers;
+  lifted = false;
 }
 
 -- no hooks, and so many handlers

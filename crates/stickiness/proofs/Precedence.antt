@@ -26,7 +26,7 @@ none_either_way : (t : Bool) → ◌≡◌ {A = Option PropVal} None (if t then 
 none_either_way true = refl
 none_either_way false = refl
 
-get_kept : (test : ℕ → Bool) (set : PropSet) (name : ℕ) → get (filter (λ p. test p.0) set) name ≡ (if test name then get set name else None)
+pub get_kept : (test : ℕ → Bool) (set : PropSet) (name : ℕ) → get (filter (λ p. test p.0) set) name ≡ (if test name then get set name else None)
 get_kept test [] name = none_either_way (test name)
 get_kept test (p ∷ set) name = by_name (p.0 == name) refl (get_kept test set name)
   where

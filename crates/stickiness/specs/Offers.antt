@@ -1,7 +1,7 @@
 -- What a neighbour of an insertion offers, by the side where it stands.
-use Rattle.std.specs.Prelude.{ℕ, Bool, ◌&&◌, not, filter}
+use Rattle.std.specs.Prelude.{ℕ, Bool, ◌&&◌, not, filter, Option}
 use Rattle.text_model.specs.Properties.{PropSet, get}
-use Rattle.text_model.specs.Sticky.{names, is_stickiness, front_sticky, rear_nonsticky}
+use Rattle.text_model.specs.Sticky.{names, is_stickiness, front_sticky, rear_nonsticky, offered_by_before, offered_by_after}
 use Rattle.stickiness.specs.declared.side.Side.{Side}
 use Rattle.stickiness.specs.declared.side.Side.TheVariants.{Before, After}
 
@@ -13,3 +13,8 @@ offers After set name = not (is_stickiness name) && names (get set front_sticky)
 -- those of some properties that it offers
 abbrev pub offered : Side → (set some : PropSet) → PropSet
 offered side set some = filter (λ p. offers side set p.0) some
+
+-- all that the neighbour on a side offers, if there is one
+abbrev pub offered_at : Side → Option PropSet → PropSet
+offered_at Before set = offered_by_before set
+offered_at After set = offered_by_after set

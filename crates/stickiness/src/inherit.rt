@@ -1,12 +1,13 @@
 //! The properties that an inserted character inherits.
-ghost use Rattle.std.specs.Prelude.{◌≡◌, ◌+◌, ◌<◌, IfOk, option_map, length, Some, drop};
-ghost use Rattle.text_model.specs.Properties.{put_all};
+ghost use Rattle.std.specs.Prelude.{◌≡◌, ◌+◌, ◌<◌, IfOk, IfSome, option_map, is_some, length};
+ghost use Rattle.std.specs.Prelude.{Some, drop};
+ghost use Rattle.text_model.specs.Properties.{get, put_all};
 ghost use Rattle.text_model.specs.Ordered.{IsProper, IsOrdered};
 ghost use Rattle.text_model.specs.Sticky.{inherited, offered_by_before, offered_by_after};
-ghost use Rattle.stickiness.specs.Offers.{offers, offered};
+ghost use Rattle.stickiness.specs.Offers.{offers, offered, offered_at};
 
 use crate::side::Side;
-use ek_types::{Mem, PropSet};
+use ek_types::{Mem, PropSet, Sym};
 use std::alloc::Global;
 
 /// A set with one property of a neighbour put into it, if the neighbour offers it.
@@ -74,4 +75,27 @@ pub fn inherited(alloc: Global, before: Option<&PropSet>, after: Option<&PropSet
     // Read for what it ensures: the names rise, and nil is never a value.
     let _proper = set.len();
     Ok(set)
+}
+
+/// Whether a neighbour has a property and offers it.
+fn gives(side: Side, set: Option<&PropSet>, name: Sym) -> bool
+    ensures exact { result ≡ is_some (get (offered_at side (option_map (λ s. s.now) set.entry)) name.0) }
+    ensures ordered { IfSome (option_map (λ s. s.now) set.entry) IsOrdered }
+{
+    let Some(set) = set else {
+        return false;
+    };
+    // Read for what it ensures: the names rise.
+    let _proper = set.len();
+    side.offers(set, name) && set.get(name).is_some()
+}
+
+/// Whether a character that is put in between two others takes a property from one of them, as `inherited` says. It takes
+/// no memory.
+pub fn inherits(before: Option<&PropSet>, after: Option<&PropSet>, name: Sym) -> bool
+    ensures { result ≡ is_some (get (inherited (option_map (λ s. s.now) before.entry)
+        (option_map (λ s. s.now) after.entry)) name.0) }
+{
+    let first = gives(Side::Before, before, name);
+    first || gives(Side::After, after, name)
 }

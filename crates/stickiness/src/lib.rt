@@ -5,5 +5,5 @@ mod inherit;
 mod laws;
 mod side;
 
-pub use inherit::inherited;
+pub use inherit::{inherited, inherits};
 pub use laws::{the_character_before_comes_first, what_neighbours_offer};

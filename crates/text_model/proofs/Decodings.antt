@@ -74,10 +74,20 @@ any-length (row ∷ rows) x s e =
       | Neither ↦ λ f e. any-length rows x s e
     ]) refl e
 
-following-length : (s : List ℕ) (n : ℕ) → length s ≤ suc n → following s ≤ n
+pub following-length : (s : List ℕ) (n : ℕ) → length s ≤ suc n → following s ≤ n
 following-length [] n h = omega arith
 following-length (b ∷ []) n h = omega arith
 following-length (b ∷ c ∷ rest) n h = omega (arith, following-length (c ∷ rest) (length rest) (omega arith))
+
+-- the same of what stands at the front
+pub front-append-whole : (x y s : List ℕ) → front x ≡ Whole s → front (x ++ y) ≡ Whole s
+front-append-whole x y s e = any-append-whole well_formed x y s e
+
+pub front-append-neither : (x y : List ℕ) → front x ≡ Neither → front (x ++ y) ≡ Neither
+front-append-neither x y e = any-append-neither well_formed x y e
+
+pub front-length : (x s : List ℕ) → front x ≡ Whole s → length s ≤ length x
+front-length x s e = any-length well_formed x s e
 
 -- one step of each of the two functions, by what stands at the front
 pub characters-whole : (b : ℕ) (x s : List ℕ) → front (b ∷ x) ≡ Whole s → characters_after 0 (b ∷ x) ≡ Scalar (scalar_of s) ∷ characters_after (following s) x

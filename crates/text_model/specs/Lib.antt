@@ -1,5 +1,6 @@
 pub mod Characters
 pub mod Decoding
+pub mod Codings
 pub mod Properties
 pub mod PropertyQuestions
 pub mod Places

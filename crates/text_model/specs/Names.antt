@@ -8,7 +8,8 @@ use Rattle.text_model.specs.Properties.{same_list}
 abbrev pub first_symbols : List (List ℕ)
 first_symbols =
     codes "front-sticky" ∷ codes "rear-nonsticky" ∷ codes "evaporate" ∷ codes "priority" ∷ codes "before-change-functions" ∷ codes "after-change-functions" ∷
-    codes "run" ∷ codes "exit" ∷ codes "signal" ∷ codes "failed" ∷ codes "read-only" ∷ codes "invisible" ∷ codes "before-string" ∷ codes "after-string" ∷ []
+    codes "run" ∷ codes "exit" ∷ codes "signal" ∷ codes "failed" ∷ codes "read-only" ∷ codes "invisible" ∷ codes "before-string" ∷ codes "after-string" ∷
+    codes "utf-8-unix" ∷ codes "utf-8-dos" ∷ codes "latin-1-unix" ∷ []
 
 abbrev pub same_word : List ℕ → List ℕ → Bool
 same_word a b = same_list (λ x y. x == y) a b

@@ -51,6 +51,9 @@ fault_line fault.Nesting = refl
 fault_line fault.ExchangesSpent = refl
 fault_line fault.BufferFull = refl
 fault_line fault.TooMany = refl
+fault_line fault.BufferReadOnly = refl
+fault_line fault.TextReadOnly = refl
+fault_line fault.CodingFixed = refl
 
 pub fault_said : (f : Fault) (n : ℕ) (name : List ℕ) → n ≡ fault_number (fault_of f) → name ≡ fault_name (fault_of f) → decimal n ++ (codes " " ++ name) ≡ fault_words (fault_of f)
 fault_said f n name e k = rw (e, k) (fault_line f)

@@ -19,5 +19,5 @@ process_line s p = codes "process " ++ (decimal p.0 ++ (32 ∷ (shown_process s 
 abbrev pub buffer_lines : List (List ℕ) → (current : Bool) → Live → List ℕ
 buffer_lines symbols current l =
     codes "buffer " ++ (shown_name l.name ++ (codes " point " ++ (decimal (l.buffer.point + 1) ++ (codes " min " ++ (decimal (l.buffer.begin + 1) ++ (codes " max " ++ (decimal (l.buffer.end + 1) ++
-    (codes " modified " ++ ((if l.buffer.modified then codes "t" else codes "nil") ++ ((if current then codes " current\ntext " else codes "\ntext ") ++
-    (string_words symbols (map (λ c. c.0) l.buffer.text) (map (λ c. c.1) l.buffer.text) ++ 10 ∷ [])))))))))))
+    (codes " modified " ++ ((if l.buffer.modified then codes "t" else codes "nil") ++ ((if l.read_only then codes " read-only" else []) ++ ((if current then codes " current\ntext " else codes "\ntext ") ++
+    (string_words symbols (map (λ c. c.0) l.buffer.text) (map (λ c. c.1) l.buffer.text) ++ 10 ∷ []))))))))))))

@@ -1,5 +1,5 @@
 //! The lines of the live buffers in the dump.
-ghost use Rattle.std.specs.Prelude.{codes, if◌then◌else◌, flat_map, Some};
+ghost use Rattle.std.specs.Prelude.{codes, [], if◌then◌else◌, flat_map, Some};
 ghost use Rattle.std.specs.List.{enumerate_from};
 ghost use Rattle.editor_model.specs.Editor.{live};
 ghost use Rattle.plain_machine.specs.Lines.{shown_live};
@@ -61,6 +61,15 @@ impl<K: Sink> Printer<'_, K> {
         }
     }
 
+    /// Writes that a buffer is read-only, where it is.
+    fn read_only_word(&mut self, read_only: bool)
+        ensures { Prints K.state self.old self.new (if read_only then codes " read-only" else []) }
+    {
+        if read_only {
+            self.put(b" read-only");
+        }
+    }
+
     /// Writes what stands in front of a text, of the current buffer or another.
     fn text_word(&mut self, current: bool)
         ensures { Prints K.state self.old self.new
@@ -87,6 +96,7 @@ impl<K: Sink> Printer<'_, K> {
         self.position(text.end());
         self.put(b" modified ");
         self.flag(text.modified());
+        self.read_only_word(text.read_only());
         self.text_word(current);
         self.string(text, symbols);
         self.put(b"\n");

@@ -2,8 +2,10 @@
 use Rattle.std.proofs.Common.{◌≡◌, ℕ, zero, suc, ◌-◌, ◌<◌, ◌≤◌, List, [], ◌∷◌, ◌++◌, length, take, drop, slice_index, refl, ap, sym, ◌∙◌, append_assoc, length-drop, take_all, arith}
 use Rattle.text_model.specs.Characters.{Ch, Scalar}
 use Rattle.text_model.specs.Decoding.{Whole, front, scalar_of, following, characters_after, tail_after, characters, tail}
-use Rattle.text_model.proofs.Decodings.{open_law, tail_law, characters-whole, tail-whole}
-use Rattle.utf8_stream.proofs.Tails.{append_none, tail_closed}
+use Rattle.text_model.specs.Codings.{Coding, decoded, undecoded}
+use Rattle.text_model.proofs.Decodings.{characters-whole, tail-whole}
+use Rattle.text_model.proofs.Codings.{decoded_law, undecoded_law}
+use Rattle.utf8_stream.proofs.Tails.{append_none}
 
 following_take : (b n : ℕ) (x : List ℕ) → n ≤ length x → following (b ∷ take n x) ≡ n
 following_take b zero [] h = refl
@@ -51,17 +53,12 @@ joined : (h x : List ℕ) → 0 < length x → h ++ x ≡ (h ++ slice_index x 0 
 joined h [] k = absurd (omega arith)
 joined h (b ∷ x) k = sym (append_assoc h (b ∷ []) x) ∙ ap (λ y. (h ++ b ∷ []) ++ y) (sym (cut 1 (b ∷ x)))
 
-pub one_more : (h x : List ℕ) → 0 < length x
-    → characters (h ++ x) ≡ characters (h ++ slice_index x 0 ∷ []) ++ characters (tail (h ++ slice_index x 0 ∷ []) ++ take (length x - 1) (drop 1 x))
-one_more h x k = ap characters (joined h x k) ∙ open_law (h ++ slice_index x 0 ∷ []) (take (length x - 1) (drop 1 x))
+pub one_more : (c : Coding) (h x : List ℕ) → 0 < length x
+    → decoded c (h ++ x) ≡ decoded c (h ++ slice_index x 0 ∷ []) ++ decoded c (undecoded c (h ++ slice_index x 0 ∷ []) ++ take (length x - 1) (drop 1 x))
+one_more c h x k = ap (decoded c) (joined h x k) ∙ decoded_law c (h ++ slice_index x 0 ∷ []) (take (length x - 1) (drop 1 x))
 
-pub one_more_tail : (h x : List ℕ) → 0 < length x → tail (h ++ x) ≡ tail (tail (h ++ slice_index x 0 ∷ []) ++ take (length x - 1) (drop 1 x))
-one_more_tail h x k = ap tail (joined h x k) ∙ tail_law (h ++ slice_index x 0 ∷ []) (take (length x - 1) (drop 1 x))
-
--- the bytes held, and none more
-pub none_more : (h x : List ℕ) → length x ≡ 0 → tail h ≡ h → characters (h ++ x) ≡ []
-none_more h [] e t = ap characters (append_none h) ∙ tail_closed h t
-none_more h (b ∷ x) e t = absurd (omega arith)
+pub one_more_tail : (c : Coding) (h x : List ℕ) → 0 < length x → undecoded c (h ++ x) ≡ undecoded c (undecoded c (h ++ slice_index x 0 ∷ []) ++ take (length x - 1) (drop 1 x))
+one_more_tail c h x k = ap (undecoded c) (joined h x k) ∙ undecoded_law c (h ++ slice_index x 0 ∷ []) (take (length x - 1) (drop 1 x))
 
 pub put_first : (out : List Ch) (c : Ch) (new text : List Ch) → new ≡ out ++ c ∷ [] → new ++ text ≡ out ++ c ∷ text
 put_first out c new text e = ap (λ cs. cs ++ text) e ∙ append_assoc out (c ∷ []) text

@@ -89,7 +89,7 @@ room_after zero (b ∷ x) =
 pub tail_room : (x : List ℕ) → length (characters x) + length (tail x) ≤ length x
 tail_room x = room_after 0 x
 
-none_of : {T : Type 0} (x : List T) → length x ≡ 0 → x ≡ []
+pub none_of : {T : Type 0} (x : List T) → length x ≡ 0 → x ≡ []
 none_of [] e = refl
 none_of (a ∷ x) e = absurd (omega arith)
 

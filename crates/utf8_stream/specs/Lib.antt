@@ -1,2 +1,4 @@
+pub mod Codings
 pub mod Pieces
 pub mod Sequence
+pub mod Returns

@@ -1,5 +1,6 @@
-//! What runs: the edges of the Unicode Standard's Table 3-7, cuts at each place, and a long text in pieces.
-use crate::Decoder;
+//! What runs: the edges of the Unicode Standard's Table 3-7, cuts at each place, line ends and single bytes, and a long text
+//! in pieces.
+use crate::{Coding, Decoder};
 use ek_types::{Ch, Chars};
 use std::alloc::Global;
 use std::process::Abort;
@@ -203,6 +204,135 @@ const CHARACTERS: [Ch; 7] = [
     Ch::Raw(0xE2),
     Ch::Raw(0x82),
 ];
+
+/// What bytes are in a coding, whole and cut at each place: these characters without what is held back, which are so many
+/// bytes, and these at the end.
+fn becomes(
+    rt: &impl Abort,
+    alloc: Global,
+    coding: Coding,
+    bytes: &[u8],
+    (open, held): (&[Ch], usize),
+    all: &[Ch],
+) {
+    for cut in 0..bytes.len() {
+        let (front, rest) = bytes.split_at(cut);
+        let mut out = Chars::new(alloc);
+        let mut decoder = Decoder::with(coding);
+        feed(rt, &mut decoder, front, &mut out);
+        feed(rt, &mut decoder, rest, &mut out);
+        assert!(rt; decoder.coding() == coding);
+        assert_eq!(rt; decoder.held().len(), held);
+        is_text(rt, &out, open);
+        finish(rt, &mut decoder, &mut out);
+        assert!(rt; decoder.held().is_empty());
+        is_text(rt, &out, all);
+    }
+}
+
+fn is_text(rt: &impl Abort, out: &Chars, text: &[Ch]) {
+    assert_eq!(rt; out.len(), text.len());
+    for i in 0..out.len() {
+        assert_eq!(rt; out.at(i), text[i]);
+    }
+}
+
+const A: Ch = Ch::Scalar('a');
+
+const FEED: Ch = Ch::Scalar('\n');
+
+const RETURN: Ch = Ch::Scalar('\r');
+
+/// Each with its characters by the definition: UTF-8 is decoded, and then a carriage return directly before a line feed goes.
+#[test]
+fn line_ends(rt: HostRuntime) {
+    let alloc = rt.alloc();
+    let dos = Coding::Utf8Dos;
+    becomes(&rt, alloc, dos, b"a\r\n", (&[A, FEED], 0), &[A, FEED]);
+    becomes(&rt, alloc, dos, b"a\r", (&[A], 1), &[A, RETURN]);
+    becomes(&rt, alloc, dos, b"\r", (&[], 1), &[RETURN]);
+    becomes(&rt, alloc, dos, b"\ra", (&[RETURN, A], 0), &[RETURN, A]);
+    becomes(&rt, alloc, dos, b"\n\r", (&[FEED], 1), &[FEED, RETURN]);
+    becomes(&rt, alloc, dos, b"\r\r", (&[RETURN], 1), &[RETURN, RETURN]);
+    becomes(
+        &rt,
+        alloc,
+        dos,
+        b"\r\r\n",
+        (&[RETURN, FEED], 0),
+        &[RETURN, FEED],
+    );
+    becomes(
+        &rt,
+        alloc,
+        dos,
+        b"\r\n\r\n",
+        (&[FEED, FEED], 0),
+        &[FEED, FEED],
+    );
+}
+
+#[test]
+fn line_ends_beside_malformed_bytes(rt: HostRuntime) {
+    let alloc = rt.alloc();
+    let dos = Coding::Utf8Dos;
+    let (e2, x82, ff) = (Ch::Raw(0xE2), Ch::Raw(0x82), Ch::Raw(0xFF));
+    becomes(
+        &rt,
+        alloc,
+        dos,
+        b"\r\xFF",
+        (&[RETURN, ff], 0),
+        &[RETURN, ff],
+    );
+    becomes(&rt, alloc, dos, b"\r\xE2", (&[RETURN], 1), &[RETURN, e2]);
+    becomes(
+        &rt,
+        alloc,
+        dos,
+        b"\xE2\x82\r",
+        (&[e2, x82], 1),
+        &[e2, x82, RETURN],
+    );
+    becomes(
+        &rt,
+        alloc,
+        dos,
+        b"\xE2\x82\r\n",
+        (&[e2, x82, FEED], 0),
+        &[e2, x82, FEED],
+    );
+    becomes(
+        &rt,
+        alloc,
+        dos,
+        b"\r\xE2\n",
+        (&[RETURN, e2, FEED], 0),
+        &[RETURN, e2, FEED],
+    );
+}
+
+#[test]
+fn single_bytes(rt: HostRuntime) {
+    let alloc = rt.alloc();
+    let text = [Ch::Scalar('\u{E9}'), A, RETURN, FEED, Ch::Scalar('\u{FF}')];
+    becomes(
+        &rt,
+        alloc,
+        Coding::Latin1,
+        b"\xE9a\r\n\xFF",
+        (&text, 0),
+        &text,
+    );
+    becomes(
+        &rt,
+        alloc,
+        Coding::Utf8,
+        b"a\r\n",
+        (&[A, RETURN, FEED], 0),
+        &[A, RETURN, FEED],
+    );
+}
 
 /// About 1 MiB of mixed text, in pieces of all lengths from `least` to `most`, in turn.
 fn comes_through(rt: &impl Abort, alloc: Global, least: usize, most: usize) {

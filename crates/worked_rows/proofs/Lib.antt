@@ -1,10 +1,12 @@
 pub mod TextRows
 pub mod PropertyRows
+pub mod ReadOnlyRows
 pub mod OverlayRows
 pub mod UndoRows
 pub mod HookRows
 pub mod ProcessRows
 pub mod WaitRows
+pub mod CodingRows
 pub mod NativeRows
 pub mod LimitRows
 pub mod DrillRows

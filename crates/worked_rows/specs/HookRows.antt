@@ -8,7 +8,7 @@ use Rattle.worked_rows.specs.Row.{Row, row, script, forms, call, set, handler, n
 --     (insert "abcd")(add-hook 'before-change-functions 'h)(delete-region 3 4)
 abbrev pub hook_edits_before_the_change : Row
 hook_edits_before_the_change =
-    let h : ℕ = 14 in let b : ℕ = 15 in let e : ℕ = 16 in
+    let h : ℕ = 17 in let b : ℕ = 18 in let e : ℕ = 19 in
     row (script (codes "h" ∷ codes "b" ∷ codes "e" ∷ []) (handler h (b ∷ e ∷ []) (call Prim.DeleteRegion (number 1 ∷ number 2 ∷ []) ∷ []) ∷ []) (
     call Prim.Insert (string (codes "abcd") ∷ []) ∷
     call Prim.AddHook (symbol before_change_functions ∷ symbol h ∷ []) ∷
@@ -30,7 +30,7 @@ hook_edits_before_the_change =
 --     (add-hook 'before-change-functions 'h)(insert "c")(marker-buffer m)
 abbrev pub hook_kills_the_buffer : Row
 hook_kills_the_buffer =
-    let h : ℕ = 14 in let b : ℕ = 15 in let e : ℕ = 16 in let m : ℕ = 17 in
+    let h : ℕ = 17 in let b : ℕ = 18 in let e : ℕ = 19 in let m : ℕ = 20 in
     row (script (codes "h" ∷ codes "b" ∷ codes "e" ∷ codes "m" ∷ []) (handler h (b ∷ e ∷ []) (call Prim.KillBuffer [] ∷ []) ∷ []) (
     call Prim.GetBufferCreate (string (codes "w") ∷ []) ∷
     call Prim.SetBuffer (string (codes "w") ∷ []) ∷
@@ -63,7 +63,7 @@ hook_kills_the_buffer =
 --     (insert "abcdef")(add-hook 'after-change-functions 'g)(delete-region 3 2)(narrow-to-region 1 3)(delete-region 2 4)(delete-region 2 2)
 abbrev pub after_change_arguments : Row
 after_change_arguments =
-    let g : ℕ = 14 in let b : ℕ = 15 in let e : ℕ = 16 in let n : ℕ = 17 in
+    let g : ℕ = 17 in let b : ℕ = 18 in let e : ℕ = 19 in let n : ℕ = 20 in
     row (script (codes "g" ∷ codes "b" ∷ codes "e" ∷ codes "n" ∷ []) (handler g (b ∷ e ∷ n ∷ []) ([]) ∷ []) (
     call Prim.Insert (string (codes "abcdef") ∷ []) ∷
     call Prim.AddHook (symbol after_change_functions ∷ symbol g ∷ []) ∷
@@ -89,7 +89,7 @@ after_change_arguments =
 --     (add-hook 'before-change-functions 'h)(insert "a")(insert "b")
 abbrev pub hook_ended_by_a_fault : Row
 hook_ended_by_a_fault =
-    let h : ℕ = 14 in let b : ℕ = 15 in let e : ℕ = 16 in let unset : ℕ = 17 in
+    let h : ℕ = 17 in let b : ℕ = 18 in let e : ℕ = 19 in let unset : ℕ = 20 in
     row (script (codes "h" ∷ codes "b" ∷ codes "e" ∷ codes "unset" ∷ []) (handler h (b ∷ e ∷ []) (call Prim.GotoChar (Name unset ∷ []) ∷ []) ∷ []) (
     call Prim.AddHook (symbol before_change_functions ∷ symbol h ∷ []) ∷
     call Prim.Insert (string (codes "a") ∷ []) ∷
@@ -110,7 +110,7 @@ hook_ended_by_a_fault =
 --     (insert "abcdef")(add-hook 'before-change-functions 'h)(delete-region 2 4)(buffer-string)
 abbrev pub ends_of_a_pending_change : Row
 ends_of_a_pending_change =
-    let h : ℕ = 14 in let b : ℕ = 15 in let e : ℕ = 16 in
+    let h : ℕ = 17 in let b : ℕ = 18 in let e : ℕ = 19 in
     row (script (codes "h" ∷ codes "b" ∷ codes "e" ∷ []) (handler h (b ∷ e ∷ []) (call Prim.GotoChar (number 4 ∷ []) ∷ call Prim.Insert (string (codes "X") ∷ []) ∷ []) ∷ []) (
     call Prim.Insert (string (codes "abcdef") ∷ []) ∷
     call Prim.AddHook (symbol before_change_functions ∷ symbol h ∷ []) ∷
@@ -134,8 +134,8 @@ ends_of_a_pending_change =
 --     (add-hook 'after-change-functions 'h)(insert "a")(insert "b")
 abbrev pub function_behind_a_change_ended_by_a_fault : Row
 function_behind_a_change_ended_by_a_fault =
-    let h : ℕ = 14 in let b : ℕ = 15 in let e : ℕ = 16 in let n : ℕ = 17 in
-    let unset : ℕ = 18 in
+    let h : ℕ = 17 in let b : ℕ = 18 in let e : ℕ = 19 in let n : ℕ = 20 in
+    let unset : ℕ = 21 in
     row (script (codes "h" ∷ codes "b" ∷ codes "e" ∷ codes "n" ∷ codes "unset" ∷ []) (handler h (b ∷ e ∷ n ∷ []) (call Prim.GotoChar (Name unset ∷ []) ∷ []) ∷ []) (
     call Prim.AddHook (symbol after_change_functions ∷ symbol h ∷ []) ∷
     call Prim.Insert (string (codes "a") ∷ []) ∷
@@ -158,8 +158,8 @@ function_behind_a_change_ended_by_a_fault =
 --     (put-text-property 1 2 'face 'bold)(put-text-property 1 2 'face 'bold)
 abbrev pub changes_of_nothing : Row
 changes_of_nothing =
-    let h : ℕ = 14 in let b : ℕ = 15 in let e : ℕ = 16 in
-    let face : ℕ = 17 in let bold : ℕ = 18 in
+    let h : ℕ = 17 in let b : ℕ = 18 in let e : ℕ = 19 in
+    let face : ℕ = 20 in let bold : ℕ = 21 in
     row (script (codes "h" ∷ codes "b" ∷ codes "e" ∷ codes "face" ∷ codes "bold" ∷ []) (handler h (b ∷ e ∷ []) [] ∷ []) (
     call Prim.AddHook (symbol before_change_functions ∷ symbol h ∷ []) ∷
     call Prim.Insert (string (codes "") ∷ []) ∷
@@ -190,7 +190,7 @@ changes_of_nothing =
 --     (add-hook 'before-change-functions 'h)(add-hook 'before-change-functions 'g)(insert "b")(insert "c")
 abbrev pub functions_in_a_list : Row
 functions_in_a_list =
-    let g : ℕ = 14 in let h : ℕ = 15 in let b : ℕ = 16 in let e : ℕ = 17 in let unset : ℕ = 18 in
+    let g : ℕ = 17 in let h : ℕ = 18 in let b : ℕ = 19 in let e : ℕ = 20 in let unset : ℕ = 21 in
     row (script (codes "g" ∷ codes "h" ∷ codes "b" ∷ codes "e" ∷ codes "unset" ∷ [])
     (handler g (b ∷ e ∷ []) (call Prim.GotoChar (Name unset ∷ []) ∷ []) ∷ handler h (b ∷ e ∷ []) [] ∷ []) (
     call Prim.AddHook (symbol before_change_functions ∷ symbol g ∷ []) ∷
@@ -227,7 +227,7 @@ functions_in_a_list =
 --     (add-hook 'before-change-functions 'g)(add-hook 'before-change-functions 'h)(insert "a")(insert "b")
 abbrev pub functions_of_a_copy : Row
 functions_of_a_copy =
-    let g : ℕ = 14 in let h : ℕ = 15 in let b : ℕ = 16 in let e : ℕ = 17 in
+    let g : ℕ = 17 in let h : ℕ = 18 in let b : ℕ = 19 in let e : ℕ = 20 in
     row (script (codes "g" ∷ codes "h" ∷ codes "b" ∷ codes "e" ∷ [])
     (handler g (b ∷ e ∷ []) [] ∷ handler h (b ∷ e ∷ []) (call Prim.RemoveHook (symbol before_change_functions ∷ symbol g ∷ []) ∷ []) ∷ []) (
     call Prim.AddHook (symbol before_change_functions ∷ symbol g ∷ []) ∷
@@ -257,7 +257,7 @@ functions_of_a_copy =
 --     (remove-hook 'before-change-functions 'h)(insert "c")
 abbrev pub hooks_inhibited : Row
 hooks_inhibited =
-    let h : ℕ = 14 in let b : ℕ = 15 in let e : ℕ = 16 in
+    let h : ℕ = 17 in let b : ℕ = 18 in let e : ℕ = 19 in
     row (script (codes "h" ∷ codes "b" ∷ codes "e" ∷ []) (handler h (b ∷ e ∷ []) [] ∷ []) (
     call Prim.AddHook (symbol before_change_functions ∷ symbol h ∷ []) ∷
     In InhibitHooks (forms (call Prim.Insert (string (codes "a") ∷ []) ∷ [])) ∷
@@ -281,7 +281,7 @@ hooks_inhibited =
 --     (insert "abc")(add-hook 'before-change-functions 'h)(delete-region 1 2)(goto-char r)(goto-char b)
 abbrev pub names_in_a_handler : Row
 names_in_a_handler =
-    let h : ℕ = 14 in let b : ℕ = 15 in let e : ℕ = 16 in let r : ℕ = 17 in
+    let h : ℕ = 17 in let b : ℕ = 18 in let e : ℕ = 19 in let r : ℕ = 20 in
     row (script (codes "h" ∷ codes "b" ∷ codes "e" ∷ codes "r" ∷ [])
     (handler h (b ∷ e ∷ []) (set b Prim.PointMax [] ∷ set r Prim.PointMin [] ∷ call Prim.GotoChar (Name b ∷ []) ∷ []) ∷ []) (
     call Prim.Insert (string (codes "abc") ∷ []) ∷

@@ -1,6 +1,7 @@
 -- Runs that begin where a limit is reached: what is refused then, and what isn't.
 use Rattle.std.specs.Prelude.{ℕ, zero, suc, ◌+◌, true, false, decimal, List, [], ◌∷◌, ◌++◌, codes, replicate, map, Option, None}
 use Rattle.text_model.specs.Characters.{Scalar}
+use Rattle.text_model.specs.Codings.{Utf8}
 use Rattle.editor_model.specs.Values.{Form, Prim}
 use Rattle.editor_model.specs.Editor.{new_editor}
 use Rattle.plain_machine.specs.Exchanges.{Exchange, Ask, Answer}
@@ -51,7 +52,8 @@ process_in b =
       mark = 0;
       filter = Default;
       sentinel = None;
-      bytes = [];
+      coding = Utf8;
+      bytes = None;
       drained = false;
       closed = false;
       listed = true;

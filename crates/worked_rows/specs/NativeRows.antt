@@ -12,7 +12,7 @@ use Rattle.worked_rows.specs.Row.{native_row}
 --     (setq p (start-process "c" "out" "cat"))(set-process-filter p 'insert-filter)(accept-process-output p)
 abbrev pub shipped_insert_filter : Row
 shipped_insert_filter =
-    let p : ℕ = 14 in let insert_filter : ℕ = 15 in
+    let p : ℕ = 17 in let insert_filter : ℕ = 18 in
     shipped_row (script (codes "p" ∷ codes "insert-filter" ∷ []) [] (
     set p Prim.StartProcess (string (codes "c") ∷ string (codes "out") ∷ string (codes "cat") ∷ []) ∷
     call Prim.SetProcessFilter (Name p ∷ symbol insert_filter ∷ []) ∷
@@ -45,7 +45,7 @@ shipped_insert_filter =
 --     (setq p (start-process "c" nil "cat"))(set-process-sentinel p 'note-sentinel)(accept-process-output p)
 abbrev pub shipped_note_sentinel : Row
 shipped_note_sentinel =
-    let p : ℕ = 14 in let note_sentinel : ℕ = 15 in
+    let p : ℕ = 17 in let note_sentinel : ℕ = 18 in
     shipped_row (script (codes "p" ∷ codes "note-sentinel" ∷ []) [] (
     set p Prim.StartProcess (string (codes "c") ∷ nil ∷ string (codes "cat") ∷ []) ∷
     call Prim.SetProcessSentinel (Name p ∷ symbol note_sentinel ∷ []) ∷
@@ -73,7 +73,7 @@ shipped_note_sentinel =
 --     (add-hook 'before-change-functions 'n)(insert "a")
 abbrev pub native_that_never_ends : Row
 native_that_never_ends =
-    let n : ℕ = 14 in
+    let n : ℕ = 17 in
     native_row (codes "n") (λ past. Some (Prim.PointAt, [])) (
     call Prim.AddHook (symbol before_change_functions ∷ symbol n ∷ []) ∷
     call Prim.Insert (string (codes "a") ∷ []) ∷ []
@@ -94,7 +94,7 @@ in_turn calls past = slice_get calls (length past)
 -- A native calls with a buffer that was never made.
 abbrev pub native_gives_a_buffer_never_made : Row
 native_gives_a_buffer_never_made =
-    let n : ℕ = 14 in
+    let n : ℕ = 17 in
     native_row (codes "n") (in_turn ((Prim.GetBufferCreate, text (codes "w") ∷ []) ∷ (Prim.SetBuffer, TheBuffer 9 ∷ []) ∷ [])) (
     call Prim.AddHook (symbol before_change_functions ∷ symbol n ∷ []) ∷
     call Prim.Insert (string (codes "a") ∷ []) ∷ []
@@ -122,17 +122,17 @@ odd_calls =
     (Prim.BufferLiveP, TheMarker 0 ∷ []) ∷
     (Prim.BufferLiveP, TheOverlay 0 ∷ []) ∷
     (Prim.BufferLiveP, TheProcess 0 ∷ []) ∷
-    (Prim.BufferLiveP, Sym 15 ∷ []) ∷
-    (Prim.BufferLiveP, Sym 14 ∷ []) ∷
+    (Prim.BufferLiveP, Sym 18 ∷ []) ∷
+    (Prim.BufferLiveP, Sym 17 ∷ []) ∷
     (Prim.BufferLiveP, Items (More (Items (More (TheBuffer 1) End)) End) ∷ []) ∷
-    (Prim.BufferLiveP, Str ((Scalar 97, (0, Symbol 15) ∷ []) ∷ []) ∷ []) ∷
+    (Prim.BufferLiveP, Str ((Scalar 97, (0, Symbol 18) ∷ []) ∷ []) ∷ []) ∷
     (Prim.BufferName, Items End ∷ []) ∷
     (Prim.PutTextProperty, Int (pos 1) ∷ Int (pos 1) ∷ Sym 0 ∷ Items End ∷ []) ∷
     (Prim.AddHook, Sym 3 ∷ Sym 99 ∷ []) ∷ []
 
 abbrev pub odd_calls_of_a_native : Row
 odd_calls_of_a_native =
-    let n : ℕ = 14 in
+    let n : ℕ = 17 in
     let wrong : List ℕ = codes "  ! 2 wrong-type-argument" in
     native_row (codes "n") (in_turn odd_calls) (
     call Prim.AddHook (symbol before_change_functions ∷ symbol n ∷ []) ∷
@@ -153,7 +153,7 @@ odd_calls_of_a_native =
 --     (setq p (start-process "c" nil "cat"))(set-process-filter p 'drop-filter)(accept-process-output p)
 abbrev pub handler_hides_a_native : Row
 handler_hides_a_native =
-    let drop_filter : ℕ = 14 in let p : ℕ = 15 in let s : ℕ = 16 in
+    let drop_filter : ℕ = 17 in let p : ℕ = 18 in let s : ℕ = 19 in
     shipped_row (script (codes "drop-filter" ∷ codes "p" ∷ codes "s" ∷ []) (handler drop_filter (p ∷ s ∷ []) (call Prim.PointAt [] ∷ []) ∷ []) (
     set p Prim.StartProcess (string (codes "c") ∷ nil ∷ string (codes "cat") ∷ []) ∷
     call Prim.SetProcessFilter (Name p ∷ symbol drop_filter ∷ []) ∷

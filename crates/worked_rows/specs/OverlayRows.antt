@@ -61,7 +61,7 @@ empty_overlays_at_an_insertion =
 --     (setq q (make-overlay 1 3))(overlay-put q 'evaporate t)(delete-region 2 4)
 abbrev pub evaporating_overlays : Row
 evaporating_overlays =
-    let o : ℕ = 14 in let q : ℕ = 15 in
+    let o : ℕ = 17 in let q : ℕ = 18 in
     row (script (codes "o" ∷ codes "q" ∷ []) [] (
     call Prim.Insert (string (codes "abcd") ∷ []) ∷
     set o Prim.MakeOverlay (number 2 ∷ number 4 ∷ []) ∷
@@ -88,8 +88,8 @@ evaporating_overlays =
 --     (overlay-put a 'priority 1)(get-char-property 2 'face)(get-char-property 5 'face)
 abbrev pub overlay_priorities : Row
 overlay_priorities =
-    let face : ℕ = 14 in let plain : ℕ = 15 in let a : ℕ = 16 in let outer : ℕ = 17 in
-    let b : ℕ = 18 in let inner : ℕ = 19 in
+    let face : ℕ = 17 in let plain : ℕ = 18 in let a : ℕ = 19 in let outer : ℕ = 20 in
+    let b : ℕ = 21 in let inner : ℕ = 22 in
     row (script (codes "face" ∷ codes "plain" ∷ codes "a" ∷ codes "outer" ∷ codes "b" ∷ codes "inner" ∷ []) [] (
     call Prim.Insert (quoted (Str (with_set ((face, Symbol plain) ∷ []) (codes "abcd"))) ∷ []) ∷
     set a Prim.MakeOverlay (number 1 ∷ number 5 ∷ []) ∷

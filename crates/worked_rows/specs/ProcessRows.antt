@@ -69,7 +69,7 @@ spawn_refused =
 --     (setq p (start-process "c" nil "cat"))(set-process-filter p 'f)(set-process-sentinel p 'f)(accept-process-output p)(accept-process-output p)
 abbrev pub spawn_refused_leaves_a_void_name : Row
 spawn_refused_leaves_a_void_name =
-    let f : ℕ = 14 in let p : ℕ = 15 in let s : ℕ = 16 in
+    let f : ℕ = 17 in let p : ℕ = 18 in let s : ℕ = 19 in
     row (script (codes "f" ∷ codes "p" ∷ codes "s" ∷ []) (handler f (p ∷ s ∷ []) ([]) ∷ []) (
     set p Prim.StartProcess (string (codes "c") ∷ nil ∷ string (codes "cat") ∷ []) ∷
     call Prim.SetProcessFilter (Name p ∷ symbol f ∷ []) ∷
@@ -92,7 +92,7 @@ spawn_refused_leaves_a_void_name =
 --     (set-process-filter p 'g)(accept-process-output p)
 abbrev pub character_cut_across_reads : Row
 character_cut_across_reads =
-    let f : ℕ = 14 in let p : ℕ = 15 in let s : ℕ = 16 in let g : ℕ = 17 in
+    let f : ℕ = 17 in let p : ℕ = 18 in let s : ℕ = 19 in let g : ℕ = 20 in
     row (script (codes "f" ∷ codes "p" ∷ codes "s" ∷ codes "g" ∷ []) (
     handler f (p ∷ s ∷ []) ([]) ∷
     handler g (p ∷ s ∷ []) ([]) ∷ []
@@ -124,7 +124,7 @@ character_cut_across_reads =
 --     (setq p (start-process "c" nil "cat"))(set-process-filter p 'f)(set-process-sentinel p 'f)(accept-process-output p)(accept-process-output p)
 abbrev pub held_tail_at_end_of_output : Row
 held_tail_at_end_of_output =
-    let f : ℕ = 14 in let p : ℕ = 15 in let s : ℕ = 16 in
+    let f : ℕ = 17 in let p : ℕ = 18 in let s : ℕ = 19 in
     row (script (codes "f" ∷ codes "p" ∷ codes "s" ∷ []) (handler f (p ∷ s ∷ []) ([]) ∷ []) (
     set p Prim.StartProcess (string (codes "c") ∷ nil ∷ string (codes "cat") ∷ []) ∷
     call Prim.SetProcessFilter (Name p ∷ symbol f ∷ []) ∷
@@ -152,7 +152,7 @@ held_tail_at_end_of_output =
 --     (setq p (start-process "c" nil "cat"))(set-process-filter p 'f)(set-process-sentinel p 'f)(accept-process-output p)(accept-process-output p)
 abbrev pub read_and_end_fail : Row
 read_and_end_fail =
-    let f : ℕ = 14 in let p : ℕ = 15 in let s : ℕ = 16 in
+    let f : ℕ = 17 in let p : ℕ = 18 in let s : ℕ = 19 in
     row (script (codes "f" ∷ codes "p" ∷ codes "s" ∷ []) (handler f (p ∷ s ∷ []) ([]) ∷ []) (
     set p Prim.StartProcess (string (codes "c") ∷ nil ∷ string (codes "cat") ∷ []) ∷
     call Prim.SetProcessFilter (Name p ∷ symbol f ∷ []) ∷
@@ -179,7 +179,7 @@ read_and_end_fail =
 --     (setq p (start-process "c" "out" "cat"))(set-process-filter p t)(accept-process-output p)(set-process-filter p nil)(accept-process-output p)
 abbrev pub filter_off_and_on : Row
 filter_off_and_on =
-    let p : ℕ = 14 in
+    let p : ℕ = 17 in
     row (script (codes "p" ∷ []) [] (
     set p Prim.StartProcess (string (codes "c") ∷ string (codes "out") ∷ string (codes "cat") ∷ []) ∷
     call Prim.SetProcessFilter (Name p ∷ t ∷ []) ∷
@@ -207,7 +207,7 @@ filter_off_and_on =
 --     (get-buffer-create "out")(set-buffer "out")(insert "abcdef")(setq p (start-process "c" "out" "cat"))(narrow-to-region 2 4)(accept-process-output p)
 abbrev pub default_filter_outside_the_narrowing : Row
 default_filter_outside_the_narrowing =
-    let p : ℕ = 14 in
+    let p : ℕ = 17 in
     row (script (codes "p" ∷ []) [] (
     call Prim.GetBufferCreate (string (codes "out") ∷ []) ∷
     call Prim.SetBuffer (string (codes "out") ∷ []) ∷
@@ -238,7 +238,7 @@ default_filter_outside_the_narrowing =
 --     (setq p (start-process "c" nil "cat"))(set-process-sentinel p 's)(delete-process p)
 abbrev pub kill_that_fails : Row
 kill_that_fails =
-    let s : ℕ = 14 in let p : ℕ = 15 in let m : ℕ = 16 in
+    let s : ℕ = 17 in let p : ℕ = 18 in let m : ℕ = 19 in
     row (script (codes "s" ∷ codes "p" ∷ codes "m" ∷ []) (handler s (p ∷ m ∷ []) ([]) ∷ []) (
     set p Prim.StartProcess (string (codes "c") ∷ nil ∷ string (codes "cat") ∷ []) ∷
     call Prim.SetProcessSentinel (Name p ∷ symbol s ∷ []) ∷
@@ -261,7 +261,7 @@ kill_that_fails =
 --     (set-process-sentinel p 's)(accept-process-output p)(accept-process-output p)(process-exit-status p)
 abbrev pub real_children : Row
 real_children =
-    let s : ℕ = 14 in let p : ℕ = 15 in let m : ℕ = 16 in
+    let s : ℕ = 17 in let p : ℕ = 18 in let m : ℕ = 19 in
     row (script (codes "s" ∷ codes "p" ∷ codes "m" ∷ []) (handler s (p ∷ m ∷ []) ([]) ∷ []) (
     set p Prim.StartProcess (string (codes "sorted") ∷ string (codes "out") ∷ string (codes "sh") ∷ string (codes "-c") ∷ string (codes "printf 'b\\na\\n' | sort; exit 3") ∷ []) ∷
     call Prim.SetProcessSentinel (Name p ∷ symbol s ∷ []) ∷
@@ -292,7 +292,7 @@ cut_reads pieces = map (λ piece. reads 0 piece) pieces
 
 abbrev pub cut_output : List (List ℕ) → Ran
 cut_output pieces =
-    let s : ℕ = 14 in let p : ℕ = 15 in let m : ℕ = 16 in
+    let s : ℕ = 17 in let p : ℕ = 18 in let m : ℕ = 19 in
     (row (script (codes "s" ∷ codes "p" ∷ codes "m" ∷ []) (handler s (p ∷ m ∷ []) [] ∷ []) (
     set p Prim.StartProcess (string (codes "sorted") ∷ string (codes "out") ∷ string (codes "sort") ∷ []) ∷
     call Prim.SetProcessSentinel (Name p ∷ symbol s ∷ []) ∷
@@ -340,7 +340,7 @@ AreWhole (pieces ∷ cuttings) = IsWhole pieces × AreWhole cuttings
 --     (setq p (start-process "c" nil "cat"))(set-process-filter p 'f)(accept-process-output p)(goto-char s)
 abbrev pub scope_ends_with_its_handler : Row
 scope_ends_with_its_handler =
-    let f : ℕ = 14 in let p : ℕ = 15 in let s : ℕ = 16 in
+    let f : ℕ = 17 in let p : ℕ = 18 in let s : ℕ = 19 in
     row (script (codes "f" ∷ codes "p" ∷ codes "s" ∷ []) (handler f (p ∷ s ∷ []) [] ∷ []) (
     set p Prim.StartProcess (string (codes "c") ∷ nil ∷ string (codes "cat") ∷ []) ∷
     call Prim.SetProcessFilter (Name p ∷ symbol f ∷ []) ∷
@@ -366,7 +366,7 @@ scope_ends_with_its_handler =
 --     (delete-process p)(process-status p)(process-live-p p)(process-list)(get-process "c")
 abbrev pub questions_to_processes : Row
 questions_to_processes =
-    let p : ℕ = 14 in let q : ℕ = 15 in
+    let p : ℕ = 17 in let q : ℕ = 18 in
     row (script (codes "p" ∷ codes "q" ∷ []) [] (
     set p Prim.StartProcess (string (codes "c") ∷ string (codes "out") ∷ string (codes "cat") ∷ []) ∷
     set q Prim.StartProcess (string (codes "c") ∷ nil ∷ string (codes "cat") ∷ []) ∷

@@ -9,7 +9,7 @@ use Rattle.worked_rows.specs.Row.{Row, row, script, call, number, string, symbol
 --     (goto-char 2)(insert-and-inherit "x")
 abbrev pub stickiness : Row
 stickiness =
-    let face : ℕ = 14 in let bold : ℕ = 15 in let italic : ℕ = 16 in
+    let face : ℕ = 17 in let bold : ℕ = 18 in let italic : ℕ = 19 in
     row (script (codes "face" ∷ codes "bold" ∷ codes "italic" ∷ []) [] (
     call Prim.Insert (quoted (Str (with_set ((rear_nonsticky, Symbols (face ∷ [])) ∷ (face, Symbol bold) ∷ []) (codes "a") ++ with_set ((front_sticky, Truth) ∷ (face, Symbol italic) ∷ []) (codes "b"))) ∷ []) ∷
     call Prim.GotoChar (number 2 ∷ []) ∷
@@ -28,7 +28,7 @@ stickiness =
 --     (add-text-properties 2 4 '(face bold))(text-property-not-all 1 5 'face 'bold)
 abbrev pub property_changes : Row
 property_changes =
-    let face : ℕ = 14 in let bold : ℕ = 15 in
+    let face : ℕ = 17 in let bold : ℕ = 18 in
     row (script (codes "face" ∷ codes "bold" ∷ []) [] (
     call Prim.Insert (quoted (Str (plain (codes "a") ++ (with_set ((face, Symbol bold) ∷ []) (codes "bc") ++ plain (codes "d")))) ∷ []) ∷
     call Prim.NextPropertyChange (number 1 ∷ []) ∷
@@ -53,7 +53,7 @@ property_changes =
 --     (insert #("ab" 0 1 (face bold)))(goto-char 2)(insert-and-inherit "x")(goto-char 1)(insert-and-inherit "y")
 abbrev pub inherited_from_the_front : Row
 inherited_from_the_front =
-    let face : ℕ = 14 in let bold : ℕ = 15 in
+    let face : ℕ = 17 in let bold : ℕ = 18 in
     row (script (codes "face" ∷ codes "bold" ∷ []) [] (
     call Prim.Insert (quoted (Str (with_set ((face, Symbol bold) ∷ []) (codes "a") ++ with_set [] (codes "b"))) ∷ []) ∷
     call Prim.GotoChar (number 2 ∷ []) ∷

@@ -15,7 +15,7 @@ abbrev pub forms : List Form → Forms
 forms [] = NoForms
 forms (f ∷ fs) = Then f (forms fs)
 
--- the names of a script beside the first symbols, which get the numbers from 14 on; its handlers; its forms
+-- the names of a script beside the first symbols, which get the numbers from 17 on; its handlers; its forms
 abbrev pub script : List (List ℕ) → List HandlerDef → List Form → Script
 script names handlers fs = record { symbols = first_symbols ++ names; handlers = handlers; forms = forms fs }
 
@@ -74,6 +74,9 @@ before_change_functions = 4
 
 abbrev pub after_change_functions : ℕ
 after_change_functions = 5
+
+abbrev pub read_only : ℕ
+read_only = 10
 
 -- EXCHANGES
 abbrev pub spawned : (program : List ℕ) → (args : List (List ℕ)) → (child : ℕ) → Exchange
@@ -148,6 +151,6 @@ row script exchanges expected = row_at 16 script exchanges expected
 abbrev pub shipped_row : Script → List Exchange → List (List ℕ) → Row
 shipped_row script exchanges expected = row_of shipped_names shipped 16 script exchanges expected
 
--- with one native, whose name gets the number 14, and without children
+-- with one native, whose name gets the number 17, and without children
 abbrev pub native_row : (name : List ℕ) → (List Reply → Option (Prim × List Value)) → List Form → List (List ℕ) → Row
 native_row name does fs expected = row_of (name ∷ []) (λ i args past. does past) 16 (script [] [] fs) [] expected

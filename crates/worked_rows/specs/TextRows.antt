@@ -59,7 +59,7 @@ empty_insertion =
 --     (insert "abcd")(setq m (copy-marker 2))(setq n (copy-marker 2 t))(goto-char 2)(insert "xy")
 abbrev pub markers_at_a_tie : Row
 markers_at_a_tie =
-    let m : ℕ = 14 in let n : ℕ = 15 in
+    let m : ℕ = 17 in let n : ℕ = 18 in
     row (script (codes "m" ∷ codes "n" ∷ []) [] (
     call Prim.Insert (string (codes "abcd") ∷ []) ∷
     set m Prim.CopyMarker (number 2 ∷ []) ∷
@@ -146,7 +146,7 @@ kept_point_of_an_excursion =
 --     (setq a (point-max))(when-eq a 1 (insert "y"))(when-eq a 2 (insert "z"))
 abbrev pub buffer_put_back_and_forms_chosen : Row
 buffer_put_back_and_forms_chosen =
-    let a : ℕ = 14 in
+    let a : ℕ = 17 in
     row (script (codes "a" ∷ []) [] (
     call Prim.GetBufferCreate (string (codes "w") ∷ []) ∷
     In SaveCurrentBuffer (forms (call Prim.SetBuffer (string (codes "w") ∷ []) ∷ call Prim.Insert (string (codes "x") ∷ []) ∷ [])) ∷

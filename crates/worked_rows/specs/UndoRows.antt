@@ -9,7 +9,7 @@ use Rattle.worked_rows.specs.Row.{Row, row, script, call, set, number, string, s
 --     (undo-start)(undo-more 2)(buffer-string)(undo-boundary)(undo-start)(undo-more 2)(buffer-string)
 abbrev pub undo_in_groups : Row
 undo_in_groups =
-    let face : ℕ = 14 in let bold : ℕ = 15 in
+    let face : ℕ = 17 in let bold : ℕ = 18 in
     row (script (codes "face" ∷ codes "bold" ∷ []) [] (
     call Prim.Insert (string (codes "abcd") ∷ []) ∷
     call Prim.UndoBoundary [] ∷
@@ -64,7 +64,7 @@ undo_outside =
 --     (insert "abcd")(setq m (copy-marker 3))(undo-boundary)(delete-region 2 4)(buffer-undo-list)
 abbrev pub undo_list_as_printed : Row
 undo_list_as_printed =
-    let m : ℕ = 14 in
+    let m : ℕ = 17 in
     row (script (codes "m" ∷ []) [] (
     call Prim.Insert (string (codes "abcd") ∷ []) ∷
     set m Prim.CopyMarker (number 3 ∷ []) ∷
@@ -110,7 +110,7 @@ recording_switched_off =
 --     (insert #("ab" 0 2 (face bold)))(undo-boundary)(delete-region 1 2)(undo-start)(undo-more 1)(buffer-string)
 abbrev pub deletion_undone_with_properties : Row
 deletion_undone_with_properties =
-    let face : ℕ = 14 in let bold : ℕ = 15 in
+    let face : ℕ = 17 in let bold : ℕ = 18 in
     row (script (codes "face" ∷ codes "bold" ∷ []) [] (
     call Prim.Insert (quoted (Str (with_set ((face, Symbol bold) ∷ []) (codes "ab"))) ∷ []) ∷
     call Prim.UndoBoundary [] ∷
@@ -164,7 +164,7 @@ empty_group_first =
 --     (marker-position m)
 abbrev pub undo_leaves_a_marker_that_has_moved : Row
 undo_leaves_a_marker_that_has_moved =
-    let m : ℕ = 14 in
+    let m : ℕ = 17 in
     row (script (codes "m" ∷ []) [] (
     call Prim.Insert (string (codes "abcd") ∷ []) ∷
     set m Prim.CopyMarker (number 3 ∷ []) ∷

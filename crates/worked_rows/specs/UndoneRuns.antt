@@ -11,10 +11,10 @@ use Rattle.worked_rows.specs.Row.{script, handler, call, number, string, symbol,
 
 -- the names of these scripts
 abbrev pub face : ℕ
-face = 14
+face = 17
 
 abbrev pub narrowing : ℕ
-narrowing = 15
+narrowing = 18
 
 --     (insert "ab")(undo-boundary)(insert "c")(put-text-property 1 3 'face 'face)(delete-region 1 2)(undo-start)(undo-more 1)
 abbrev pub undoing : List Form

@@ -9,7 +9,7 @@ use Rattle.worked_rows.specs.Row.{indented}
 --     (setq p (start-process "c" nil "cat"))(set-process-filter p 'f)(accept-process-output p)
 abbrev pub filter_that_waits : Row
 filter_that_waits =
-    let f : ℕ = 14 in let p : ℕ = 15 in let s : ℕ = 16 in
+    let f : ℕ = 17 in let p : ℕ = 18 in let s : ℕ = 19 in
     row (script (codes "f" ∷ codes "p" ∷ codes "s" ∷ []) (handler f (p ∷ s ∷ []) (call Prim.AcceptProcessOutput (Name p ∷ []) ∷ []) ∷ []) (
     set p Prim.StartProcess (string (codes "c") ∷ nil ∷ string (codes "cat") ∷ []) ∷
     call Prim.SetProcessFilter (Name p ∷ symbol f ∷ []) ∷
@@ -38,8 +38,8 @@ filter_that_waits =
 --     (set-process-filter p 'f)(accept-process-output z 1)
 abbrev pub filter_deletes_another_process : Row
 filter_deletes_another_process =
-    let f : ℕ = 14 in let p : ℕ = 15 in let s : ℕ = 16 in let q : ℕ = 17 in
-    let z : ℕ = 18 in
+    let f : ℕ = 17 in let p : ℕ = 18 in let s : ℕ = 19 in let q : ℕ = 20 in
+    let z : ℕ = 21 in
     row (script (codes "f" ∷ codes "p" ∷ codes "s" ∷ codes "q" ∷ codes "z" ∷ []) (handler f (p ∷ s ∷ []) (call Prim.DeleteProcess (Name q ∷ []) ∷ []) ∷ []) (
     set p Prim.StartProcess (string (codes "p") ∷ nil ∷ string (codes "a") ∷ []) ∷
     set q Prim.StartProcess (string (codes "q") ∷ nil ∷ string (codes "b") ∷ []) ∷
@@ -75,8 +75,8 @@ filter_deletes_another_process =
 --     (set-process-filter p 'f)(accept-process-output z 1)
 abbrev pub deletion_refused_at_bound_one : Row
 deletion_refused_at_bound_one =
-    let f : ℕ = 14 in let p : ℕ = 15 in let s : ℕ = 16 in let q : ℕ = 17 in
-    let z : ℕ = 18 in
+    let f : ℕ = 17 in let p : ℕ = 18 in let s : ℕ = 19 in let q : ℕ = 20 in
+    let z : ℕ = 21 in
     row_at 1 (script (codes "f" ∷ codes "p" ∷ codes "s" ∷ codes "q" ∷ codes "z" ∷ []) (handler f (p ∷ s ∷ []) (call Prim.DeleteProcess (Name q ∷ []) ∷ []) ∷ []) (
     set p Prim.StartProcess (string (codes "p") ∷ nil ∷ string (codes "a") ∷ []) ∷
     set q Prim.StartProcess (string (codes "q") ∷ nil ∷ string (codes "b") ∷ []) ∷
@@ -109,7 +109,7 @@ deletion_refused_at_bound_one =
 --     (setq p (start-process "p" nil "a"))(setq q (start-process "q" nil "b"))(accept-process-output p 3 t)(accept-process-output p 2)
 abbrev pub rounds_and_just_this_one : Row
 rounds_and_just_this_one =
-    let p : ℕ = 14 in let q : ℕ = 15 in
+    let p : ℕ = 17 in let q : ℕ = 18 in
     row (script (codes "p" ∷ codes "q" ∷ []) [] (
     set p Prim.StartProcess (string (codes "p") ∷ nil ∷ string (codes "a") ∷ []) ∷
     set q Prim.StartProcess (string (codes "q") ∷ nil ∷ string (codes "b") ∷ []) ∷
@@ -141,7 +141,7 @@ nested (suc filters) depth =
 
 abbrev pub nesting_bound : Row
 nesting_bound =
-    let f : ℕ = 14 in let p : ℕ = 15 in let s : ℕ = 16 in
+    let f : ℕ = 17 in let p : ℕ = 18 in let s : ℕ = 19 in
     row (script (codes "f" ∷ codes "p" ∷ codes "s" ∷ []) (handler f (p ∷ s ∷ []) (call Prim.AcceptProcessOutput (Name p ∷ []) ∷ []) ∷ []) (
     set p Prim.StartProcess (string (codes "c") ∷ nil ∷ string (codes "cat") ∷ []) ∷
     call Prim.SetProcessFilter (Name p ∷ symbol f ∷ []) ∷
@@ -162,7 +162,7 @@ nesting_bound =
 --     (set-process-filter p 'f)(set-process-filter q 'f)(accept-process-output q 2)
 abbrev pub target_asked_first : Row
 target_asked_first =
-    let f : ℕ = 14 in let p : ℕ = 15 in let s : ℕ = 16 in let q : ℕ = 17 in
+    let f : ℕ = 17 in let p : ℕ = 18 in let s : ℕ = 19 in let q : ℕ = 20 in
     row (script (codes "f" ∷ codes "p" ∷ codes "s" ∷ codes "q" ∷ []) (handler f (p ∷ s ∷ []) [] ∷ []) (
     set p Prim.StartProcess (string (codes "p") ∷ nil ∷ string (codes "a") ∷ []) ∷
     set q Prim.StartProcess (string (codes "q") ∷ nil ∷ string (codes "b") ∷ []) ∷

@@ -81,7 +81,7 @@ const LIST: Place = &[7, 0];
 
 const VALUE: Place = &[3, 0, 1, 2, 4, 5, 7];
 
-const CALLS: [(Prim, &[Place]); 55] = [
+const CALLS: [(Prim, &[Place]); 57] = [
     (SetBuffer, &[BUFFER]),
     (GetBuffer, &[BUFFER]),
     (GetBufferCreate, &[OBJECT_OR_NEW_NAME]),
@@ -91,6 +91,8 @@ const CALLS: [(Prim, &[Place]); 55] = [
     (BufferName, &[OBJECT_OR_NIL]),
     (BufferModifiedP, &[BUFFER_OR_NIL]),
     (SetBufferModifiedP, &[ANY]),
+    (BufferReadOnlyP, &[BUFFER_OR_NIL]),
+    (SetBufferReadOnly, &[ANY]),
     (BufferSize, &[BUFFER_OR_NIL]),
     (GotoChar, &[POSITION]),
     (CharAfter, &[POSITION_OR_NIL]),

@@ -3,7 +3,7 @@
 use super::playing::{Call, check_calls, is_said, make};
 use super::shown::shown;
 use super::words::Word::*;
-use super::words::{Word, arguments, chars};
+use super::words::{READ_ONLY, Word, arguments, chars};
 use buffer_table::Editor;
 use editor_prims::{prepare, prepare_output};
 use ek_call::Prim;
@@ -19,7 +19,7 @@ struct Output {
     behind: &'static [Call],
 }
 
-const OUTPUTS: [Output; 6] = [
+const OUTPUTS: [Output; 8] = [
     Output {
         shows: "all markers at the mark move, and so does point",
         before: &[
@@ -107,6 +107,23 @@ const OUTPUTS: [Output; 6] = [
         ],
         behind: &[(BufferString, &[], "\"xyc\""), (PointMin, &[], "3")],
     },
+    Output {
+        shows: "a read-only buffer takes it",
+        before: &[
+            (PointMarker, &[], "#<marker at 1 in *scratch*>"),
+            (SetBufferReadOnly, &[T], "t"),
+        ],
+        behind: &[(BufferString, &[], "\"xy\"")],
+    },
+    Output {
+        shows: "read-only text in front of the mark refuses it",
+        before: &[
+            (Insert, &[Str("ab")], "nil"),
+            (PointMarker, &[], "#<marker at 3 in *scratch*>"),
+            (PutTextProperty, &[Int(2), Int(3), READ_ONLY, T], "nil"),
+        ],
+        behind: &[(BufferSize, &[], "2")],
+    },
 ];
 
 /// The two letters are put in at the mark.
@@ -142,7 +159,7 @@ struct Late {
     behind: &'static [Call],
 }
 
-const LATE: [Late; 5] = [
+const LATE: [Late; 6] = [
     Late {
         shows: "the buffer was killed",
         before: &[
@@ -189,6 +206,17 @@ const LATE: [Late; 5] = [
         meanwhile: &[(NarrowToRegion, &[Int(1), Int(2)], "nil")],
         reply: "! undo-outside",
         behind: &[(BufferSize, &[], "2")],
+    },
+    Late {
+        shows: "the buffer and its text were made read-only",
+        before: &[(Insert, &[Str("ab")], "nil")],
+        call: (DeleteRegion, &[Int(1), Int(2)]),
+        meanwhile: &[
+            (PutTextProperty, &[Int(1), Int(2), READ_ONLY, T], "nil"),
+            (SetBufferReadOnly, &[T], "t"),
+        ],
+        reply: "nil",
+        behind: &[(BufferSize, &[], "1")],
     },
 ];
 

@@ -6,20 +6,22 @@ use std::alloc::Global;
 
 pub const EVAPORATE: Word = Word::Sym(2);
 
-pub const FACE: Word = Word::Sym(14);
+pub const FACE: Word = Word::Sym(17);
 
-pub const BOLD: Word = Word::Sym(15);
+pub const BOLD: Word = Word::Sym(18);
 
-pub const ITALIC: Word = Word::Sym(16);
+pub const ITALIC: Word = Word::Sym(19);
 
 pub const FRONT_STICKY: Word = Word::Sym(0);
 
 pub const PRIORITY: Word = Word::Sym(3);
 
+pub const READ_ONLY: Word = Word::Sym(10);
+
 pub const REAR_NONSTICKY: Word = Word::Sym(1);
 
 /// The names of the symbols by their numbers. The last three are those of these tests.
-pub const NAMES: [&str; 17] = [
+pub const NAMES: [&str; 20] = [
     "front-sticky",
     "rear-nonsticky",
     "evaporate",
@@ -34,6 +36,9 @@ pub const NAMES: [&str; 17] = [
     "invisible",
     "before-string",
     "after-string",
+    "utf-8-unix",
+    "utf-8-dos",
+    "latin-1-unix",
     "face",
     "bold",
     "italic",

@@ -1,8 +1,9 @@
 use Rattle.std.proofs.Common.{true, false, [], ◌∷◌, ◌≡◌, ◌+◌, ◌<◌, map, drop, sym, ap, ◌∙◌, refl, arith, rules, Err, Ok}
 use Rattle.std.specs.Prelude.{Some, None}
 use Rattle.ek_types.specs.Listing.{items_of}
+use Rattle.ek_call.specs.declared.call.Arg.{Arg}
 use Rattle.ek_call.specs.Meaning.{arg_of, call_of, form_of, joined, view}
-use Rattle.editor_model.specs.Values.{Do, Setq, In, WhenEq, SaveExcursion, SaveRestriction, SaveCurrentBuffer, InhibitHooks}
+use Rattle.editor_model.specs.Values.{Do, Setq, In, WhenEq, SaveExcursion, SaveRestriction, SaveCurrentBuffer, InhibitHooks, InhibitReadOnly}
 use Rattle.plain_machine.specs.Items.{DoForm}
 use Rattle.kernel_steps.specs.Blocks.{block_of}
 use Rattle.kernel_steps.specs.Sizes.{form_size, forms_size}
@@ -64,7 +65,7 @@ use Rattle.kernel_steps.specs.Handlers.{code_of}
 use Rattle.kernel_steps.proofs.Works.{work_wants}
 use Rattle.std.proofs.Common.{◌-◌, length, option_map}
 use Rattle.kernel_steps.proofs.+run.Given.{Over}
-use Rattle.kernel_steps.proofs.Shapes.{nil_is, do_is, setq_is, excursion_is, restriction_is, keep_buffer_is, no_hooks_is, when_is}
+use Rattle.kernel_steps.proofs.Shapes.{nil_is, do_is, setq_is, excursion_is, restriction_is, keep_buffer_is, no_hooks_is, read_only_off_is, when_is}
 use Rattle.kernel_steps.proofs.+run.Goals as goal
 
 -- a world of these
@@ -191,9 +192,19 @@ forms::run_form-returns-in-NoHooks g t c = λ start.
     let form : form_of c.args.form.now ≡ In InhibitHooks (joined (map form_of (items_of c.in-NoHooks.forms))) = ap form_of c.in-NoHooks.is ∙ no_hooks_is c.in-NoHooks.forms in
     rw form (c.run_block-in-NoHooks.ensures start)
 
+pub forms::run_form-returns-in-ReadOnlyOff : goal.forms::run_form-returns-in-ReadOnlyOff
+forms::run_form-returns-in-ReadOnlyOff g t c = λ start.
+    let form : form_of c.args.form.now ≡ In InhibitReadOnly (joined (map form_of (items_of c.in-ReadOnlyOff.forms))) = ap form_of c.in-ReadOnlyOff.is ∙ read_only_off_is c.in-ReadOnlyOff.forms in
+    rw form (c.run_block-in-ReadOnlyOff.ensures start)
+
 pub forms::run_form-returns-in-WhenEq : goal.forms::run_form-returns-in-WhenEq
 forms::run_form-returns-in-WhenEq g t c = λ start.
-    let form : form_of c.args.form.now ≡ WhenEq (arg_of c.in-WhenEq.a) (arg_of c.in-WhenEq.b) (joined (map form_of (items_of c.in-WhenEq.forms))) = ap form_of c.in-WhenEq.is ∙ when_is c.in-WhenEq.a c.in-WhenEq.b c.in-WhenEq.forms in
+    let forms = joined (map form_of (items_of c.in-WhenEq.forms)) in
+    let second = c.in-WhenEq.pair.value.1 in
+    let form : form_of c.args.form.now ≡ WhenEq (arg_of c.deref.result.now.0) (arg_of c.deref-in-WhenEq.result.now.1) forms =
+    ap form_of c.in-WhenEq.is ∙ when_is c.in-WhenEq.pair c.in-WhenEq.forms
+    ∙ ap (λ (pair : Arg × Arg). WhenEq (arg_of pair.0) (arg_of second) forms) (sym c.deref.ensures)
+    ∙ ap (λ (pair : Arg × Arg). WhenEq (arg_of c.deref.result.now.0) (arg_of pair.1) forms) (sym c.deref-in-WhenEq.ensures) in
     rw form (c.run_when.ensures start)
 
 pub forms::run_block-returns-in_err-kept : goal.forms::run_block-returns-in_err-kept

@@ -98,6 +98,8 @@ fn furnish_second(rt: &impl Abort, alloc: Global, editor: &mut Editor) {
     editor.narrow(id, 1, 2);
     assert!(rt; editor.is_live(id));
     editor.set_current(id);
+    assert!(rt; editor.is_live(id));
+    editor.set_read_only(id, true);
 }
 
 /// A killed buffer that had a marker of each type and an overlay.
@@ -150,7 +152,7 @@ fn a_dump_of_all_there_is(rt: HostRuntime) {
         sink.bytes(),
         br#"buffer *scratch* point 3 min 1 max 3 modified nil
 text "ab"
-buffer v\"\\\n point 3 min 2 max 3 modified t current
+buffer v\"\\\n point 3 min 2 max 3 modified t read-only current
 text #("abc" 0 1 (front-sticky (evaporate priority)) 1 2 (run "x\"\200") 2 3 (priority -5 exit signal))
 marker 0 #<marker at 2 in *scratch*>
 marker 1 #<marker (moves after insertion) at 2 in *scratch*>

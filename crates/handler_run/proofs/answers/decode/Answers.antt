@@ -1,9 +1,10 @@
 use Rattle.std.proofs.Common.{◌<◌, ◌++◌, true, ap, sym, subst, ◌∙◌, arith}
 use Rattle.std.proofs.lemmas.List.Elements.{All-from_get_or}
-use Rattle.text_model.specs.Decoding.{all_characters, characters}
-use Rattle.plain_machine.specs.State.{change_process}
+use Rattle.text_model.specs.Codings.{all_decoded, decoded}
+use Rattle.std.specs.Prelude.{Some}
+use Rattle.plain_machine.specs.State.{change_process, read_so_far}
 use Rattle.plain_machine.specs.Waits.{asked_more}
-use Rattle.process_table.specs.Table.{StandsFor, held_by}
+use Rattle.process_table.specs.Table.{StandsFor, coding_by, held_by}
 use Rattle.handler_run.proofs.Taking.{took_bytes, took_end, took_nothing}
 use Rattle.handler_run.proofs.answers.decode.Goals as goal
 
@@ -14,9 +15,9 @@ returns-in-Bytes-clause-machine c = λ empty s x stands found undrained.
     let now = asked_more s in
     took_bytes s p x c.feed.new.self c.feed.new.out.items c.args.got.now c.in-Bytes.field-0 bytes c.in-Bytes.is c.requires.read
     (All-from_get_or (λ b. b < 256) bytes 0 (λ i h. omega (arith, c.type_inv.bytes i)))
-    (subst (λ t. StandsFor t (change_process p (λ y. record y { bytes = x.bytes ++ bytes }) now).processes) (sym c.feed.ensures.table) (c.output_stands.ensures.fed c.args.table.now now p x bytes stands found undrained))
+    (subst (λ t. StandsFor t (change_process p (λ y. record y { bytes = Some (read_so_far x ++ bytes) }) now).processes) (sym c.feed.ensures.table) (c.output_stands.ensures.fed c.args.table.now now p x bytes stands found undrained))
     (c.feed.ensures.items
-    ∙ ap (λ l. l ++ characters (held_by c.args.table.now p ++ bytes)) empty
+    ∙ ap (λ l. l ++ decoded (coding_by c.args.table.now p) (held_by c.args.table.now p ++ bytes)) empty
     ∙ c.output_stands.ensures.fed_text c.args.table.now now p x bytes stands found undrained)
 
 pub returns-in-Nothing-clause-machine : goal.returns-in-Nothing-clause-machine
@@ -30,5 +31,5 @@ returns-in-End-clause-machine c = λ empty s x stands found undrained.
     took_end s p x c.drain.new.self c.drain.new.out.items c.args.got.now c.args.bytes.now c.in-End.is
     (subst (λ t. StandsFor t (change_process p (λ y. record y { drained = true }) now).processes) (sym c.drain.ensures.table) (c.output_stands.ensures.drained c.args.table.now now p stands))
     (c.drain.ensures.items
-    ∙ ap (λ l. l ++ all_characters (held_by c.args.table.now p)) empty
+    ∙ ap (λ l. l ++ all_decoded (coding_by c.args.table.now p) (held_by c.args.table.now p)) empty
     ∙ c.output_stands.ensures.drained_text c.args.table.now now p x stands found undrained)

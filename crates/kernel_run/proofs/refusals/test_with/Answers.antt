@@ -1,5 +1,5 @@
 use Rattle.std.proofs.Common.{[], ◌∷◌, map, sym, ap, ◌∙◌}
-use Rattle.editor_model.specs.Values.{Value, RemoveHook, KillBuffer, SetProcessBuffer, ProcessSendString, ProcessSendEof, DeleteProcess, AcceptProcessOutput}
+use Rattle.editor_model.specs.Values.{Value, RemoveHook, KillBuffer, SetProcessBuffer, ProcessSendString, ProcessSendEof, DeleteProcess, AcceptProcessOutput, SetProcessCodingSystem}
 use Rattle.editor_model.specs.Arguments.{arg}
 use Rattle.plain_machine.specs.State.{Program}
 use Rattle.ek_types.specs.Listing.{items_of}
@@ -84,3 +84,13 @@ returns-in-AcceptProcessOutput g c =
     ∙ ap (λ (a : Value). refusal_of program s AcceptProcessOutput (a ∷ view c.args.b.now ∷ [])) c.requires.first
     ∙ ap (λ (b : Value). refusal_of program s AcceptProcessOutput (arg xs 0 ∷ b ∷ [])) c.requires.second
     ∙ ap (λ (p : Primitive). refusal_of program s (prim_of p) xs) (sym c.in-AcceptProcessOutput.is)
+
+pub returns-in-SetProcessCodingSystem : goal.returns-in-SetProcessCodingSystem
+returns-in-SetProcessCodingSystem g c =
+    let program : Program = g.P.Program.meant c.args.program.now in
+    let s = state_of c.args.kernel.now in
+    let xs = map view (items_of c.args.args.now) in
+    c.test_set_coding.ensures program
+    ∙ ap (λ (a : Value). refusal_of program s SetProcessCodingSystem (a ∷ view c.args.b.now ∷ [])) c.requires.first
+    ∙ ap (λ (b : Value). refusal_of program s SetProcessCodingSystem (arg xs 0 ∷ b ∷ [])) c.requires.second
+    ∙ ap (λ (p : Primitive). refusal_of program s (prim_of p) xs) (sym c.in-SetProcessCodingSystem.is)

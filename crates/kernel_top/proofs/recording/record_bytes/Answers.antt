@@ -30,22 +30,22 @@ returns-in-Err-NoMemory-clause-outcome g c = record {
 
 pub returns-in_default-clause-outcome : goal.returns-in_default-clause-outcome
 returns-in_default-clause-outcome g c =
-    let (exchanges, calls, why) = c.in_default.ensures in
+    let (exchanges, calls, why, none) = c.in_default.ensures in
     record {
       written = [];
       exchanges = exchanges;
       put = Appends-nil _;
       calls = calls;
       so = λ source source' ended.
-          broke_off (λ script. program_with g.N.Natives.names g.N.Natives.does script c.args.natives.now) (script_of c.in-Ok.script) g.H.Host.state g.H.Host.made c.args.host.now c.run_unseen-ran.new.host c.args.bytes.now exchanges
+          broke_off (λ script. program_with g.N.Natives.names g.N.Natives.does script c.args.natives.now) (script_of c.in-Ok.script) g.H.Host.state g.H.Host.made c.args.host.now c.run_lined-ran.new.host c.args.bytes.now exchanges
           source source' (g.K.Sink.state c.args.sink.now) ended c.in-Ok.ensures.script calls why;
     }
 
 pub returns-clause-outcome : goal.returns-clause-outcome
 returns-clause-outcome g c =
-    let (exchanges, calls, whole) = c.in-Ok-ran.ensures in
+    let (exchanges, calls, whole, lines) = c.in-Ok-ran.ensures in
     let (written, put, row) = c.write_session.ensures.written in
-    let list = told_all g.H.Host.state g.H.Host.made c.args.host.now c.run_unseen-ran.new.host exchanges _ calls c.requires.told c.in-Some.ensures in
+    let list = told_all g.H.Host.state g.H.Host.made c.args.host.now c.run_lined-ran.new.host exchanges _ calls c.requires.told c.in-Some.ensures in
     record {
       written = written;
       exchanges = exchanges;
@@ -53,13 +53,13 @@ returns-clause-outcome g c =
       calls = calls;
       so = λ source source' ended.
           recorded (λ script. program_with g.N.Natives.names g.N.Natives.does script c.args.natives.now) (script_of c.in-Ok.script) c.args.bytes.now written exchanges
-          (seen source (g.K.Sink.state c.args.sink.now) (g.H.Host.state c.args.host.now)) (seen source' (g.K.Sink.state c.write_session.new.sink) (g.H.Host.state c.run_unseen-ran.new.host)) c.write_session.result ended c.in-Ok.ensures.script whole (rw list at row);
+          (seen source (g.K.Sink.state c.args.sink.now) (g.H.Host.state c.args.host.now)) (seen source' (g.K.Sink.state c.write_session.new.sink) (g.H.Host.state c.run_lined-ran.new.host)) c.write_session.result ended c.in-Ok.ensures.script whole lines (rw list at row);
     }
 
 pub unreachable-requires : goal.unreachable-requires
 unreachable-requires g c =
-    let (exchanges, calls, whole) = c.in-Ok-ran.ensures in
-    tells_still g.H.Host.state g.H.Host.made c.args.host.now c.run_unseen-ran.new.host exchanges calls c.requires.told c.in-None.ensures
+    let (exchanges, calls, whole, lines) = c.in-Ok-ran.ensures in
+    tells_still g.H.Host.state g.H.Host.made c.args.host.now c.run_lined-ran.new.host exchanges calls c.requires.told c.in-None.ensures
 
 pub returns-clause-no_read : goal.returns-clause-no_read
 returns-clause-no_read g c =

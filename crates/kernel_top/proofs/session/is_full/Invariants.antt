@@ -1,6 +1,6 @@
 use Rattle.std.proofs.Common.{◌≡◌, drop}
 use Rattle.std.specs.List.{list_any}
-use Rattle.kernel_top.specs.Gathering.{is_stopped}
+use Rattle.session_laws.specs.Sessions.{is_stopped}
 use Rattle.kernel_top.proofs.session.is_full.Given as goal
 
 abbrev pub invariant-loop-p : goal.invariant-loop-p

@@ -1,24 +1,24 @@
-use Rattle.std.proofs.Common.{[], refl, inl, ap, ◌∙◌}
+use Rattle.std.proofs.Common.{[], refl, ap, ◌∙◌}
 use Rattle.std.proofs.KnownBytes.{Appends-nil}
 use Rattle.ek_call.specs.Meaning.{script_of}
 use Rattle.line_session.specs.Replies.{values_of}
 use Rattle.kernel_top.specs.SessionWords.{Wanted}
 use Rattle.kernel_top.specs.Gathering.{command_wanted}
 use Rattle.kernel_top.proofs.Outcomes.{quiet}
-use Rattle.kernel_top.proofs.Gathering.{came_wanted}
+use Rattle.kernel_top.proofs.Gathering.{came_wanted, nothing_asked}
 use Rattle.kernel_top.proofs.session.run_session.Goals as goal
 
 pub returns-in_default-clause-outcome : goal.returns-in_default-clause-outcome
-returns-in_default-clause-outcome g c = record { written = []; exchanges = []; put = Appends-nil _; calls = refl; so = λ source source'. inl (quiet source source' _ _) }
+returns-in_default-clause-outcome g c = record { written = []; exchanges = []; put = Appends-nil _; calls = refl; so = λ source source'. nothing_asked _ _ _ (quiet source source' _ _) }
 
 pub returns-in_default-script-clause-outcome : goal.returns-in_default-script-clause-outcome
-returns-in_default-script-clause-outcome g c = record { written = []; exchanges = []; put = Appends-nil _; calls = refl; so = λ source source'. inl (quiet source source' _ _) }
+returns-in_default-script-clause-outcome g c = record { written = []; exchanges = []; put = Appends-nil _; calls = refl; so = λ source source'. nothing_asked _ _ _ (quiet source source' _ _) }
 
 pub returns-in_default-buffer_name-clause-outcome : goal.returns-in_default-buffer_name-clause-outcome
-returns-in_default-buffer_name-clause-outcome g c = record { written = []; exchanges = []; put = Appends-nil _; calls = refl; so = λ source source'. inl (quiet source source' _ _) }
+returns-in_default-buffer_name-clause-outcome g c = record { written = []; exchanges = []; put = Appends-nil _; calls = refl; so = λ source source'. nothing_asked _ _ _ (quiet source source' _ _) }
 
 pub returns-in_default-new-clause-outcome : goal.returns-in_default-new-clause-outcome
-returns-in_default-new-clause-outcome g c = record { written = []; exchanges = []; put = Appends-nil _; calls = refl; so = λ source source'. inl (quiet source source' _ _) }
+returns-in_default-new-clause-outcome g c = record { written = []; exchanges = []; put = Appends-nil _; calls = refl; so = λ source source'. nothing_asked _ _ _ (quiet source source' _ _) }
 
 pub returns-clause-outcome : goal.returns-clause-outcome
 returns-clause-outcome g c =

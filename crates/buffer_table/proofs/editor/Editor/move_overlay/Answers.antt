@@ -18,7 +18,7 @@ use Rattle.buffer_table.proofs.editor.Editor.move_overlay.Goals as goal
 
 pub invariant_of-self : goal.invariant_of-self
 invariant_of-self c =
-    let kept : Kept = record { buffers = c.self.inside.buffers.items; current = c.self.inside.current; marks = c.self.inside.marks; registers = c.self.inside.registers.items; pool = c.self.inside.pool } in
+    let kept : Kept = record { buffers = c.self.inside.buffers.items; current = c.self.inside.current; marks = c.self.inside.marks; registers = c.self.inside.registers.items; pool = c.self.inside.pool; lifted = c.self.inside.lifted } in
     let old : Marks = record { markers = c.marks.inside.markers; overlays = c.marks.inside.overlays; saved = c.marks.inside.saved } in
     let new : Marks = record { markers = c.marks.inside.markers; overlays = c.shift.new.self; saved = c.marks.inside.saved } in
     let place : IsPlace (editor_of kept) c.args.id c.args.to = subst (λ (k : Kept). IsPlace (editor_of k) c.args.id c.args.to) (sym c.self.view_is) c.requires.place in

@@ -22,7 +22,7 @@ returns-then-is_some-clause-first c =
 
 pub returns-then-is_some-clause-live : goal.returns-then-is_some-clause-live
 returns-then-is_some-clause-live c =
-    let kept : Kept = record { buffers = c.self.inside.buffers.items; current = c.self.inside.current; marks = c.self.inside.marks; registers = c.self.inside.registers.items; pool = c.self.inside.pool } in
+    let kept : Kept = record { buffers = c.self.inside.buffers.items; current = c.self.inside.current; marks = c.self.inside.marks; registers = c.self.inside.registers.items; pool = c.self.inside.pool; lifted = c.self.inside.lifted } in
     let within : c.loop-other.other < length c.self.inside.buffers.items = omega (arith, c.loop-other-test.true, c.len-other-end.ensures, c.self.inside.buffers.ok.0) in
     subst (λ (k : Kept). shown.is_live (editor_of k) c.loop-other.other ≡ true) c.self.view_is
     (live_out kept c.loop-other.other (some_here c.self.inside.buffers.items c.loop-other.other c.index.result.now within c.index.ensures (sym c.is_some.ensures ∙ c.if-is_some.true)))

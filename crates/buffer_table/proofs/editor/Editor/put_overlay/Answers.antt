@@ -18,7 +18,7 @@ use Rattle.buffer_table.proofs.editor.Editor.put_overlay.Goals as goal
 
 pub invariant_of-self : goal.invariant_of-self
 invariant_of-self c =
-    let kept : Kept = record { buffers = c.self.inside.buffers.items; current = c.self.inside.current; marks = c.self.inside.marks; registers = c.self.inside.registers.items; pool = c.self.inside.pool } in
+    let kept : Kept = record { buffers = c.self.inside.buffers.items; current = c.self.inside.current; marks = c.self.inside.marks; registers = c.self.inside.registers.items; pool = c.self.inside.pool; lifted = c.self.inside.lifted } in
     let old : Marks = record { markers = c.marks.inside.markers; overlays = c.marks.inside.overlays; saved = c.marks.inside.saved } in
     let new : Marks = record { markers = c.marks.inside.markers; overlays = c.put.new.self; saved = c.marks.inside.saved } in
     let given : Overlay = record (overlay_at c.marks.inside.overlays c.args.k) { props = put (overlay_at c.marks.inside.overlays c.args.k).props (number_of c.args.name) (given_of (option_map (λ p. prop_of p.now) c.args.v)) } in

@@ -18,7 +18,7 @@ use Rattle.buffer_table.proofs.editor.Editor.set_marker_kind.Goals as goal
 
 pub invariant_of-self : goal.invariant_of-self
 invariant_of-self c =
-    let kept : Kept = record { buffers = c.self.inside.buffers.items; current = c.self.inside.current; marks = c.self.inside.marks; registers = c.self.inside.registers.items; pool = c.self.inside.pool } in
+    let kept : Kept = record { buffers = c.self.inside.buffers.items; current = c.self.inside.current; marks = c.self.inside.marks; registers = c.self.inside.registers.items; pool = c.self.inside.pool; lifted = c.self.inside.lifted } in
     let old : Marks = record { markers = c.marks.inside.markers; overlays = c.marks.inside.overlays; saved = c.marks.inside.saved } in
     let new : Marks = record { markers = c.set_kind.new.self; overlays = c.marks.inside.overlays; saved = c.marks.inside.saved } in
     let among : ℕ → Bool = is_live c.self.inside.buffers.items in

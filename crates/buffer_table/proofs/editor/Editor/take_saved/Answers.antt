@@ -18,7 +18,7 @@ use Rattle.buffer_table.proofs.editor.Editor.take_saved.Goals as goal
 
 pub invariant_of-self : goal.invariant_of-self
 invariant_of-self c =
-    let kept : Kept = record { buffers = c.self.inside.buffers.items; current = c.self.inside.current; marks = c.self.inside.marks; registers = c.self.inside.registers.items; pool = c.self.inside.pool } in
+    let kept : Kept = record { buffers = c.self.inside.buffers.items; current = c.self.inside.current; marks = c.self.inside.marks; registers = c.self.inside.registers.items; pool = c.self.inside.pool; lifted = c.self.inside.lifted } in
     let old : Marks = record { markers = c.marks.inside.markers; overlays = c.marks.inside.overlays; saved = c.marks.inside.saved } in
     let new : Marks = record { markers = c.marks.inside.markers; overlays = c.marks.inside.overlays; saved = c.pop.new.self } in
     let among : ℕ → Bool = is_live c.self.inside.buffers.items in
@@ -30,7 +30,7 @@ invariant_of-self c =
 
 pub returns-clause-newest : goal.returns-clause-newest
 returns-clause-newest c =
-    let kept : Kept = record { buffers = c.self.inside.buffers.items; current = c.self.inside.current; marks = c.self.inside.marks; registers = c.self.inside.registers.items; pool = c.self.inside.pool } in
+    let kept : Kept = record { buffers = c.self.inside.buffers.items; current = c.self.inside.current; marks = c.self.inside.marks; registers = c.self.inside.registers.items; pool = c.self.inside.pool; lifted = c.self.inside.lifted } in
     IfSome_then c.pop.result c.pop.ensures.newest
     (λ s e. sym (ap editor_of c.self.view_is) ∙ ap (λ (m : Marks). let x : Editor = record (editor_of kept) { marks = m } in x) (sym c.marks.view_is)
     ∙ ap (λ (ss : List Saved). let x : Editor = record (editor_of kept) { marks = record { markers = c.marks.inside.markers; overlays = c.marks.inside.overlays; saved = ss } } in x) e)

@@ -11,10 +11,10 @@ at-requires-clause-lies c = subst (LiesIn c.self.inside.pool.now) (sym c.text.en
 
 pub at-requires-clause-range : goal.at-requires-clause-range
 at-requires-clause-range c =
-    let n : Named = record { name = c.self.inside.name.now.items; buffer = c.self.inside.buffer.now } in
+    let n : Named = record { name = c.self.inside.name.now.items; buffer = c.self.inside.buffer.now; read_only = c.self.inside.read_only } in
     omega (arith, c.requires, text_size c.self.inside.pool.now n c.args.self.now c.self.invariant c.self.view_is, ap (λ t. length (characters c.self.inside.pool.now t)) c.text.ensures)
 
 pub returns : goal.returns
 returns c =
-    let n : Named = record { name = c.self.inside.name.now.items; buffer = c.self.inside.buffer.now } in
+    let n : Named = record { name = c.self.inside.name.now.items; buffer = c.self.inside.buffer.now; read_only = c.self.inside.read_only } in
     char_is c.self.inside.pool.now n c.args.self.now c.self.invariant c.self.view_is c.args.i (ch_of c.at.result) (sym (ap (λ t. slice_get (characters c.self.inside.pool.now t) c.args.i) c.text.ensures) ∙ c.at.ensures.item)

@@ -4,4 +4,4 @@ use Rattle.process_table.proofs.processes.Processes.find.Given as goal
 
 -- what is left finds what the whole does
 abbrev pub invariant-loop-p : goal.invariant-loop-p
-invariant-loop-p g l = find_process 0 l.self-inside.list.items (g.N.Letters.letters l.name) ≡ find_process l.p (drop l.p l.self-inside.list.items) (g.N.Letters.letters l.name)
+invariant-loop-p l = find_process 0 l.self-inside.list.items l.name.items ≡ find_process l.p (drop l.p l.self-inside.list.items) l.name.items

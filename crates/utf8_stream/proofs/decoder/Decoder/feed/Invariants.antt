@@ -1,13 +1,14 @@
 use Rattle.std.proofs.Common.{◌≡◌, ◌+◌, ◌≤◌, ◌++◌, length}
-use Rattle.text_model.specs.Decoding.{characters, tail}
+use Rattle.text_model.specs.Codings.{decoded, undecoded}
 use Rattle.utf8_stream.proofs.decoder.Decoder.feed.Given as goal
 
 abbrev pub invariant-loop-self : goal.invariant-loop-self
 invariant-loop-self l = record {
-  items : l.out.items ++ characters (l.self ++ l.rest) ≡ l.initial.out.items ++ characters (l.initial.self ++ l.bytes);
-  spare : l.out.spare + length (characters (l.initial.self ++ l.bytes)) ≡ l.initial.out.spare + length (characters (l.self ++ l.rest));
-  room : length l.self + length l.rest ≤ l.out.spare;
-  tail : tail (l.self ++ l.rest) ≡ tail (l.initial.self ++ l.bytes);
+  coding : l.self.coding ≡ l.initial.self.coding;
+  items : l.out.items ++ decoded l.self.coding (l.self.bytes ++ l.rest) ≡ l.initial.out.items ++ decoded l.initial.self.coding (l.initial.self.bytes ++ l.bytes);
+  spare : l.out.spare + length (decoded l.initial.self.coding (l.initial.self.bytes ++ l.bytes)) ≡ l.initial.out.spare + length (decoded l.self.coding (l.self.bytes ++ l.rest));
+  room : length l.self.bytes + length l.rest ≤ l.out.spare;
+  tail : undecoded l.self.coding (l.self.bytes ++ l.rest) ≡ undecoded l.initial.self.coding (l.initial.self.bytes ++ l.bytes);
 }
 
 abbrev pub decreases-loop-self : goal.decreases-loop-self
