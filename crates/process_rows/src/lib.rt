@@ -10,3 +10,5 @@ mod checking;
 mod decoding;
 #[cfg(test)]
 mod processes;
+#[cfg(test)]
+mod waits;
