@@ -9,6 +9,8 @@ mod checking;
 #[cfg(test)]
 mod decoding;
 #[cfg(test)]
+mod hosts;
+#[cfg(test)]
 mod processes;
 #[cfg(test)]
 mod waits;
