@@ -1,0 +1,5 @@
+//! Tests alone, of hook lists and of natives, by themselves and of line sessions. All values were worked out by hand.
+#![tactic(auto)]
+
+#[cfg(test)]
+mod hooks;
