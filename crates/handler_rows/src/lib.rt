@@ -5,3 +5,5 @@
 mod boxes;
 #[cfg(test)]
 mod hooks;
+#[cfg(test)]
+mod natives;
