@@ -7,3 +7,5 @@ mod boxes;
 mod hooks;
 #[cfg(test)]
 mod natives;
+#[cfg(test)]
+mod sessions;
