@@ -4,4 +4,8 @@
 #[cfg(test)]
 mod checking;
 #[cfg(test)]
+mod journals;
+#[cfg(test)]
+mod replays;
+#[cfg(test)]
 mod views;
