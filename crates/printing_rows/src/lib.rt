@@ -4,7 +4,11 @@
 #[cfg(test)]
 mod checking;
 #[cfg(test)]
+mod dumps;
+#[cfg(test)]
 mod journals;
+#[cfg(test)]
+mod lines;
 #[cfg(test)]
 mod replays;
 #[cfg(test)]
