@@ -135,11 +135,20 @@ fn each_control_character_and_raw_byte(rt: HostRuntime) {
     assert_eq!(rt; sink.bytes(), expected.as_slice());
 }
 
+/// So many letters.
+fn many(alloc: Global, count: usize) -> Mem<Chars> {
+    let mut text = Chars::new(alloc);
+    for _ in 0..count {
+        text.push(Ch::Scalar('a'))?;
+    }
+    Ok(text)
+}
+
 /// The sink fails at its second call alone, and the text is longer than what is written in some calls.
 #[test]
 fn nothing_behind_a_failure(rt: HostRuntime) {
     let alloc = rt.alloc();
-    let text = letters(alloc, &[b'a'; 3000]).expect(&rt, "a text");
+    let text = many(alloc, 3000).expect(&rt, "a text");
     let fails = vec![in alloc; 1].expect(&rt, "a list");
     let mut sink = MemorySink::new(alloc, 4000, 4000, fails).expect(&rt, "a sink");
     let written = tell(&rt, alloc, text, &mut sink);
