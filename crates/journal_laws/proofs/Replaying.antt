@@ -14,7 +14,7 @@ use Rattle.journal_laws.specs.Replaying.{OneSession, OneText, OneReplay}
 
 pub one_session : OneSession
 one_session exchanges journal bytes script h k e =
-    let same = one_reading 0 exchanges journal (codes "script\n" ++ bytes) script h k (script_is_no_line (0 + length (children_started exchanges)) bytes) e in
+    let same = one_reading 0 exchanges journal (codes "script\n" ++ bytes) (codes "script\n" ++ script) h k (script_is_no_line bytes (0 + length (children_started exchanges))) (script_is_no_line script) e in
     record { journals = same.lists; scripts = append_cancel_left (codes "script\n") bytes script same.rests }
 
 pub one_text : (program : Program) (bound : ℕ) (script : Script) → OneText program bound script

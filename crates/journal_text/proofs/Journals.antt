@@ -1,6 +1,8 @@
 -- Lines one behind the other.
 use Rattle.std.proofs.Common.{◌≡◌, ℕ, ◌+◌, ◌-◌, ◌≤◌, List, [], ◌∷◌, ◌++◌, length, drop, Some, None, refl, ap, sym, subst, ◌∙◌, arith, append_assoc, codes}
-use Rattle.std.specs.Prelude.{Option}
+use Rattle.std.specs.Prelude.{Option, Result, Err}
+use Rattle.journal_text.specs.declared.journal.JournalFault.{JournalFault}
+use Rattle.journal_text.specs.declared.journal.JournalFault.TheVariants as fault
 use Rattle.std.proofs.lemmas.List.{length-append, drop_at}
 use Rattle.plain_machine.specs.Exchanges.{Exchange, Answer, Started, children_started, started_by}
 use Rattle.journal_text.specs.Lines.{ask_words, line, journal, session}
@@ -40,8 +42,8 @@ line_found next bytes r h =
     })
 
 -- no line begins as the last one does
-pub script_is_no_line : (next : ℕ) (rest : List ℕ) → line_at next (codes "script\n" ++ rest) ≡ None
-script_is_no_line next rest = refl
+pub script_is_no_line : (rest : List ℕ) (next : ℕ) → line_at next (codes "script\n" ++ rest) ≡ None
+script_is_no_line rest next = refl
 
 -- MANY LINES
 pub answered_from : (next : ℕ) (list : List Exchange) → AreLines next list → AreAnswered next list
@@ -63,33 +65,36 @@ journal_more (y ∷ list) x rest =
     append_assoc (line y) (journal list) (line x ++ rest) ∙ ap (λ l. line y ++ l) (journal_more list x rest) ∙ sym (append_assoc (line y) (journal (list ++ x ∷ [])) rest)
 
 -- ONE READING
--- lines up to bytes that begin with no line, and lines up to the last one
-pub record Same (list other : List Exchange) (rest script : List ℕ) : Type 0 where
+-- lines up to bytes that begin with no line
+pub record Same (list other : List Exchange) (rest tail : List ℕ) : Type 0 where
   pub lists : list ≡ other
-  pub rests : rest ≡ codes "script\n" ++ script
+  pub rests : rest ≡ tail
 
-none_is_some : {A B : Type 0} (o : Option A) (x : A) → o ≡ None → o ≡ Some x → B
+abbrev pub IsNoLine : List ℕ → Type 0
+IsNoLine bytes = (next : ℕ) → line_at next bytes ≡ None
+
+pub none_is_some : {A B : Type 0} (o : Option A) (x : A) → o ≡ None → o ≡ Some x → B
 none_is_some o x h k = absurd (let e = sym h ∙ k in cc)
 
-pub one_reading : (next : ℕ) (list other : List Exchange) (rest script : List ℕ) → AreLines next list → AreLines next other
-    → line_at (next + length (children_started list)) rest ≡ None → journal list ++ rest ≡ journal other ++ (codes "script\n" ++ script) → Same list other rest script
-one_reading next [] [] rest script h k last e = record { lists = refl; rests = e }
-one_reading next [] (y ∷ other) rest script h k last e =
-    let e2 : rest ≡ line y ++ (journal other ++ (codes "script\n" ++ script)) = e ∙ append_assoc (line y) (journal other) (codes "script\n" ++ script) in
+pub one_reading : (next : ℕ) (list other : List Exchange) (rest tail : List ℕ) → AreLines next list → AreLines next other
+    → line_at (next + length (children_started list)) rest ≡ None → IsNoLine tail → journal list ++ rest ≡ journal other ++ tail → Same list other rest tail
+one_reading next [] [] rest tail h k last ends e = record { lists = refl; rests = e }
+one_reading next [] (y ∷ other) rest tail h k last ends e =
+    let e2 : rest ≡ line y ++ (journal other ++ tail) = e ∙ append_assoc (line y) (journal other) tail in
     let zero_more : next + 0 ≡ next = omega arith in
-    none_is_some (line_at next rest) (y, journal other ++ (codes "script\n" ++ script)) (subst (λ n. line_at n rest ≡ None) zero_more last) (ap (line_at next) e2 ∙ line_there next y (journal other ++ (codes "script\n" ++ script)) k.0)
-one_reading next (x ∷ list) [] rest script h k last e =
-    let e2 : codes "script\n" ++ script ≡ line x ++ (journal list ++ rest) = sym e ∙ append_assoc (line x) (journal list) rest in
-    none_is_some (line_at next (codes "script\n" ++ script)) (x, journal list ++ rest) (script_is_no_line next script) (ap (line_at next) e2 ∙ line_there next x (journal list ++ rest) h.0)
-one_reading next (x ∷ list) (y ∷ other) rest script h k last e =
+    none_is_some (line_at next rest) (y, journal other ++ tail) (subst (λ n. line_at n rest ≡ None) zero_more last) (ap (line_at next) e2 ∙ line_there next y (journal other ++ tail) k.0)
+one_reading next (x ∷ list) [] rest tail h k last ends e =
+    let e2 : tail ≡ line x ++ (journal list ++ rest) = sym e ∙ append_assoc (line x) (journal list) rest in
+    none_is_some (line_at next tail) (x, journal list ++ rest) (ends next) (ap (line_at next) e2 ∙ line_there next x (journal list ++ rest) h.0)
+one_reading next (x ∷ list) (y ∷ other) rest tail h k last ends e =
     let left = line_there next x (journal list ++ rest) h.0 in
-    let right = line_there next y (journal other ++ (codes "script\n" ++ script)) k.0 in
-    let e2 : line x ++ (journal list ++ rest) ≡ line y ++ (journal other ++ (codes "script\n" ++ script)) = sym (append_assoc (line x) (journal list) rest) ∙ e ∙ append_assoc (line y) (journal other) (codes "script\n" ++ script) in
-    let both = same_some (x, journal list ++ rest) (y, journal other ++ (codes "script\n" ++ script)) (sym left ∙ ap (line_at next) e2 ∙ right) in
+    let right = line_there next y (journal other ++ tail) k.0 in
+    let e2 : line x ++ (journal list ++ rest) ≡ line y ++ (journal other ++ tail) = sym (append_assoc (line x) (journal list) rest) ∙ e ∙ append_assoc (line y) (journal other) tail in
+    let both = same_some (x, journal list ++ rest) (y, journal other ++ tail) (sym left ∙ ap (line_at next) e2 ∙ right) in
     let first : x ≡ y = ap (λ (p : Exchange × List ℕ). p.0) both in
-    let behind_it : journal list ++ rest ≡ journal other ++ (codes "script\n" ++ script) = ap (λ (p : Exchange × List ℕ). p.1) both in
+    let behind_it : journal list ++ rest ≡ journal other ++ tail = ap (λ (p : Exchange × List ℕ). p.1) both in
     let counted : next + length (children_started (x ∷ list)) ≡ next_after next x + length (children_started list) = omega (arith, started_more x list) in
-    let more = one_reading (next_after next x) list other rest script h.1 (subst (λ (z : Exchange). AreLines (next_after next z) other) (sym first) k.1) (subst (λ n. line_at n rest ≡ None) counted last) behind_it in
+    let more = one_reading (next_after next x) list other rest tail h.1 (subst (λ (z : Exchange). AreLines (next_after next z) other) (sym first) k.1) (subst (λ n. line_at n rest ≡ None) counted last) ends behind_it in
     record { lists = ap (λ (z : Exchange). z ∷ list) first ∙ ap (λ (l : List Exchange). y ∷ l) more.lists; rests = more.rests }
 
 -- READING FROM LINE TO LINE
@@ -122,6 +127,12 @@ line_shorter next bytes r h =
     let f = line_found next bytes r h in
     omega (arith, ap length f.whole, ap length (shape r.0 r.1), length-append (ask_words r.0.ask) (arrow ++ (ended_words r.0.answer ++ r.1)), length-append (ended_words r.0.answer) r.1)
 
+pub lines_few : (list : List Exchange) → length list ≤ length (journal list)
+lines_few [] = omega arith
+lines_few (x ∷ list) =
+    let long = length-append (line x) (journal list) in
+    omega (arith, long, lines_few list, length-append (line x) [], ap length (shape x []), length-append (ask_words x.ask) (arrow ++ (ended_words x.answer ++ [])))
+
 pub one_more : (bytes : List ℕ) (list : List Exchange) (next : ℕ) (rest : List ℕ) (x : Exchange) (more : List ℕ) → SoFar bytes list next rest → line_at next rest ≡ Some (x, more) → SoFar bytes (list ++ x ∷ []) (next + length (started_by x.answer)) more
 one_more bytes list next rest x more h e =
     let f = line_found next rest (x, more) e in
@@ -134,7 +145,7 @@ one_more bytes list next rest x more h e =
     }
 
 -- THE END
-abbrev last_line : List ℕ
+abbrev pub last_line : List ℕ
 last_line = codes "script\n"
 
 pub script_behind : (bytes : List ℕ) (list : List Exchange) (next : ℕ) (rest script : List ℕ) → SoFar bytes list next rest → behind last_line rest ≡ Some script → bytes ≡ session list script
@@ -156,14 +167,14 @@ pub same_reading : (bytes : List ℕ) (list : List Exchange) (next : ℕ) (rest 
     → SoFar bytes list next rest → behind last_line rest ≡ Some script → at ≡ length bytes - length script → IsJournal other → bytes ≡ session other behind_it → (list ≡ other) × (drop at bytes ≡ behind_it)
 same_reading bytes list next rest script at other behind_it h e place k f =
     let whole = script_behind bytes list next rest script h e in
-    let same = one_reading 0 list other (last_line ++ script) behind_it h.lines k (script_is_no_line (0 + length (children_started list)) script) (sym whole ∙ f) in
+    let same = one_reading 0 list other (last_line ++ script) (last_line ++ behind_it) h.lines k (script_is_no_line script (0 + length (children_started list))) (script_is_no_line behind_it) (sym whole ∙ f) in
     let one = same_some script behind_it (ap (behind last_line) same.rests) in
     (same.lists, dropped bytes list script at whole place ∙ one)
 
 pub no_journal : (bytes : List ℕ) (list : List Exchange) (next : ℕ) (rest : List ℕ) → SoFar bytes list next rest → behind last_line rest ≡ None → line_at next rest ≡ None → HasNoJournal bytes
 no_journal bytes list next rest h unended unread = λ other script k e.
     let none : next ≡ 0 + length (children_started list) = omega (arith, h.counted) in
-    let same = one_reading 0 list other rest script h.lines k (subst (λ n. line_at n rest ≡ None) none unread) (sym h.front ∙ e) in
+    let same = one_reading 0 list other rest (last_line ++ script) h.lines k (subst (λ n. line_at n rest ≡ None) none unread) (script_is_no_line script) (sym h.front ∙ e) in
     let there : behind last_line rest ≡ Some script = ap (behind last_line) same.rests in
     none_is_some (behind last_line rest) script unended there
 
@@ -180,3 +191,7 @@ fault_line bytes list next rest h unended unread = record {
 
 pub script_few : (bytes : List ℕ) (list : List Exchange) (next : ℕ) (rest script : List ℕ) → SoFar bytes list next rest → behind last_line rest ≡ Some script → length script ≤ length bytes
 script_few bytes list next rest script h e = omega (arith, h.few, ap length (behind_is last_line rest script e), length-append last_line script)
+
+-- the line that is told
+pub same_line : {T : Type 0} (m n : ℕ) → ◌≡◌ {A = Result T JournalFault} (Err (fault.Line m)) (Err (fault.Line n)) → m ≡ n
+same_line m n h = let k = h in cc

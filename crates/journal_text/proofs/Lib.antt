@@ -12,3 +12,5 @@ pub mod Numbers
 pub mod Prefixes
 pub mod Replies
 pub mod Words
+pub mod Claims
+pub mod Transcripts

@@ -3,4 +3,5 @@ pub mod Allowed
 pub mod Replayed
 pub mod Reading
 pub mod Journals
+pub mod Transcripts
 pub mod Lined

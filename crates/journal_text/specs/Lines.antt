@@ -1,5 +1,5 @@
--- The text of exchanges: a line for each, and behind the last one a line `script` and a script.
-use Rattle.std.specs.Prelude.{ℕ, ◌+◌, ◌/◌, ◌%◌, nat_lt, if◌then◌else◌, List, [], ◌∷◌, ◌++◌, codes, decimal, flat_map}
+-- The text of exchanges: a line for each, and behind the last one a line `script` and a script; or claimed lines first.
+use Rattle.std.specs.Prelude.{ℕ, ◌+◌, ◌/◌, ◌%◌, nat_lt, if◌then◌else◌, List, [], ◌∷◌, ◌++◌, length, codes, decimal, flat_map}
 use Rattle.plain_machine.specs.Lines.{shown_int}
 use Rattle.plain_machine.specs.Exchanges.{Ask, Answer, Exchange, Spawn, Read, AskEnd, Send, Close, Kill, Started, Refused, Bytes, Nothing, End, Code, Signal, Running, Sent, Broken, Closed, Killed, Failed}
 
@@ -57,3 +57,10 @@ journal list = flat_map line list
 
 abbrev pub session : List Exchange → (script : List ℕ) → List ℕ
 session list script = journal list ++ (codes "script\n" ++ script)
+
+-- CLAIMED LINES, behind a line with the number of their bytes
+abbrev pub claim : (claimed : List ℕ) → List ℕ
+claim claimed = codes "lines " ++ (decimal (length claimed) ++ 10 ∷ claimed)
+
+abbrev pub transcript : List Exchange → (claimed script : List ℕ) → List ℕ
+transcript list claimed script = journal list ++ (claim claimed ++ (codes "script\n" ++ script))

@@ -191,3 +191,11 @@ with_answer next r = answer_at next r.0 r.1 >>= (λ answer. Some ((record { ask 
 
 abbrev pub line_at : (next : ℕ) → List ℕ → Found Exchange
 line_at next bytes = ask_at bytes >>= with_answer next
+
+-- CLAIMED LINES
+-- so many bytes, and what follows them
+abbrev pub counted_off : ℕ × List ℕ → Found (List ℕ)
+counted_off r = if nat_le r.0 (length r.1) then Some (take r.0 r.1, drop r.0 r.1) else None
+
+abbrev pub claim_at : List ℕ → Found (List ℕ)
+claim_at bytes = behind (codes "lines ") bytes >>= (λ rest. number_at rest >>= (λ n. then_end n >>= counted_off))

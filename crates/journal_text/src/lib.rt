@@ -12,7 +12,7 @@ mod replay;
 mod reply;
 mod told;
 
-pub use journal::{JournalFault, LONGEST_SESSION, read_journal};
+pub use journal::{JournalFault, LONGEST_SESSION, Transcript, read_journal, read_transcript};
 pub use line::write_journal;
 pub use lined::LinedHost;
 pub use replay::Replay;

@@ -1,7 +1,7 @@
 use Rattle.std.proofs.Common.{length}
 use Rattle.host_link.specs.Meaning.{exchanges_of}
 use Rattle.journal_text.proofs.Journals.{SoFar}
-use Rattle.journal_text.proofs.journal.read_journal.Given as goal
+use Rattle.journal_text.proofs.journal.good_lines.Given as goal
 
 abbrev pub invariant-lines : goal.invariant-lines
 invariant-lines l = SoFar l.bytes (exchanges_of l.list) l.next l.rest
