@@ -38,7 +38,7 @@ REFUSED = [600, 5000]
 TEXT_ALLOCATIONS = 110
 
 # The tests' tables of runs.
-TABLES = ["edits", "undos", "hooks", "waits", "filters", "reentry"]
+TABLES = ["edits", "undos", "hooks", "waits", "filters", "reentry", "codings", "read_only"]
 
 # More runs: the name, the script, and what the child gives at each read.
 MORE = [
