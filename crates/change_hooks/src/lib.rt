@@ -3,7 +3,5 @@
 
 mod hooks;
 mod lists;
-#[cfg(test)]
-mod tests;
 
 pub use hooks::{Hooks, MOST_HOOKS};

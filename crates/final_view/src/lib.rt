@@ -9,8 +9,6 @@ mod mark;
 mod show;
 mod strings;
 mod sweep;
-#[cfg(test)]
-mod tests;
 
 pub use buffer_view::view;
 pub use fault::ViewFault;

@@ -8,8 +8,6 @@ mod handler;
 mod insert_filter;
 mod note_sentinel;
 mod replies;
-#[cfg(test)]
-mod tests;
 
 pub use boxed::Boxed;
 pub use drop_filter::DropFilter;

@@ -7,8 +7,6 @@ mod made;
 mod native;
 mod no_natives;
 mod normal;
-#[cfg(test)]
-mod tests;
 
 pub use body::Body;
 pub use calls::allowed;

@@ -332,6 +332,3 @@ impl Host for MemoryHost {
         killed
     }
 }
-
-#[cfg(test)]
-mod tests;

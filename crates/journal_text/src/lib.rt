@@ -10,8 +10,6 @@ mod lined;
 mod pieces;
 mod replay;
 mod reply;
-#[cfg(test)]
-mod tests;
 mod told;
 
 pub use journal::{JournalFault, LONGEST_SESSION, read_journal};

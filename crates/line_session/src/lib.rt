@@ -10,7 +10,5 @@ mod restarting;
 mod script;
 mod sentinel;
 mod session;
-#[cfg(test)]
-mod tests;
 
 pub use session::LineSession;

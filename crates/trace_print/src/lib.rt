@@ -14,8 +14,6 @@ mod property;
 mod runs;
 mod string;
 mod symbol;
-#[cfg(test)]
-mod tests;
 mod text;
 mod value;
 

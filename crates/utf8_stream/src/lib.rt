@@ -7,8 +7,6 @@ mod decoder;
 mod decoding;
 mod laws;
 mod sequence;
-#[cfg(test)]
-mod tests;
 
 pub use coding::Coding;
 pub use decoder::Decoder;

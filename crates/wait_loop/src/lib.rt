@@ -3,7 +3,5 @@
 
 mod aim;
 mod rounds;
-#[cfg(test)]
-mod tests;
 
 pub use rounds::{Step, Wait};

@@ -1,5 +1,5 @@
 //! Worked cases of hook lists.
-use crate::Hooks;
+use change_hooks::Hooks;
 use ek_types::Sym;
 use std::test::Fail;
 

@@ -1,10 +1,18 @@
+//! A host in memory and a recorder: every kind of call with its line, calls that fail, and spawns that are refused.
 ghost use Rattle.std.specs.Prelude.{◌≡◌, [], IfOk};
 
-use super::*;
-use crate::asking::Answers;
-use crate::recorder::Recorder;
-use ek_types::{Copied, ListOf, NoMemory};
+use ek_types::{Copied, ListOf, Mem, NoMemory};
+use host_link::{Answer, Answers, ByteList, Exchanges, Host, MemoryHost, Play, Recorder, Spawned};
+use std::alloc::Global;
 use std::test::Fail;
+
+fn list_of(alloc: Global, bytes: &[u8]) -> Mem<ByteList> {
+    let mut list = ListOf::new(alloc);
+    for byte in bytes {
+        list.push(*byte)?;
+    }
+    Ok(list)
+}
 
 fn answers(alloc: Global, first: Answer, second: Answer) -> Mem<Answers> {
     let mut list = ListOf::new(alloc);

@@ -1,9 +1,9 @@
 //! What runs: the edges of the Unicode Standard's Table 3-7, cuts at each place, line ends and single bytes, and a long text
 //! in pieces.
-use crate::{Coding, Decoder};
 use ek_types::{Ch, Chars};
 use std::alloc::Global;
 use std::process::Abort;
+use utf8_stream::{Coding, Decoder};
 
 /// Room is made, and a piece is fed.
 fn feed(rt: &impl Abort, decoder: &mut Decoder, piece: &[u8], out: &mut Chars) {

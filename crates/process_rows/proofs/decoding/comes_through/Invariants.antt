@@ -1,5 +1,5 @@
 use Rattle.std.proofs.Common.{◌<◌, ◌≤◌, length}
-use Rattle.utf8_stream.proofs.tests.comes_through.Given as goal
+use Rattle.process_rows.proofs.decoding.comes_through.Given as goal
 
 abbrev pub invariant-loop-rest : goal.invariant-loop-rest
 invariant-loop-rest g l = record {

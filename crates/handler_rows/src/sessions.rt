@@ -1,8 +1,8 @@
-//! The two natives reply by reply, and the script.
-use crate::LineSession;
+//! The two natives of a line session reply by reply, and the script.
 use ek_call::{Arg, Call, Fault, Form, Primitive, Replies, Reply, Value, Values};
 use ek_types::{Ch, Chars, ListOf, Mem, Piece, Sym};
 use handler_code::{Natives, Next};
+use line_session::LineSession;
 use std::alloc::Global;
 use std::test::Fail;
 

@@ -1,10 +1,10 @@
 //! Replays that follow their list, and that stray from it.
 ghost use Rattle.std.specs.Prelude.{◌≡◌, []};
 
-use super::{read, written};
-use crate::Replay;
+use crate::checking::{read, written};
 use ek_types::Mem;
 use host_link::{Host, Spawned};
+use journal_text::Replay;
 use std::alloc::Global;
 use std::process::Abort;
 

@@ -1,7 +1,7 @@
 //! Worked cases of natives' calls, and of bodies.
-use crate::{Body, Made, NativeCall, Natives, NoNatives, allowed};
 use ek_call::{HandlerDef, Primitive, Value};
 use ek_types::{Ch, Chars, ListOf, Mem, Piece, PropSet, PropVal, Sym};
+use handler_code::{Body, Made, NativeCall, Natives, NoNatives, allowed};
 use std::alloc::Global;
 use std::test::Fail;
 

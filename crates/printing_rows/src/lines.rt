@@ -1,30 +1,13 @@
-//! What runs: each escape, each printed form, the lines, a dump, and a sink that fails in the middle.
-ghost use Rattle.std.specs.Prelude.{◌≡◌, ◌<◌, true};
-ghost use Rattle.editor_model.specs.Editor.{is_live};
-ghost use Rattle.buffer_table.specs.Kept.{editor_of};
+//! Printing: each escape, each printed form, the lines, a dump, and a sink that fails in the middle.
 
-mod dumps;
-
-use crate::printer::Printer;
-use crate::{Kind, Names, dump, entry, exit, kill, reply};
+use crate::checking::{EVAPORATE, PRIORITY, letters, mark, new_sink};
 use buffer_table::Editor;
 use ek_call::{Fault, Reply, Value, Values};
 use ek_types::{Ch, Chars, Mem, MemorySink, Piece, PropSet, PropVal, SinkFault, Sym, Symbols};
 use process_table::Processes;
 use std::alloc::Global;
 use std::process::Abort;
-
-const EVAPORATE: Sym = Sym(2);
-
-const PRIORITY: Sym = Sym(3);
-
-fn letters(alloc: Global, text: &[u8]) -> Mem<Chars> {
-    let mut chars = Chars::new(alloc);
-    for byte in text {
-        chars.push(Ch::Scalar(char::from(*byte)))?;
-    }
-    Ok(chars)
-}
+use trace_print::{Kind, Names, dump, entry, exit, kill, reply};
 
 /// Characters of each kind that strings escape, and some that they don't.
 fn escaped(alloc: Global) -> Mem<Chars> {
@@ -72,13 +55,6 @@ fn one_of_each(alloc: Global) -> Mem<Values> {
     Ok(list)
 }
 
-fn new_sink(rt: &impl Abort, alloc: Global, room: usize, piece: usize) -> MemorySink
-    requires { 0 < piece }
-{
-    let fails = Vec::new(alloc);
-    MemorySink::new(alloc, room, piece, fails).expect(rt, "a sink")
-}
-
 fn one_process(rt: &impl Abort, alloc: Global) -> Processes {
     let name = letters(alloc, b"c").expect(rt, "a name");
     let mut processes = Processes::new(alloc);
@@ -86,17 +62,36 @@ fn one_process(rt: &impl Abort, alloc: Global) -> Processes {
     processes
 }
 
+/// Writes the reply that is this string.
+fn tell(
+    rt: &impl Abort,
+    alloc: Global,
+    text: Chars,
+    sink: &mut MemorySink,
+) -> Result<(), SinkFault> {
+    let symbols = Symbols::new(alloc).expect(rt, "symbols");
+    let processes = Processes::new(alloc);
+    let editor = Editor::new(alloc).expect(rt, "an editor");
+    let names = Names {
+        editor: &editor,
+        processes: &processes,
+        symbols: &symbols,
+    };
+    let told = Reply::Value(Value::Str(Piece::plain(alloc, text)));
+    let written = reply(0, &told, &names, sink);
+    editor.close();
+    written
+}
+
 #[test]
 fn each_escape(rt: HostRuntime) {
     let text = escaped(rt.alloc()).expect(&rt, "a text");
     let mut sink = new_sink(&rt, rt.alloc(), 100, 7);
-    let mut out = Printer::new(&mut sink);
-    out.quoted(&text);
-    let written = out.finish();
+    let written = tell(&rt, rt.alloc(), text, &mut sink);
     assert!(rt; written.is_ok());
     assert_eq!(rt;
         sink.bytes(),
-        b"\"a\\\"\\\\\\n\\t\\001\\177\xC3\xA9\xE2\x82\xAC\\377\"".as_slice()
+        b"= \"a\\\"\\\\\\n\\t\\001\\177\xC3\xA9\xE2\x82\xAC\\377\"\n".as_slice()
     );
 }
 
@@ -113,11 +108,11 @@ fn put_octal(bytes: &mut Vec<u8>, byte: u8) -> Mem<()> {
     Ok(())
 }
 
-/// All control characters but the tab and the line feed, and all raw bytes, as characters and as they are written.
+/// All control characters but the tab and the line feed, and all raw bytes, as characters and as their reply is written.
 fn octal(alloc: Global) -> Mem<(Chars, Vec<u8>)> {
     let mut text = Chars::new(alloc);
     let mut written = Vec::new(alloc);
-    written.push(b'"')?;
+    written.extend_from_slice(b"= \"")?;
     for code in 0u8..=255 {
         if code >= 0x80 {
             text.push(Ch::Raw(code))?;
@@ -127,7 +122,7 @@ fn octal(alloc: Global) -> Mem<(Chars, Vec<u8>)> {
             put_octal(&mut written, code)?;
         }
     }
-    written.push(b'"')?;
+    written.extend_from_slice(b"\"\n")?;
     Ok((text, written))
 }
 
@@ -135,23 +130,31 @@ fn octal(alloc: Global) -> Mem<(Chars, Vec<u8>)> {
 fn each_control_character_and_raw_byte(rt: HostRuntime) {
     let (text, expected) = octal(rt.alloc()).expect(&rt, "a text");
     let mut sink = new_sink(&rt, rt.alloc(), 1000, 1000);
-    let mut out = Printer::new(&mut sink);
-    out.quoted(&text);
-    let written = out.finish();
+    let written = tell(&rt, rt.alloc(), text, &mut sink);
     assert!(rt; written.is_ok());
     assert_eq!(rt; sink.bytes(), expected.as_slice());
 }
 
+/// So many letters.
+fn many(alloc: Global, count: usize) -> Mem<Chars> {
+    let mut text = Chars::new(alloc);
+    for _ in 0..count {
+        text.push(Ch::Scalar('a'))?;
+    }
+    Ok(text)
+}
+
+/// The sink fails at its second call alone, and the text is longer than what is written in some calls.
 #[test]
 fn nothing_behind_a_failure(rt: HostRuntime) {
-    let mut sink = new_sink(&rt, rt.alloc(), 4, 2);
-    let mut out = Printer::new(&mut sink);
-    out.put(b"abc");
-    out.put(b"def");
-    out.put(b"g");
-    let written = out.finish();
+    let alloc = rt.alloc();
+    let text = many(alloc, 3000).expect(&rt, "a text");
+    let fails = vec![in alloc; 1].expect(&rt, "a list");
+    let mut sink = MemorySink::new(alloc, 4000, 4000, fails).expect(&rt, "a sink");
+    let written = tell(&rt, alloc, text, &mut sink);
     assert!(rt; written.is_err());
-    assert_eq!(rt; sink.bytes(), b"abcd".as_slice());
+    assert!(rt; sink.bytes().starts_with(b"= \"aaa"));
+    assert!(rt; sink.bytes().len() < 1000);
 }
 
 fn lines(names: &Names, values: Values, sink: &mut MemorySink) -> Result<(), SinkFault> {
@@ -199,21 +202,6 @@ kill #<process c>
 "
             .as_slice()
     );
-}
-
-/// A marker at a place of a buffer.
-fn mark(rt: &impl Abort, editor: &mut Editor, id: u32, place: usize, advances: bool) {
-    assert!(rt; editor.marks().markers.count() < 9);
-    let k = editor.make_marker().expect(rt, "a marker");
-    let size = match editor.text(id) {
-        Some(text) => text.len(),
-        None => 0,
-    };
-    assert!(rt; editor.text(id).is_some() && place <= size);
-    assert!(rt; k < editor.marks().markers.count());
-    editor.set_marker_kind(k, advances);
-    assert!(rt; k < editor.marks().markers.count());
-    editor.set_marker(k, Some((id, place)));
 }
 
 /// A second buffer with a marker, killed.

@@ -1,13 +1,11 @@
-//! What runs: buffers with overlays, worked out by hand, and a sink that fails.
-ghost use Rattle.std.specs.Prelude.{◌<◌};
+//! Views: buffers with overlays, worked out by hand, and a sink that fails.
 
-use crate::{ViewFault, view};
+use crate::checking::{PRIORITY, new_sink, put};
 use buffer_table::Editor;
-use ek_types::{Ch, Chars, Mem, MemorySink, Piece, PropSet, PropVal, Sym};
+use ek_types::{Ch, Chars, Mem, Piece, PropSet, PropVal, Sym};
+use final_view::{ViewFault, view};
 use std::alloc::Global;
 use std::process::Abort;
-
-const PRIORITY: Sym = Sym(3);
 
 const INVISIBLE: Sym = Sym(11);
 
@@ -42,11 +40,6 @@ fn chars(alloc: Global, text: &str) -> Mem<Chars> {
         chars.push(Ch::Scalar(c))?;
     }
     Ok(chars)
-}
-
-fn put(rt: &impl Abort, editor: &mut Editor, k: u32, name: Sym, value: &PropVal) {
-    assert!(rt; k < editor.overlay_count());
-    editor.put_overlay(k, name, Some(value)).expect(rt, "room");
 }
 
 fn put_string(rt: &impl Abort, alloc: Global, editor: &mut Editor, k: u32, name: Sym, text: &str) {
@@ -100,7 +93,7 @@ fn furnished(rt: &impl Abort, alloc: Global, row: &Row) -> Editor {
 
 fn check(rt: &impl Abort, alloc: Global, row: &Row) {
     let editor = furnished(rt, alloc, row);
-    let mut sink = MemorySink::new(alloc, 99, 2, Vec::new(alloc)).expect(rt, "a sink");
+    let mut sink = new_sink(rt, alloc, 99, 2);
     assert!(rt; editor.is_live(0));
     let written = view(&editor, 0, &mut sink);
     editor.close();
@@ -381,7 +374,7 @@ fn all_lengths_and_other_values(rt: HostRuntime) {
     );
     put(&rt, &mut editor, 0, BEFORE_STRING, &PropVal::Int(7));
     put(&rt, &mut editor, 0, AFTER_STRING, &PropVal::Truth);
-    let mut sink = MemorySink::new(alloc, 99, 3, Vec::new(alloc)).expect(&rt, "a sink");
+    let mut sink = new_sink(&rt, alloc, 99, 3);
     assert!(rt; editor.is_live(0));
     let written = view(&editor, 0, &mut sink);
     editor.close();
@@ -396,7 +389,7 @@ fn all_lengths_and_other_values(rt: HostRuntime) {
 fn a_sink_that_fails_has_a_front(rt: HostRuntime) {
     let alloc = rt.alloc();
     let editor = furnished(&rt, alloc, &HIDDEN_LETTERS);
-    let mut sink = MemorySink::new(alloc, 4, 2, Vec::new(alloc)).expect(&rt, "a sink");
+    let mut sink = new_sink(&rt, alloc, 4, 2);
     assert!(rt; editor.is_live(0));
     let written = view(&editor, 0, &mut sink);
     editor.close();

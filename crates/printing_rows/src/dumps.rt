@@ -1,15 +1,12 @@
 //! A dump with all there is: live, narrowed and killed buffers, markers and overlays in each, and ended processes.
-ghost use Rattle.std.specs.Prelude.{◌≡◌, ◌≤◌, true};
-ghost use Rattle.editor_model.specs.Editor.{is_live};
-ghost use Rattle.buffer_table.specs.Kept.{editor_of};
 
-use super::{EVAPORATE, PRIORITY, letters, mark, new_sink};
-use crate::{Names, dump};
+use crate::checking::{EVAPORATE, PRIORITY, letters, mark, new_sink, put};
 use buffer_table::Editor;
 use ek_types::{Ch, Mem, Piece, PropSet, PropVal, Sym, SymList, Symbols};
 use process_table::{Processes, Status};
 use std::alloc::Global;
 use std::process::Abort;
+use trace_print::{Names, dump};
 
 const FRONT_STICKY: Sym = Sym(0);
 
@@ -65,12 +62,6 @@ fn overlay(rt: &impl Abort, editor: &mut Editor, id: u32, to: usize) -> u32 {
     assert!(rt; editor.overlay_count() < 9 && editor.is_live(id) && to <= size);
     let k = editor.make_overlay(id, 0, to, false, false);
     k.expect(rt, "an overlay")
-}
-
-/// A property of an overlay.
-fn put(rt: &impl Abort, editor: &mut Editor, k: u32, name: Sym, value: &PropVal) {
-    assert!(rt; k < editor.overlay_count());
-    editor.put_overlay(k, name, Some(value)).expect(rt, "room");
 }
 
 /// `*scratch*` with two letters, a marker of each type and an overlay.

@@ -1,11 +1,11 @@
 //! Worked cases of waits: whom they ask, in which order, and what they answer.
 ghost use Rattle.std.specs.Prelude.{◌≡◌, ◌+◌, ◌<◌, ◌≤◌, length, IfOk, OnOk};
 
-use crate::{Step, Wait};
 use ek_types::{Chars, Mem};
 use process_table::{Filter, Processes, Status};
 use std::alloc::Global;
 use std::test::Fail;
+use wait_loop::{Step, Wait};
 
 /// A process that just started.
 fn start(alloc: Global, table: &mut Processes) -> Mem<()>

@@ -1,7 +1,7 @@
 //! The shipped handlers against the reference, reply by reply, and lists of boxes.
-use crate::{Boxed, DropFilter, Handler, InsertFilter, NoteSentinel};
 use ek_call::{Fault, Primitive, Replies, Reply, Value, Values};
 use ek_types::{Copied, ListOf, Mem, Sym};
+use handler_box::{Boxed, DropFilter, Handler, InsertFilter, NoteSentinel};
 use handler_code::{Natives, Next};
 use std::alloc::Global;
 use std::test::Fail;

@@ -1,13 +1,7 @@
-//! What runs: a line of each kind read and written back, each refusal with its line, and replays.
-ghost use Rattle.std.specs.Prelude.{◌≡◌, [], IfOk};
-ghost use Rattle.host_link.specs.Meaning.{exchanges_of};
-ghost use Rattle.journal_text.specs.Allowed.{AreAnswered};
+//! Journals: a line of each kind read and written back, and each refusal with its line.
 
-mod replaying;
-
-use crate::{JournalFault, LONGEST_SESSION, read_journal, write_journal};
-use ek_types::MemorySink;
-use host_link::Exchanges;
+use crate::checking::{read, written};
+use journal_text::JournalFault;
 use std::alloc::{AllocError, Global};
 use std::process::Abort;
 
@@ -33,22 +27,6 @@ close 0 -> closed
 kill 0 -> killed
 kill 1 -> failed
 ";
-
-/// The list of a journal, and where the script begins.
-fn read(rt: &impl Abort, alloc: Global, bytes: &[u8]) -> Result<(Exchanges, usize), JournalFault>
-    ensures { IfOk result (λ r. AreAnswered 0 (exchanges_of r.0)) }
-{
-    assert!(rt; bytes.len() <= LONGEST_SESSION);
-    read_journal(alloc, bytes)
-}
-
-/// What is written of a list.
-fn written(rt: &impl Abort, alloc: Global, list: &Exchanges) -> MemorySink {
-    let sink = MemorySink::new(alloc, 65536, 65536, Vec::new(alloc));
-    let mut sink = sink.expect(rt, "a sink");
-    assert!(rt; write_journal(list, &mut sink).is_ok());
-    sink
-}
 
 /// A text and the last line with a script behind it.
 fn session(alloc: Global, journal: &str, script: &str) -> Result<String, AllocError> {

@@ -1,0 +1,15 @@
+//! Tests alone, of what is written: lines and dumps, views, journals and their replays. All values were worked out by hand.
+#![tactic(auto)]
+
+#[cfg(test)]
+mod checking;
+#[cfg(test)]
+mod dumps;
+#[cfg(test)]
+mod journals;
+#[cfg(test)]
+mod lines;
+#[cfg(test)]
+mod replays;
+#[cfg(test)]
+mod views;
