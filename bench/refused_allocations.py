@@ -38,7 +38,7 @@ REFUSED = [600, 5000]
 TEXT_ALLOCATIONS = 110
 
 # The tests' tables of runs.
-TABLES = ["edits", "undos", "hooks", "waits", "filters", "reentry"]
+TABLES = ["edits", "undos", "hooks", "waits", "filters", "reentry", "codings", "read_only"]
 
 # More runs: the name, the script, and what the child gives at each read.
 MORE = [
@@ -534,8 +534,16 @@ def behind(output):
     return int(re.search(rb"^behind (\d+)$", output, re.M)[1])
 
 
-def spelled(read, ended):
+CODINGS = ["utf-8-unix", "utf-8-dos", "latin-1-unix"]
+
+
+def spelled(read, ended, coding):
     """The characters that filters are entered with after these bytes, as entries print them."""
+    if coding == "latin-1-unix":
+        return read.decode("latin-1").replace("\n", "\\n")
+    if coding == "utf-8-dos":
+        read = read.replace(b"\r\n", b"\n")
+        read = read[:-1] if read.endswith(b"\r") and not ended else read
     text, at = "", 0
     while at < len(read):
         for size in range(1, 5):
@@ -570,21 +578,33 @@ def same_front(one, other):
     return next((i for i, (x, y) in enumerate(zip(one, other)) if x != y), min(len(one), len(other)))
 
 
-def heard(exchanges, child):
+def heard(exchanges, child, coding):
     """What filters are entered with of a child."""
     mine = [it.split(": ", 1)[1] for it in exchanges if it.startswith(f"read {child}: ")]
     read = b"".join(bytes(map(int, it.split()[1:])) for it in mine if it.startswith("bytes"))
-    return spelled(read, any(it in ("end", "another") for it in mine))
+    return spelled(read, any(it in ("end", "another") for it in mine), coding)
 
 
-def entries_spell(ran, names):
+def entered(ran, name):
+    """What the filters of the processes of a name were entered with."""
+    entries = re.findall(r'^ *> filter \S+ #<process (\S+)> "(.*)"$', ran.written, re.M)
+    return "".join(text for of, text in entries if of == name)
+
+
+def spells(ran, name, names, coding):
+    """Whether the filter entries of a name spell what was read from its children, decoded in a coding."""
+    children = [child for child, of in enumerate(names) if of == name]
+    return entered(ran, name) == "".join(heard(ran.exchanges, child, coding) for child in children)
+
+
+def codings(whole, names):
+    """The coding of the processes of each name, known by what they entered where memory was ample."""
+    return {name: next(it for it in CODINGS if spells(whole, name, names, it)) for name in {*names}}
+
+
+def entries_spell(ran, whole, names):
     """Whether the filter entries of each name spell what was read from the children of that name."""
-    entered, read = {}, {}
-    for name, text in re.findall(r'^ *> filter \S+ #<process (\S+)> "(.*)"$', ran.written, re.M):
-        entered[name] = entered.get(name, "") + text
-    for child, name in enumerate(names):
-        read[name] = read.get(name, "") + heard(ran.exchanges, child)
-    return all(entered.get(name, "") == read.get(name, "") for name in {*entered, *read})
+    return all(spells(ran, name, names, coding) for name, coding in codings(whole, names).items())
 
 
 def verdict(ran, whole, names):
@@ -600,7 +620,7 @@ def verdict(ran, whole, names):
     front = same_front(ran.exchanges, whole.exchanges)
     if ran.exchanges[front:] != [f"kill {child}: killed" for child in living(ran.exchanges[:front])]:
         faults.append("not a front of the exchanges and the kills of living children")
-    if not entries_spell(ran, names):
+    if not entries_spell(ran, whole, names):
         faults.append("the entries don't spell what was read")
     return "WRONG: NoMemory, " + ", ".join(faults) if faults else "NoMemory"
 

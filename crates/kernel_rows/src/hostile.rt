@@ -5,20 +5,22 @@ use super::playing::{
     Calls, Child, PLAIN, Ran, Row, Run, Setting, UNREAD, check_ran, plays, run_over, run_script,
 };
 use super::shown::shown_one;
-use super::{edits, filters, hooks, nesting, reentry, undos, waits};
+use super::{codings, edits, filters, hooks, nesting, read_only, reentry, undos, waits};
 use handler_code::NoNatives;
 use host_link::{Answer, Ask, Ended, Exchange, Exchanges, MemoryHost};
 use kernel_top::Status;
 use std::alloc::Global;
 use std::process::Abort;
 
-const ROWS: [&[Row]; 6] = [
+const ROWS: [&[Row]; 8] = [
     &edits::ROWS,
     &undos::ROWS,
     &hooks::ROWS,
     &waits::ROWS,
     &filters::ROWS,
     &reentry::ROWS,
+    &codings::ROWS,
+    &read_only::ROWS,
 ];
 
 /// All runs.

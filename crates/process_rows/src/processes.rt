@@ -140,6 +140,8 @@ fn a_coding_until_bytes_are_read(rt: HostRuntime) {
 fn a_coding_behind_the_end_of_output(rt: HostRuntime) {
     let mut table = one(&rt, rt.alloc());
     let mut out = Chars::new(rt.alloc());
+    let held = table.get(0).held().len();
+    out.reserve(held).expect(&rt, "room");
     table.drain(0, &mut out);
     assert!(rt; out.is_empty());
     assert!(rt; table.set_coding(0, Coding::Latin1));
