@@ -1,4 +1,4 @@
-//! Tests alone, of what is written: lines and dumps, views, journals and their replays. All values were worked out by hand.
+//! Tests alone, of what is written: lines and dumps, views, journals, their replays and transcripts. All values were worked out by hand.
 #![tactic(auto)]
 
 #[cfg(test)]
@@ -11,5 +11,7 @@ mod journals;
 mod lines;
 #[cfg(test)]
 mod replays;
+#[cfg(test)]
+mod transcripts;
 #[cfg(test)]
 mod views;

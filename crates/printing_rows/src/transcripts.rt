@@ -1,0 +1,92 @@
+//! Transcripts: the parts of each, and the line of each fault.
+ghost use Rattle.std.specs.Prelude.{IfOk};
+ghost use Rattle.host_link.specs.Meaning.{exchanges_of};
+ghost use Rattle.journal_text.specs.Allowed.{AreAnswered};
+
+use crate::checking::written;
+use journal_text::{JournalFault, LONGEST_SESSION, Transcript, read_transcript};
+use std::alloc::Global;
+use std::process::Abort;
+
+const JOURNAL: &str = "spawn 636174 -> started 0
+read 0 -> bytes 6162
+read 0 -> end
+end 0 -> code 0
+";
+
+/// What is read of a text.
+fn read(rt: &impl Abort, alloc: Global, text: &str) -> Result<Transcript, JournalFault>
+    ensures { IfOk result (λ t. AreAnswered 0 (exchanges_of t.journal)) }
+{
+    let bytes = text.as_bytes();
+    assert!(rt; bytes.len() <= LONGEST_SESSION);
+    read_transcript(alloc, bytes)
+}
+
+/// The text has these parts behind one another.
+fn assert_parts(rt: &impl Abort, alloc: Global, text: &str, lines: &str, script: &str) {
+    let Ok(found) = read(rt, alloc, text) else {
+        panic!(rt; "no transcript");
+    };
+    let bytes = text.as_bytes();
+    assert_eq!(rt; bytes.get(found.from..found.to), Some(lines.as_bytes()));
+    assert_eq!(rt;
+        bytes.get(found.script..bytes.len()),
+        Some(script.as_bytes())
+    );
+}
+
+#[test]
+fn the_parts_of_a_transcript(rt: HostRuntime) {
+    let alloc = rt.alloc();
+    let mut text = String::from_str(alloc, JOURNAL).expect(&rt, "a text");
+    text.push_str("lines 8\n= t\n= 1\nscript\n(point)")
+        .expect(&rt, "a text");
+    assert_parts(&rt, alloc, text.as_str(), "= t\n= 1\n", "(point)");
+    let Ok(found) = read(&rt, alloc, text.as_str()) else {
+        panic!(&rt; "no transcript");
+    };
+    let journal = written(&rt, alloc, &found.journal);
+    assert_eq!(&rt; journal.bytes(), JOURNAL.as_bytes());
+}
+
+#[test]
+fn claims_that_are_empty_or_end_within_a_line(rt: HostRuntime) {
+    let alloc = rt.alloc();
+    assert_parts(&rt, alloc, "lines 0\nscript\n", "", "");
+    assert_parts(&rt, alloc, "lines 2\nabscript\nscript\n", "ab", "script\n");
+    assert_parts(&rt, alloc, "lines 7\nscript\nscript\n", "script\n", "");
+}
+
+/// The text is refused with a line.
+fn assert_refused(rt: &impl Abort, alloc: Global, text: &str, line: u32) {
+    match read(rt, alloc, text) {
+        Err(fault) => assert_eq!(rt; fault, JournalFault::Line(line)),
+        Ok(_) => panic!(rt; "it was read"),
+    }
+}
+
+#[test]
+fn no_claimed_lines_are_refused_behind_the_journal(rt: HostRuntime) {
+    for text in [
+        "close 0 -> closed\n",
+        "close 0 -> closed\nscript\n",
+        "close 0 -> closed\nlines 3\nab",
+        "close 0 -> closed\nlines 02\nabscript\n",
+        "close 0 -> closed\nlines \nscript\n",
+        "close 0 -> closed\nlines 4294967296\nscript\n",
+        "close 0 -> closed\nlines 0",
+    ] {
+        assert_refused(&rt, rt.alloc(), text, 2);
+    }
+}
+
+#[test]
+fn no_script_is_refused_behind_the_claimed_lines(rt: HostRuntime) {
+    let alloc = rt.alloc();
+    assert_refused(&rt, alloc, "lines 0\n", 2);
+    assert_refused(&rt, alloc, "lines 0\nscript", 2);
+    assert_refused(&rt, alloc, "lines 2\nabscrip", 2);
+    assert_refused(&rt, alloc, "lines 2\na\n\nscript\n", 3);
+    assert_refused(&rt, alloc, "close 0 -> closed\nlines 5\nab\nc\nscripx\n", 5);
+}
