@@ -1,11 +1,11 @@
 -- Runs with their ends.
-use Rattle.std.proofs.Common.{◌≡◌, ℕ, zero, suc, ◌+◌, ◌<◌, Bool, true, false, List, [], ◌∷◌, ◌++◌, refl, sym, ap, ◌∙◌, arith, append_assoc}
+use Rattle.std.proofs.Common.{◌≡◌, ℕ, zero, suc, ◌+◌, List, [], ◌∷◌, ◌++◌, refl, sym, ap, ◌∙◌, arith, append_assoc}
 use Rattle.std.specs.Prelude.{replicate, if◌then◌else◌}
 use Rattle.text_model.specs.Properties.{PropSet, stretches, stretch_more, same_set}
 use Rattle.text_model.proofs.Sameness.{same_set-same}
 use Rattle.plain_machine.specs.Lines.{run_words}
 use Rattle.prop_intervals.specs.Runs.{Run, sets_of, size, AreApart, BeginsOther}
-use Rattle.trace_print.specs.Strings.{Runs, led, placed}
+use Rattle.trace_print.specs.Strings.{led, placed}
 use Rattle.trace_print.proofs.Stretches.{words_then}
 
 -- a set in front of runs that begin with another

@@ -1,4 +1,4 @@
-use Rattle.std.proofs.Common.{◌≡◌, ◌+◌, ◌∷◌, ap, sym, refl, ◌∙◌, arith}
+use Rattle.std.proofs.Common.{◌+◌, ◌<◌, ◌^◌, ◌∷◌, length, length-append, ap, sym, refl, ◌∙◌, arith, rules}
 use Rattle.plain_machine.specs.Lines.{run_words}
 use Rattle.prop_intervals.specs.Runs.{size}
 use Rattle.prop_intervals.proofs.RunLemmas.{size-append}
@@ -20,12 +20,16 @@ overflow_add-to g t c =
 pub lent_runs-requires : goal.lent_runs-requires
 lent_runs-requires g t c =
     let p = c.in-Some.parted in
-    omega (arith, c.requires, ap size c.in-Some.ensures.some, size-append p.front ((p.set.now, p.len) ∷ p.behind))
+    let room : c.args.start + size p.front < 2 ^ 64 = omega (arith, c.requires, ap size c.in-Some.ensures.some, size-append p.front ((p.set.now, p.len) ∷ p.behind)) in
+    let fewer : length p.front < length c.args.runs.now = omega (arith, ap length c.in-Some.ensures.some, length-append p.front ((p.set.now, p.len) ∷ p.behind)) in
+    search (rules, room, fewer)
 
 pub lent_runs-requires-2 : goal.lent_runs-requires-2
 lent_runs-requires-2 g t c =
     let p = c.in-Some.parted in
-    omega (arith, c.requires, c.len.ensures, ap size c.in-Some.ensures.some, size-append p.front ((p.set.now, p.len) ∷ p.behind))
+    let room : c.args.start + c.len.result + p.len + size p.behind < 2 ^ 64 = omega (arith, c.requires, c.len.ensures, ap size c.in-Some.ensures.some, size-append p.front ((p.set.now, p.len) ∷ p.behind)) in
+    let fewer : length p.behind < length c.args.runs.now = omega (arith, ap length c.in-Some.ensures.some, length-append p.front ((p.set.now, p.len) ∷ p.behind)) in
+    search (rules, room, fewer)
 
 pub returns-in_default : goal.returns-in_default
 returns-in_default g t c = prints_same (ap (λ l. led (run_words c.args.symbols.now (placed c.args.start l))) (sym c.in_default.ensures.none)) prints_nothing
