@@ -4,12 +4,14 @@ ghost use Rattle.text_model.specs.Characters.{code};
 ghost use Rattle.editor_model.specs.Editor.{live};
 ghost use Rattle.ek_types.specs.Seen.{ch_of};
 ghost use Rattle.gap_text.specs.Text.{LiesIn};
+ghost use Rattle.prop_intervals.specs.Runs.{sets_of, AreApart};
 ghost use Rattle.prop_intervals.specs.Sets.{run_end};
 ghost use Rattle.buffer_table.specs.Kept.{editor_of, live_of};
 
 use crate::editor::{Editor, Live};
 use buffer_core::Buffer;
 use ek_types::{Ch, Chars, PropSet};
+use prop_intervals::Runs;
 use std::marker::Model;
 use text_pool::Pool;
 use undo_list::Undo;
@@ -103,6 +105,14 @@ impl<'a> BufferText<'a> {
         ensures { result ≡ run_end i (map (λ c. c.1) self.now.buffer.text) }
     {
         self.buffer.props().run_end(i)
+    }
+
+    /// The runs of one property set: none is empty, and neighbours have different sets.
+    pub fn runs(&self) -> Runs<'a>
+        ensures sets { sets_of result ≡ map (λ c. c.1) self.now.buffer.text }
+        ensures apart { AreApart result }
+    {
+        self.buffer.props().runs()
     }
 
     /// Where the accessible portion begins.

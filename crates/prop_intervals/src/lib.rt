@@ -6,6 +6,7 @@ mod change;
 mod cut;
 mod edit;
 mod laws;
+mod lent;
 mod pieces;
 mod props;
 mod questions;
@@ -14,4 +15,5 @@ mod tree;
 
 pub use edit::PropEdit;
 pub use laws::same_sets_have_the_same_pairs;
+pub use lent::{Parted, Runs};
 pub use props::Props;

@@ -12,6 +12,7 @@ ghost use Rattle.prop_intervals.specs.Sets.{sets_in, run_end, changes_of};
 
 use crate::change::edited_runs;
 use crate::edit::PropEdit;
+use crate::lent::Runs;
 use crate::pieces::{is_all, runs_of};
 use crate::questions;
 use crate::splice::replace;
@@ -75,6 +76,14 @@ impl Props {
         ensures other { slice_get self.now result ≢ slice_get self.now i }
     {
         self.tree.find(i).end
+    }
+
+    /// The runs of one set, lent: none is empty, and neighbours have different sets.
+    pub fn runs(&self) -> Runs<'_>
+        ensures sets { sets_of result ≡ self.now }
+        ensures apart { AreApart result }
+    {
+        Runs::of(&self.tree)
     }
 
     /// The sets again.

@@ -43,3 +43,17 @@ shorter (suc n) (x ∷ xs) = omega (arith, shorter n xs)
 pub lent_within : (codes : List ℕ) (chars : List Ch) (i : ℕ) → codes ≡ map code (take (length codes) (drop i chars)) → length codes ≤ length chars - i
 lent_within codes chars i are =
     omega (arith, ap length are, length-map (take (length codes) (drop i chars)) code, shorter (length codes) (drop i chars), length-drop i chars)
+
+-- one more character that is shown as it is
+pub plain_on : (codes : List ℕ) (chars : List Ch) (n byte : ℕ) → codes ≡ map code chars → n < length codes → byte ∷ [] ≡ shown_code (get_or codes n 0) → get_or codes n 0 ≤ 127 →
+    flat_map shown_ch (take n chars) ++ byte ∷ [] ≡ flat_map shown_ch (take (n + 1) chars)
+plain_on codes chars n byte are inside is low =
+    let size : length codes ≡ length chars = ap length are ∙ length-map chars code in
+    let (c, found, coded) = char_at chars n (omega (arith, size, inside)) in
+    let same : code c ≡ get_or codes n 0 = coded ∙ ap (λ l. get_or l n 0) (sym are) in
+    ap (λ l. flat_map shown_ch (take n chars) ++ l) (is ∙ scalar_here c (get_or codes n 0) same (omega (arith, low))) ∙ one_on shown_ch chars n c found
+
+-- none of some characters, and then others
+pub none_first : (chars : List Ch) (n : ℕ) (rest : List ℕ) → n ≤ 0 → flat_map shown_ch (take n chars) ++ rest ≡ rest
+none_first chars zero rest h = refl
+none_first chars (suc n) rest h = absurd (omega (arith, h))

@@ -3,6 +3,7 @@ pub mod Gathering
 pub mod Live
 pub mod Numbered
 pub mod Objects
+pub mod Placed
 pub mod Printing
 pub mod Spaced
 pub mod Stepping

@@ -1,15 +1,16 @@
 //! The lines of the live buffers in the dump.
-ghost use Rattle.std.specs.Prelude.{codes, [], if◌then◌else◌, flat_map, Some};
+ghost use Rattle.std.specs.Prelude.{codes, [], if◌then◌else◌, map, flat_map, Some};
 ghost use Rattle.std.specs.List.{enumerate_from};
 ghost use Rattle.editor_model.specs.Editor.{live};
 ghost use Rattle.plain_machine.specs.Lines.{shown_live};
 ghost use Rattle.buffer_table.specs.Kept.{editor_of};
 ghost use Rattle.trace_print.specs.Printing.{Prints};
 ghost use Rattle.trace_print.specs.Dumped.{buffer_lines};
+ghost use Rattle.trace_print.specs.Strings.{string_words};
 
 use crate::names::Names;
 use crate::printer::Printer;
-use crate::runs::Sets;
+use crate::runs::{Sets, has_properties};
 use crate::text::Characters;
 use buffer_table::BufferText;
 use ek_types::{Ch, PropSet, Sink, Symbols};
@@ -82,6 +83,24 @@ impl<K: Sink> Printer<'_, K> {
         }
     }
 
+    /// Writes the text of a buffer with its properties.
+    fn whole_text(&mut self, text: &BufferText<'_>, symbols: &Symbols)
+        ensures { Prints K.state self.old self.new (string_words symbols.now
+            (map (λ c. c.0) text.now.buffer.text) (map (λ c. c.1) text.now.buffer.text)) }
+    {
+        if has_properties(text) {
+            let runs = text.runs();
+            // Read so that it is known to fit its type.
+            let _size = runs.len();
+            self.put(b"#(");
+            self.quoted(text);
+            self.lent_runs(&runs, 0, symbols);
+            self.put(b")");
+        } else {
+            self.quoted(text);
+        }
+    }
+
     /// Writes both lines of a live buffer.
     fn buffer_lines(&mut self, text: &BufferText<'_>, current: bool, symbols: &Symbols)
         ensures { Prints K.state self.old self.new (buffer_lines symbols.now current text.now) }
@@ -98,7 +117,7 @@ impl<K: Sink> Printer<'_, K> {
         self.flag(text.modified());
         self.read_only_word(text.read_only());
         self.text_word(current);
-        self.string(text, symbols);
+        self.whole_text(text, symbols);
         self.put(b"\n");
     }
 

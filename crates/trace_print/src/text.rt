@@ -6,7 +6,7 @@ ghost use Rattle.plain_machine.specs.Lines.{shown_ch, quoted};
 ghost use Rattle.ek_types.specs.Seen.{ch_of};
 ghost use Rattle.trace_print.specs.Printing.{Prints};
 
-use crate::escapes::{plain, show};
+use crate::escapes::{plain, plain_code, show};
 use crate::printer::Printer;
 use ek_types::{Ch, Chars, Piece, Sink};
 
@@ -61,6 +61,32 @@ impl Characters for Piece {
     }
 }
 
+/// How many characters are written at once where they are shown as they are.
+const AT_ONCE: usize = 32;
+
+/// Whether the character of a code is shown as it is, by one byte.
+fn is_plain(code: u32) -> bool {
+    plain_code(code).is_some()
+}
+
+/// Copies characters that are shown as they are to the front of `out`, up to the first other one, and says how many.
+fn copy_plain(codes: &[u32], out: &mut [u8; AT_ONCE]) -> usize
+    ensures bytes { (chars : List Character) → codes.now ≡ map code chars →
+        take result out.new ≡ flat_map shown_ch (take result chars) }
+    ensures fits { result ≤ 32 }
+    ensures range { result ≤ length codes.now }
+{
+    let mut n = 0;
+    while n < AT_ONCE && n < codes.len() {
+        let Some(byte) = plain_code(codes[n]) else {
+            return n;
+        };
+        out[n] = byte;
+        n += 1;
+    }
+    n
+}
+
 impl<K: Sink> Printer<'_, K> {
     fn shown(&mut self, c: Ch)
         ensures { Prints K.state self.old self.new (shown_ch (ch_of c)) }
@@ -80,19 +106,49 @@ impl<K: Sink> Printer<'_, K> {
         self.put(&bytes[..size]);
     }
 
-    /// Writes what stands for the characters of some codes, up to the first that is no scalar value, and says for how many.
+    /// Writes characters that are shown as they are, up to the first other one, and says how many.
+    fn plain_run(&mut self, codes: &[u32]) -> usize
+        ensures prints { (chars : List Character) → codes.now ≡ map code chars →
+            Prints K.state self.old self.new (flat_map shown_ch (take result chars)) }
+        ensures range { result ≤ length codes.now }
+    {
+        let mut bytes = [0u8; AT_ONCE];
+        let count = copy_plain(codes, &mut bytes);
+        self.put(&bytes[..count]);
+        count
+    }
+
+    /// Writes what stands for the characters of some codes, up to the first that is shown as it is or is no scalar value,
+    /// and says for how many.
     fn scalars(&mut self, codes: &[u32]) -> usize
         ensures prints { (chars : List Character) → codes.now ≡ map code chars →
             Prints K.state self.old self.new (flat_map shown_ch (take result chars)) }
         ensures range { result ≤ length codes.now }
     {
         for n in 0..codes.len() {
+            if is_plain(codes[n]) {
+                return n;
+            }
             match char::from_u32(codes[n]) {
                 Some(scalar) => self.shown(Ch::Scalar(scalar)),
                 None => return n,
             }
         }
         codes.len()
+    }
+
+    /// Writes what stands for some of these characters, for none only where the first is no scalar value, and says for how
+    /// many.
+    fn some_codes(&mut self, codes: &[u32]) -> usize
+        ensures prints { (chars : List Character) → codes.now ≡ map code chars →
+            Prints K.state self.old self.new (flat_map shown_ch (take result chars)) }
+        ensures range { result ≤ length codes.now }
+    {
+        let plain = self.plain_run(codes);
+        if plain > 0 {
+            return plain;
+        }
+        self.scalars(codes)
     }
 
     /// Writes what stands for some characters from character `i` on, for one at least, and says for how many.
@@ -103,7 +159,7 @@ impl<K: Sink> Printer<'_, K> {
         ensures some { 0 < result }
         ensures range { i + result ≤ length (T.chars text.now) }
     {
-        let count = self.scalars(text.codes(i));
+        let count = self.some_codes(text.codes(i));
         if count > 0 {
             return count;
         }

@@ -13,4 +13,4 @@ returns g c =
     let modified = prints_same (ap (λ b. if b then codes "t" else codes "nil") c.modified.ensures) c.flag.ensures in
     let read_only = prints_same (ap (λ b. if b then codes " read-only" else []) c.read_only.ensures) c.read_only_word.ensures in
     prints_then c.put.ensures (prints_then name (prints_then c.put-2.ensures (prints_then point (prints_then c.put-3.ensures (prints_then begin
-    (prints_then c.put-4.ensures (prints_then end (prints_then c.put-5.ensures (prints_then modified (prints_then read_only (prints_then c.text_word.ensures (prints_then c.string.ensures c.put-6.ensures))))))))))))
+    (prints_then c.put-4.ensures (prints_then end (prints_then c.put-5.ensures (prints_then modified (prints_then read_only (prints_then c.text_word.ensures (prints_then c.whole_text.ensures c.put-6.ensures))))))))))))

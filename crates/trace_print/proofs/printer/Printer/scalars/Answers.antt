@@ -20,3 +20,6 @@ pub returns-clause-prints : goal.returns-clause-prints
 returns-clause-prints g c = λ chars are.
     let size : length c.args.codes.now ≡ length chars = ap length are ∙ length-map chars code in
     prints_same (all_of shown_ch chars c.loop-n.n (omega (arith, size, c.loop-n-test.false)) ∙ sym (all_of shown_ch chars (length c.args.codes.now) (omega (arith, size)))) (c.loop-n.invariant chars are)
+
+pub returns-then-is_plain-clause-prints : goal.returns-then-is_plain-clause-prints
+returns-then-is_plain-clause-prints g c = c.loop-n.invariant
