@@ -1,0 +1,10 @@
+pub mod Listing
+pub mod Quiet
+pub mod FormItems
+pub mod ChangeItems
+pub mod CallItems
+pub mod HandlerItems
+pub mod Lines
+pub mod Agreement
+pub mod Asking
+pub mod CommonFronts

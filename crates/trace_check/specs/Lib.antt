@@ -1,0 +1,9 @@
+pub mod Meaning
+pub mod Answers
+pub mod Questions
+pub mod Waits
+pub mod Steps
+pub mod Turns
+pub mod Comparing
+pub mod Comparers
+pub mod Verdicts
