@@ -179,7 +179,12 @@ fn start_in(kernel: &mut KernelState, place: StartPlace, args: &Values, child: u
 }
 
 /// Makes the process of a child that was started, and gives its number. It takes no memory.
-pub(crate) fn start<P: Program>(kernel: &mut KernelState, program: &P, args: &Values, child: u32) -> u32
+pub(crate) fn start<P: Program>(
+    kernel: &mut KernelState,
+    program: &P,
+    args: &Values,
+    child: u32,
+) -> u32
     requires passes { Passes (P.meant program.now) (state_of kernel.old) StartProcess
         (map view (items_of args.now)) }
     requires place { HasPlace kernel.old (map view (items_of args.now)) }
