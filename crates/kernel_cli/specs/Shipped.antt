@@ -6,7 +6,7 @@ use Rattle.plain_machine.specs.Shipped.{insert_filter, drop_filter, note_sentine
 use Rattle.plain_machine.specs.Symbols.{program_of}
 use Rattle.ek_types.specs.Io.{SourceState, SinkState}
 use Rattle.host_link.specs.Hosts.{HostState}
-use Rattle.kernel_run.specs.Whole.{Doing}
+use Rattle.kernel_state.specs.Whole.{Doing}
 use Rattle.kernel_top.specs.Outcomes.{Came}
 use Rattle.kernel_top.specs.declared.status.Status.{Status}
 

@@ -1,14 +1,1 @@
-pub mod Parameters
-pub mod Inserting
-pub mod LastBuffers
-pub mod HookCalls
-pub mod ProcessCalls
-pub mod Starts
-pub mod RunNames
-pub mod Equality
-pub mod Coding
-pub mod Spoken
-pub mod Refusing
-pub mod Exchanges
 pub mod Unbegun
-pub mod Lives

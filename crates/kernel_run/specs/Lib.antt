@@ -1,5 +1,1 @@
-pub mod Defaults
 pub mod Meaning
-pub mod Setting
-pub mod Starting
-pub mod Whole

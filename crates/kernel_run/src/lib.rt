@@ -1,27 +1,8 @@
-//! A kernel: what a run keeps, and the run of a script on it. Each question and each change that the steps of a run make is
-//! an equation on the machine's state here.
+//! A kernel, and the run of a script on it.
 #![tactic(auto)]
 
-mod blocks;
-mod buffers;
-mod changes;
-mod equal;
-mod handlers;
-mod hearing;
 mod kernel;
-mod manner;
-mod native_names;
-mod place;
-mod program;
-mod questions;
-mod refusals;
 mod run;
-mod scopes;
-mod setting;
-mod starting;
-mod steps;
-mod telling;
-mod words;
 
 pub use kernel::Kernel;
 pub use kernel_steps::Stop;

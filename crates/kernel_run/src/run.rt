@@ -8,14 +8,14 @@ ghost use Rattle.ek_call.specs.Meaning.{script_of};
 ghost use Rattle.kernel_steps.specs.HostCalls.{CallsSince};
 ghost use Rattle.kernel_steps.specs.Outcomes.{EndsAs};
 ghost use Rattle.kernel_run.specs.Meaning.{state_of};
-ghost use Rattle.kernel_run.specs.Whole.{program_with};
+ghost use Rattle.kernel_state.specs.Whole.{program_with};
 
 use crate::kernel::Kernel;
-use crate::program::RunProgram;
 use ek_call::Script;
 use ek_types::Sink;
 use handler_code::Natives;
 use host_link::Host;
+use kernel_state::RunProgram;
 use kernel_steps::{Stop, run_script};
 
 impl Kernel {
@@ -43,8 +43,8 @@ impl Kernel {
         ensures cause { HasCause (K.state sink.old).faults (K.state sink.new).faults (result ≡
             Err Stop.WriteFault) }
     {
-        match RunProgram::new(self.alloc, script, natives) {
-            Ok(program) => run_script(self, &program, script, host, sink),
+        match RunProgram::new(self.state.alloc(), script, natives) {
+            Ok(program) => run_script(&mut self.state, &program, script, host, sink),
             Err(_) => {
                 machine_laws::undo_returns();
                 Err(Stop::NoMemory)

@@ -8,7 +8,7 @@ ghost use Rattle.host_link.specs.Meaning.{exchanges_of};
 ghost use Rattle.journal_text.specs.Lines.{session};
 ghost use Rattle.journal_text.specs.Allowed.{AreLines};
 ghost use Rattle.kernel_steps.specs.HostCalls.{CallsSince};
-ghost use Rattle.kernel_run.specs.Whole.{program_with};
+ghost use Rattle.kernel_state.specs.Whole.{program_with};
 ghost use Rattle.kernel_top.specs.Unseen.{RanUnseen};
 ghost use Rattle.kernel_top.specs.Words.{IsRecord};
 ghost use Rattle.kernel_top.specs.Sessions.{fits, Written};

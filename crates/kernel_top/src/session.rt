@@ -13,7 +13,7 @@ ghost use Rattle.sink_printer.specs.Printing.{Prints};
 ghost use Rattle.kernel_steps.specs.HostCalls.{CallsSince};
 ghost use Rattle.kernel_steps.specs.Worlds.{Stands};
 ghost use Rattle.kernel_run.specs.Meaning.{state_of};
-ghost use Rattle.kernel_run.specs.Whole.{program_with};
+ghost use Rattle.kernel_state.specs.Whole.{program_with};
 ghost use Rattle.kernel_top.specs.Gathering.{session_buffer, text_bytes, gathered};
 ghost use Rattle.session_laws.specs.Sessions.{is_stopped};
 ghost use Rattle.kernel_top.specs.Gathering.{gathered_status, RanOn, Gathered};

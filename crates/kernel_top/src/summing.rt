@@ -7,7 +7,7 @@ ghost use Rattle.ek_types.specs.Io.{Writes, Continues};
 ghost use Rattle.ek_call.specs.Meaning.{script_of};
 ghost use Rattle.kernel_steps.specs.HostCalls.{CallsSince};
 ghost use Rattle.kernel_run.specs.Meaning.{state_of};
-ghost use Rattle.kernel_run.specs.Whole.{program_with};
+ghost use Rattle.kernel_state.specs.Whole.{program_with};
 ghost use Rattle.kernel_top.specs.Drills.{Counted, line_of};
 
 use crate::counting::{CountingHost, CountingSink};

@@ -2,7 +2,7 @@
 ghost use Rattle.std.specs.Prelude.{◌≡◌, ◌≢◌, ◌^◌, ◌≤◌, ℕ, List, [], Some, length, map, string_bytes};
 ghost use Rattle.std.specs.Prelude.{IsTrue};
 ghost use Rattle.ek_types.specs.Io.{HasCause};
-ghost use Rattle.kernel_run.specs.Whole.{program_with};
+ghost use Rattle.kernel_state.specs.Whole.{program_with};
 ghost use Rattle.kernel_top.specs.Words.{IsRun, IsRecord};
 ghost use Rattle.kernel_top.specs.Outcomes.{Came, CameSo, OfBytes, OnRun, OnDrill, Completes};
 

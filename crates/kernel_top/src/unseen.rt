@@ -3,7 +3,7 @@ ghost use Rattle.std.specs.Prelude.{◌≡◌, ◌^◌, ◌≤◌, List, length}
 ghost use Rattle.plain_machine.specs.Exchanges.{Exchange};
 ghost use Rattle.ek_call.specs.Meaning.{script_of};
 ghost use Rattle.kernel_steps.specs.HostCalls.{CallsSince};
-ghost use Rattle.kernel_run.specs.Whole.{program_with};
+ghost use Rattle.kernel_state.specs.Whole.{program_with};
 ghost use Rattle.kernel_top.specs.Unseen.{RanUnseen};
 
 use ek_call::Script;

@@ -9,7 +9,7 @@ ghost use Rattle.buffer_table.specs.Kept.{editor_of};
 ghost use Rattle.final_view.specs.Faults.{Views};
 ghost use Rattle.kernel_steps.specs.HostCalls.{CallsSince};
 ghost use Rattle.kernel_run.specs.Meaning.{state_of};
-ghost use Rattle.kernel_run.specs.Whole.{program_with};
+ghost use Rattle.kernel_state.specs.Whole.{program_with};
 ghost use Rattle.kernel_top.specs.Words.{IsView};
 ghost use Rattle.kernel_top.specs.Viewing.{view_of, Viewed, viewed_status};
 ghost use Rattle.kernel_top.specs.Outcomes.{Came, CameSo, OfBytes, OnView};

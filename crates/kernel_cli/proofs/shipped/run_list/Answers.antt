@@ -2,7 +2,7 @@ use Rattle.std.proofs.Common.{ℕ, List, map, slice_get, string_bytes}
 use Rattle.plain_machine.specs.Shipped.{insert_filter, drop_filter, note_sentinel}
 use Rattle.plain_machine.specs.Symbols.{program_of}
 use Rattle.handler_box.specs.Boxes.{done_by}
-use Rattle.kernel_run.specs.Whole.{Doing}
+use Rattle.kernel_state.specs.Whole.{Doing}
 use Rattle.kernel_top.specs.Outcomes.{Came}
 use Rattle.kernel_cli.proofs.Boxes.{are_done}
 use Rattle.kernel_cli.proofs.shipped.run_list.Goals as goal

@@ -1,7 +1,7 @@
 use Rattle.std.proofs.Common.{length, sym, subst, ◌∙◌, arith}
 use Rattle.ek_call.specs.Meaning.{script_of}
 use Rattle.journal_text.specs.Allowed.{AreLines}
-use Rattle.kernel_run.specs.Whole.{program_with}
+use Rattle.kernel_state.specs.Whole.{program_with}
 use Rattle.kernel_top.proofs.HandedOn.{calls_between}
 use Rattle.kernel_top.proofs.LinedRuns.{handed_lines, whole_lines}
 use Rattle.kernel_top.proofs.recording.run_lined.Goals as goal

@@ -1,6 +1,6 @@
 use Rattle.std.proofs.Common.{refl, sym, ◌∙◌, ap, arith}
 use Rattle.ek_call.specs.Meaning.{script_of}
-use Rattle.kernel_run.specs.Whole.{program_with}
+use Rattle.kernel_state.specs.Whole.{program_with}
 use Rattle.kernel_top.proofs.Paths.{list_kept}
 use Rattle.kernel_top.proofs.Replays.{calls_of_new}
 use Rattle.kernel_top.proofs.Strayed.{whole_journal, strays_there}

@@ -3,7 +3,7 @@ use Rattle.std.proofs.KnownBytes.{Appends-nil}
 use Rattle.plain_machine.specs.Grammar.{IsScript}
 use Rattle.ek_call.specs.Meaning.{script_of}
 use Rattle.host_link.specs.Meaning.{exchanges_of}
-use Rattle.kernel_run.specs.Whole.{program_with}
+use Rattle.kernel_state.specs.Whole.{program_with}
 use Rattle.kernel_top.specs.Replaying.{HasNoScript}
 use Rattle.kernel_top.proofs.Replays.{few_exchanges, rest_is, replayed_bytes}
 use Rattle.kernel_top.proofs.replaying.replay_bytes.Goals as goal

@@ -1,6 +1,6 @@
 use Rattle.std.proofs.Common.{refl, sym, subst}
 use Rattle.std.proofs.KnownBytes.{Appends-nil}
-use Rattle.kernel_run.specs.Whole.{program_with}
+use Rattle.kernel_state.specs.Whole.{program_with}
 use Rattle.kernel_top.specs.Reading.{IsAll}
 use Rattle.kernel_top.specs.Sessions.{longest_session}
 use Rattle.kernel_top.proofs.Replays.{source_replayed, source_unread, no_read_fault}

@@ -1,7 +1,7 @@
 use Rattle.std.proofs.Common.{[], refl, inl, sym, ◌∙◌, arith}
 use Rattle.std.proofs.KnownBytes.{Appends-nil}
 use Rattle.ek_call.specs.Meaning.{script_of}
-use Rattle.kernel_run.specs.Whole.{program_with}
+use Rattle.kernel_state.specs.Whole.{program_with}
 use Rattle.kernel_top.proofs.Outcomes.{is_write_fault}
 use Rattle.kernel_top.proofs.Replays.{calls_of_new, replayed_on}
 use Rattle.kernel_top.proofs.replaying.write_run.Goals as goal

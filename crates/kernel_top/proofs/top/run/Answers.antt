@@ -1,5 +1,5 @@
 use Rattle.std.proofs.Common.{sym, refl, ◌∙◌, map, string_bytes, arith}
-use Rattle.kernel_run.specs.Whole.{program_with}
+use Rattle.kernel_state.specs.Whole.{program_with}
 use Rattle.kernel_top.proofs.Outcomes.{quiet, came_drilled, came_gathered, came_unknown, came_replayed, replay_is_known, drill_reads_nothing, session_reads_nothing, unknown, completes}
 use Rattle.kernel_top.proofs.top.run.Goals as goal
 

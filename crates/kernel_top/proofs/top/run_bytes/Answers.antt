@@ -1,7 +1,7 @@
 use Rattle.std.proofs.Common.{refl, ap, sym, ◌∙◌, [], inl, Err}
 use Rattle.std.proofs.KnownBytes.{Appends-nil}
 use Rattle.ek_call.specs.Meaning.{script_of}
-use Rattle.kernel_run.specs.Whole.{program_with}
+use Rattle.kernel_state.specs.Whole.{program_with}
 use Rattle.kernel_top.specs.Outcomes.{seen}
 use Rattle.kernel_top.proofs.Outcomes.{quiet, came, is_write_fault, is_no_read_fault, is_known}
 use Rattle.kernel_top.proofs.top.run_bytes.Goals as goal

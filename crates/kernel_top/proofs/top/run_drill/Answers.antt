@@ -1,6 +1,6 @@
 use Rattle.std.proofs.Common.{[], refl, inl, inr}
 use Rattle.std.proofs.KnownBytes.{Appends-nil}
-use Rattle.kernel_run.specs.Whole.{program_with}
+use Rattle.kernel_state.specs.Whole.{program_with}
 use Rattle.kernel_top.specs.Drills.{line_of}
 use Rattle.kernel_top.proofs.Outcomes.{quiet, summed}
 use Rattle.kernel_top.proofs.top.run_drill.Goals as goal

@@ -1,5 +1,5 @@
 use Rattle.std.proofs.Common.{sym, subst, inl, inr, refl}
-use Rattle.kernel_run.specs.Whole.{program_with}
+use Rattle.kernel_state.specs.Whole.{program_with}
 use Rattle.plain_machine.specs.Grammar.{longest_script}
 use Rattle.kernel_top.specs.Reading.{IsAll}
 use Rattle.kernel_top.specs.Outcomes.{OnRun, of_run}

@@ -1,7 +1,7 @@
 use Rattle.std.proofs.Common.{refl, ap, [], inl, Err}
 use Rattle.std.proofs.KnownBytes.{Appends-nil}
 use Rattle.ek_call.specs.Meaning.{script_of}
-use Rattle.kernel_run.specs.Whole.{program_with}
+use Rattle.kernel_state.specs.Whole.{program_with}
 use Rattle.kernel_top.specs.Outcomes.{seen}
 use Rattle.kernel_top.proofs.Outcomes.{quiet}
 use Rattle.kernel_top.proofs.Viewed.{came_viewed, no_read_fault, no_usage}

@@ -3,7 +3,7 @@ use Rattle.std.proofs.KnownBytes.{Appends-nil}
 use Rattle.plain_machine.specs.State.{State}
 use Rattle.buffer_table.specs.Kept.{editor_of}
 use Rattle.ek_call.specs.Meaning.{script_of}
-use Rattle.kernel_run.specs.Whole.{program_with}
+use Rattle.kernel_state.specs.Whole.{program_with}
 use Rattle.kernel_top.proofs.Viewed.{viewed, cause}
 use Rattle.kernel_top.proofs.viewing.view_script.Goals as goal
 

@@ -1,0 +1,13 @@
+pub mod Parameters
+pub mod Inserting
+pub mod LastBuffers
+pub mod HookCalls
+pub mod ProcessCalls
+pub mod Starts
+pub mod RunNames
+pub mod Equality
+pub mod Coding
+pub mod Spoken
+pub mod Refusing
+pub mod Exchanges
+pub mod Lives

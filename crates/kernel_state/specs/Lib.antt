@@ -1,0 +1,5 @@
+pub mod Defaults
+pub mod Meaning
+pub mod Setting
+pub mod Starting
+pub mod Whole
