@@ -16,6 +16,7 @@ failure_of status.NoMemory = Some failure.Memory
 failure_of (status.Journal line) = Some (failure.Journal line)
 failure_of status.JournalFull = Some failure.JournalFull
 failure_of (status.Strayed most) = Some (failure.Strayed most)
+failure_of (status.Differs line) = Some (failure.Differs line)
 failure_of status.SessionFull = Some failure.SessionFull
 
 abbrev pub exit_status : Failure → ℕ
@@ -27,4 +28,5 @@ exit_status failure.Memory = 5
 exit_status (failure.Journal line) = 6
 exit_status failure.JournalFull = 7
 exit_status (failure.Strayed most) = 8
+exit_status (failure.Differs line) = 9
 exit_status failure.SessionFull = 10

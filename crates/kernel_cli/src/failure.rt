@@ -23,6 +23,8 @@ pub enum Failure {
     JournalFull,
     #[error("kernel_cli: strayed at {0}")]
     Strayed(u32),
+    #[error("kernel_cli: line {0} differs")]
+    Differs(u32),
     #[error("kernel_cli: session full")]
     SessionFull,
 }
@@ -40,6 +42,7 @@ impl Failure {
             Failure::Journal(_) => 6,
             Failure::JournalFull => 7,
             Failure::Strayed(_) => 8,
+            Failure::Differs(_) => 9,
             Failure::SessionFull => 10,
         }
     }
@@ -59,6 +62,7 @@ pub fn result_of(status: Status) -> Result<(), Failure>
         Status::Journal(line) => Err(Failure::Journal(line)),
         Status::JournalFull => Err(Failure::JournalFull),
         Status::Strayed(most) => Err(Failure::Strayed(most)),
+        Status::Differs(line) => Err(Failure::Differs(line)),
         Status::SessionFull => Err(Failure::SessionFull),
     }
 }

@@ -298,6 +298,7 @@ fn a_failure_is_told_in_a_line(rt: HostRuntime) -> Result<(), Fail> {
         (Status::Journal(2), "kernel_cli: journal: line 2", 6),
         (Status::JournalFull, "kernel_cli: journal too long", 7),
         (Status::Strayed(3), "kernel_cli: strayed at 3", 8),
+        (Status::Differs(4), "kernel_cli: line 4 differs", 9),
         (Status::SessionFull, "kernel_cli: session full", 10),
     ];
     for (status, line, exit_status) in told {

@@ -4,6 +4,8 @@
 #[cfg(test)]
 mod acting;
 #[cfg(test)]
+mod checking;
+#[cfg(test)]
 mod codings;
 #[cfg(test)]
 mod cuts;

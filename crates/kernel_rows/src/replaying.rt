@@ -12,7 +12,7 @@ fn replay(rt: &impl Abort, alloc: Global, session: &str, setting: Setting) -> Ra
     run_words(rt, alloc, &["replay"], session, Vec::new(alloc), setting)
 }
 
-const LINES: &str = "= #<process c>
+pub const LINES: &str = "= #<process c>
 > filter default #<process c> \"ab\"
 < default
 = t

@@ -5,7 +5,7 @@ use kernel_top::Status;
 use std::alloc::Global;
 use std::process::Abort;
 
-const WRONG: [&[&str]; 28] = [
+const WRONG: [&[&str]; 30] = [
     &["walk"],
     &["run", "x"],
     &[],
@@ -20,6 +20,8 @@ const WRONG: [&[&str]; 28] = [
     &["record", "x"],
     &["replay", "1"],
     &["Replay"],
+    &["check", "x"],
+    &["checks"],
     &["view", "x"],
     &["views"],
     &["session"],

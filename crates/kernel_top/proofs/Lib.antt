@@ -12,6 +12,9 @@ pub mod Paths
 pub mod Following
 pub mod Strayed
 pub mod Replays
+pub mod CommonFronts
+pub mod Agreeing
+pub mod Checks
 pub mod Viewed
 pub mod SessionWords
 pub mod Gathering

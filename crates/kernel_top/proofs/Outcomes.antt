@@ -1,7 +1,7 @@
 -- What follows from how a script ended, and from the outcome of a call.
 use Rattle.std.proofs.Common.{◌≡◌, ℕ, ◌+◌, ◌<◌, ◌≤◌, Bool, true, false, List, [], ◌∷◌, length, Some, None, Result, Ok, Err, inl, inr, refl, sym, ◌∙◌, subst, arith}
-use Rattle.std.specs.Prelude.{◌⊎◌, nat_lt, codes, if◌then◌else◌}
-use Rattle.std.proofs.lemmas.Bool.{ltb-true, ltb-false}
+use Rattle.std.specs.Prelude.{◌⊎◌, nat_lt, codes, ◌||◌, if◌then◌else◌}
+use Rattle.std.proofs.lemmas.Bool.{ltb-true, ltb-false, or_right}
 use Rattle.std.specs.declared.option.Option.{Option}
 use Rattle.std.specs.Io.KnownBytes.{Consumes, IsAtEnd, Appends}
 use Rattle.std.proofs.KnownBytes.{Appends-nil}
@@ -17,13 +17,14 @@ use Rattle.kernel_steps.specs.declared.stop.Stop.{Stop}
 use Rattle.kernel_steps.specs.declared.stop.Stop.TheVariants as stop
 use Rattle.text_model.specs.Names.{same_word}
 use Rattle.ek_types.proofs.Naming.{same_word-true}
-use Rattle.kernel_top.specs.Words.{is_word, IsRun, IsRecord, IsReplay, IsView, IsDrill, IsKnown}
+use Rattle.kernel_top.specs.Words.{is_word, IsRun, IsRecord, IsReplay, IsCheck, IsView, IsDrill, IsKnown}
 use Rattle.kernel_top.specs.SessionWords.{Wanted, IsSession, session_of}
 use Rattle.kernel_top.specs.Reading.{HasEnded, IsAll, IsGivenUp}
 use Rattle.kernel_top.specs.declared.reading.Refused.{Refused}
 use Rattle.kernel_top.specs.declared.reading.Refused.TheVariants as refused
 use Rattle.kernel_top.specs.Drills.{SumsUp}
-use Rattle.kernel_top.specs.Outcomes.{status_of, written_status, Seen, seen, IsQuiet, IsNoScript, OnRun, OnRecord, OnReplay, OnView, OnDrill, OnSession, OnOthers, Outcome, of_run, of_record, of_replay, of_view, of_drill, of_session, of_others, Came, CameSo, OfBytes, most_read, Completes, CompletesRun, CompletesRecord, CompletesReplay, CompletesView, CompletesDrill, CompletesSession}
+use Rattle.kernel_top.specs.Checking.{OfCheck, ReadAndChecked, SourceChecked}
+use Rattle.kernel_top.specs.Outcomes.{status_of, written_status, Seen, seen, IsQuiet, IsNoScript, OnRun, OnRecord, OnReplay, OnCheck, OnView, OnDrill, OnSession, OnOthers, Outcome, of_run, of_record, of_replay, of_check, of_view, of_drill, of_session, of_others, Came, CameSo, OfBytes, most_read, Completes, CompletesRun, CompletesRecord, CompletesReplay, CompletesCheck, CompletesView, CompletesDrill, CompletesSession}
 use Rattle.kernel_top.specs.Sessions.{longest_session}
 use Rattle.kernel_top.specs.Replaying.{ReadAndReplayed, SourceReplayed}
 use Rattle.kernel_top.specs.declared.status.Status.{Status}
@@ -54,7 +55,11 @@ few_by n true h = omega (arith, h)
 few_by n false h = h
 
 pub few_read : (n : ℕ) (words : List (List ℕ)) → n ≤ longest_script + 1 → n ≤ most_read words
-few_read n words h = few_by n (is_word (codes "replay") words) h
+few_read n words h = few_by n (is_word (codes "replay") words || is_word (codes "check") words) h
+
+-- no verdict has this status
+pub no_verdict : {read : List ℕ} → OfCheck read (λ journal claimed script. ⊥) → ⊥
+no_verdict of = let (script, is, no) = of.so in no
 
 -- THE OUTCOME
 pub quiet : (source source' : SourceState) (sink : SinkState) (host : HostState) → IsQuiet [] [] (seen source sink host) (seen source' sink host)
@@ -157,6 +162,20 @@ module _ {H : Type 0} (hosted : H → HostState) (made : H → H → Ask → ℕ
     outcome = of_replay replays (refl, refl, so.so);
   }
 
+  -- nor does a check
+  pub came_checked : IsCheck words → SourceChecked program answer source source' sink sink' → Came hosted made program words answer start start source source' sink sink'
+  came_checked checks so = record {
+    read = so.read;
+    written = so.written;
+    exchanges = [];
+    taken = so.taken;
+    few = rw (or_right (is_word (codes "replay") words) (is_word (codes "check") words) checks) so.few;
+    put = so.put;
+    calls = refl;
+    told = calls_told hosted made start start [] refl;
+    outcome = of_check checks (refl, refl, so.so);
+  }
+
   -- so it is of words that the program doesn't know
   pub came_unknown : (IsKnown words → ⊥) → OnOthers answer [] [] (seen source sink (hosted start)) (seen source sink (hosted start)) → Came hosted made program words answer start start source source sink sink
   came_unknown never row = record {
@@ -177,6 +196,14 @@ replay_is_known program answer source source' sink sink' so e = by (subst (λ a.
   where
     by : ReadAndReplayed program status.Usage so.read so.written (HasEnded source.left source'.left) sink sink' → ⊥
     by (inl (ended, short, row)) = row
+    by (inr (nothing, row)) = row
+
+-- a check does, too
+pub check_is_known : (program : Script → Program) (answer : Status) (source source' : SourceState) (sink sink' : SinkState) → SourceChecked program answer source source' sink sink' → answer ≡ status.Usage → ⊥
+check_is_known program answer source source' sink sink' so e = by (subst (λ a. ReadAndChecked program a so.read so.written (HasEnded source.left source'.left) sink sink') e so.so)
+  where
+    by : ReadAndChecked program status.Usage so.read so.written (HasEnded source.left source'.left) sink sink' → ⊥
+    by (inl (ended, short, told)) = no_verdict told.1
     by (inr (nothing, row)) = row
 
 -- a drill comes to no read fault
@@ -234,18 +261,31 @@ record_no_view words = two_words (codes "record") (codes "view") refl words
 replay_no_view : (words : List (List ℕ)) → IsReplay words → IsView words → ⊥
 replay_no_view words = two_words (codes "replay") (codes "view") refl words
 
+run_no_check : (words : List (List ℕ)) → IsRun words → IsCheck words → ⊥
+run_no_check words run = two_words (codes "run") (codes "check") refl words (run_is_word words run)
+
+record_no_check : (words : List (List ℕ)) → IsRecord words → IsCheck words → ⊥
+record_no_check words = two_words (codes "record") (codes "check") refl words
+
+replay_no_check : (words : List (List ℕ)) → IsReplay words → IsCheck words → ⊥
+replay_no_check words = two_words (codes "replay") (codes "check") refl words
+
+view_no_check : (words : List (List ℕ)) → IsView words → IsCheck words → ⊥
+view_no_check words = two_words (codes "view") (codes "check") refl words
+
 pub not_both : (words : List (List ℕ)) (count : ℕ) → IsRun words → IsDrill words count → ⊥
 not_both [] count run drill = let no : false ≡ true = run in cc
 not_both (w ∷ []) count run drill = let no : None ≡ Some count = drill in cc
 not_both (w ∷ x ∷ words) count run drill = let no : false ≡ true = run in cc
 
-pub unknown : (words : List (List ℕ)) → is_run words ≡ false → is_word (codes "record") words ≡ false → is_word (codes "replay") words ≡ false → is_word (codes "view") words ≡ false → None ≡ session_of words → None ≡ drill_of words → IsKnown words → ⊥
-unknown words no_run no_record no_replay no_view no_session no_drill (inl run) = let no : false ≡ true = sym no_run ∙ run in cc
-unknown words no_run no_record no_replay no_view no_session no_drill (inr (inl recording)) = let no : false ≡ true = sym no_record ∙ recording in cc
-unknown words no_run no_record no_replay no_view no_session no_drill (inr (inr (inl replays))) = let no : false ≡ true = sym no_replay ∙ replays in cc
-unknown words no_run no_record no_replay no_view no_session no_drill (inr (inr (inr (inl viewing)))) = let no : false ≡ true = sym no_view ∙ viewing in cc
-unknown words no_run no_record no_replay no_view no_session no_drill (inr (inr (inr (inr (inl (wanted, session)))))) = let no : None ≡ Some wanted = no_session ∙ session in cc
-unknown words no_run no_record no_replay no_view no_session no_drill (inr (inr (inr (inr (inr (count, drill)))))) = let no : None ≡ Some count = no_drill ∙ drill in cc
+pub unknown : (words : List (List ℕ)) → is_run words ≡ false → is_word (codes "record") words ≡ false → is_word (codes "replay") words ≡ false → is_word (codes "check") words ≡ false → is_word (codes "view") words ≡ false → None ≡ session_of words → None ≡ drill_of words → IsKnown words → ⊥
+unknown words no_run no_record no_replay no_check no_view no_session no_drill (inl run) = let no : false ≡ true = sym no_run ∙ run in cc
+unknown words no_run no_record no_replay no_check no_view no_session no_drill (inr (inl recording)) = let no : false ≡ true = sym no_record ∙ recording in cc
+unknown words no_run no_record no_replay no_check no_view no_session no_drill (inr (inr (inl replays))) = let no : false ≡ true = sym no_replay ∙ replays in cc
+unknown words no_run no_record no_replay no_check no_view no_session no_drill (inr (inr (inr (inl viewing)))) = let no : false ≡ true = sym no_view ∙ viewing in cc
+unknown words no_run no_record no_replay no_check no_view no_session no_drill (inr (inr (inr (inr (inl checks))))) = let no : false ≡ true = sym no_check ∙ checks in cc
+unknown words no_run no_record no_replay no_check no_view no_session no_drill (inr (inr (inr (inr (inr (inl (wanted, session))))))) = let no : None ≡ Some wanted = no_session ∙ session in cc
+unknown words no_run no_record no_replay no_check no_view no_session no_drill (inr (inr (inr (inr (inr (inr (count, drill))))))) = let no : None ≡ Some count = no_drill ∙ drill in cc
 
 -- COMPLETENESS
 -- a script is not refused
@@ -280,6 +320,7 @@ module _ (program : Script → Program) (words : List (List ℕ)) (read written 
   run_row (status.Journal line) o r w = λ bytes script run told is unread unwritten. absurd o
   run_row status.JournalFull o r w = λ bytes script run told is unread unwritten. absurd o
   run_row (status.Strayed most) o r w = λ bytes script run told is unread unwritten. absurd o
+  run_row (status.Differs line) o r w = λ bytes script run told is unread unwritten. absurd o
   run_row status.SessionFull o r w = λ bytes script run told is unread unwritten. absurd o
 
   record_row : (result : Status) → OnRecord program result read written exchanges before now → (result ≡ status.ReadFault → Rose source.faults source'.faults) → (result ≡ status.WriteFault → Rose sink.faults sink'.faults) →
@@ -290,6 +331,7 @@ module _ (program : Script → Program) (words : List (List ℕ)) (read written 
   record_row status.Usage o r w = λ bytes script run told is unread unwritten. absurd o.so.session
   record_row (status.Journal line) o r w = λ bytes script run told is unread unwritten. absurd o.so.session
   record_row (status.Strayed most) o r w = λ bytes script run told is unread unwritten. absurd o.so.session
+  record_row (status.Differs line) o r w = λ bytes script run told is unread unwritten. absurd o.so.session
   record_row status.SessionFull o r w = λ bytes script run told is unread unwritten. absurd o.so.session
   record_row (status.Script line) (ended, refused, kept) r w = λ bytes script run told is unread unwritten. absurd (no_script_read bytes read script line source.left source'.left told taken ended is refused)
   record_row status.ReadFault o r w = λ bytes script run told is unread unwritten. absurd (unread (r refl))
@@ -304,12 +346,31 @@ module _ (program : Script → Program) (words : List (List ℕ)) (read written 
   replay_row (status.Strayed most) o r w = λ is unread unwritten. tt
   replay_row status.ReadFault o r w = λ is unread unwritten. unread (r refl)
   replay_row status.WriteFault o r w = λ is unread unwritten. unwritten (w refl)
+  replay_row (status.Differs line) (alone, same, inl (ended, short, row)) r w = absurd row
+  replay_row (status.Differs line) (alone, same, inr (nothing, row)) r w = absurd row
   replay_row status.Usage (alone, same, inl (ended, short, row)) r w = absurd row
   replay_row status.Usage (alone, same, inr (nothing, row)) r w = absurd row
   replay_row status.SessionFull (alone, same, inl (ended, short, row)) r w = absurd row
   replay_row status.SessionFull (alone, same, inr (nothing, row)) r w = absurd row
   replay_row status.JournalFull (alone, same, inl (ended, short, row)) r w = absurd row
   replay_row status.JournalFull (alone, same, inr (nothing, row)) r w = absurd row
+
+  check_row : (result : Status) → OnCheck program result read written exchanges before now → (result ≡ status.ReadFault → Rose source.faults source'.faults) → (result ≡ status.WriteFault → Rose sink.faults sink'.faults) →
+      CompletesCheck result words source source' sink sink'
+  check_row status.Done o r w = λ is unread unwritten. tt
+  check_row status.NoMemory o r w = λ is unread unwritten. tt
+  check_row (status.Journal line) o r w = λ is unread unwritten. tt
+  check_row (status.Script line) o r w = λ is unread unwritten. tt
+  check_row (status.Strayed most) o r w = λ is unread unwritten. tt
+  check_row (status.Differs line) o r w = λ is unread unwritten. tt
+  check_row status.ReadFault o r w = λ is unread unwritten. unread (r refl)
+  check_row status.WriteFault o r w = λ is unread unwritten. unwritten (w refl)
+  check_row status.Usage (alone, same, inl (ended, short, told)) r w = absurd (no_verdict told.1)
+  check_row status.Usage (alone, same, inr (nothing, row)) r w = absurd row
+  check_row status.SessionFull (alone, same, inl (ended, short, told)) r w = absurd (no_verdict told.1)
+  check_row status.SessionFull (alone, same, inr (nothing, row)) r w = absurd row
+  check_row status.JournalFull (alone, same, inl (ended, short, told)) r w = absurd (no_verdict told.1)
+  check_row status.JournalFull (alone, same, inr (nothing, row)) r w = absurd row
 
   view_row : (result : Status) → OnView program result read written exchanges before now → (result ≡ status.ReadFault → Rose source.faults source'.faults) → (result ≡ status.WriteFault → Rose sink.faults sink'.faults) →
       CompletesView result words source source' sink sink'
@@ -320,6 +381,7 @@ module _ (program : Script → Program) (words : List (List ℕ)) (read written 
   view_row status.JournalFull o r w = λ bytes script run told is unread unwritten. absurd o.so
   view_row status.SessionFull o r w = λ bytes script run told is unread unwritten. absurd o.so
   view_row (status.Strayed most) o r w = λ bytes script run told is unread unwritten. absurd o.so
+  view_row (status.Differs line) o r w = λ bytes script run told is unread unwritten. absurd o.so
   view_row (status.Script line) (ended, refused, kept) r w = λ bytes script run told is unread unwritten. absurd (no_script_read bytes read script line source.left source'.left told taken ended is refused)
   view_row status.ReadFault o r w = λ bytes script run told is unread unwritten. absurd (unread (r refl))
   view_row status.WriteFault o r w = λ bytes script run told is unread unwritten. absurd (unwritten (w refl))
@@ -334,6 +396,7 @@ module _ (program : Script → Program) (words : List (List ℕ)) (read written 
   drill_row n (status.Journal line) o w = λ count is unwritten. absurd o
   drill_row n status.JournalFull o w = λ count is unwritten. absurd o
   drill_row n (status.Strayed most) o w = λ count is unwritten. absurd o
+  drill_row n (status.Differs line) o w = λ count is unwritten. absurd o
   drill_row n status.SessionFull o w = λ count is unwritten. absurd o
 
   session_row : (n : Wanted) (result : Status) → OnSession n result written exchanges before now → (result ≡ status.WriteFault → Rose sink.faults sink'.faults) → CompletesSession result words sink sink'
@@ -347,6 +410,7 @@ module _ (program : Script → Program) (words : List (List ℕ)) (read written 
   session_row n (status.Journal line) o w = λ wanted is unwritten. absurd o.gathered.text
   session_row n status.JournalFull o w = λ wanted is unwritten. absurd o.gathered.text
   session_row n (status.Strayed most) o w = λ wanted is unwritten. absurd o.gathered.text
+  session_row n (status.Differs line) o w = λ wanted is unwritten. absurd o.gathered.text
 
   -- where neither source nor sink failed, a script or a drill is run to its end, or memory was wanting
   pub completes : (result : Status) → Outcome program result words read written exchanges before now → (result ≡ status.ReadFault → Rose source.faults source'.faults) → (result ≡ status.WriteFault → Rose sink.faults sink'.faults) →
@@ -355,6 +419,7 @@ module _ (program : Script → Program) (words : List (List ℕ)) (read written 
     run = run_row result row r w;
     recording = λ bytes script is. absurd (run_no_record words run is);
     replaying = λ is. absurd (run_no_replay words run is);
+    checking = λ is. absurd (run_no_check words run is);
     viewing = λ bytes script is. absurd (run_no_view words run is);
     drill = λ count is unwritten. absurd (not_both words count run is);
     gathering = λ wanted is unwritten. absurd (session_no_run words wanted run is);
@@ -363,6 +428,7 @@ module _ (program : Script → Program) (words : List (List ℕ)) (read written 
     run = λ bytes script run. absurd (run_no_record words run recording);
     recording = record_row result row r w;
     replaying = λ is. absurd (record_no_replay words recording is);
+    checking = λ is. absurd (record_no_check words recording is);
     viewing = λ bytes script is. absurd (record_no_view words recording is);
     drill = λ count is unwritten. absurd (word_no_drill (codes "record") words count recording is);
     gathering = λ wanted is unwritten. absurd (session_no_word (codes "record") words wanted recording is);
@@ -371,14 +437,25 @@ module _ (program : Script → Program) (words : List (List ℕ)) (read written 
     run = λ bytes script run. absurd (run_no_replay words run replays);
     recording = λ bytes script is. absurd (record_no_replay words is replays);
     replaying = replay_row result row r w;
+    checking = λ is. absurd (replay_no_check words replays is);
     viewing = λ bytes script is. absurd (replay_no_view words replays is);
     drill = λ count is unwritten. absurd (word_no_drill (codes "replay") words count replays is);
     gathering = λ wanted is unwritten. absurd (session_no_word (codes "replay") words wanted replays is);
+  }
+  completes result (of_check checks row) r w = record {
+    run = λ bytes script run. absurd (run_no_check words run checks);
+    recording = λ bytes script is. absurd (record_no_check words is checks);
+    replaying = λ is. absurd (replay_no_check words is checks);
+    checking = check_row result row r w;
+    viewing = λ bytes script is. absurd (view_no_check words is checks);
+    drill = λ count is unwritten. absurd (word_no_drill (codes "check") words count checks is);
+    gathering = λ wanted is unwritten. absurd (session_no_word (codes "check") words wanted checks is);
   }
   completes result (of_view viewing row) r w = record {
     run = λ bytes script run. absurd (run_no_view words run viewing);
     recording = λ bytes script is. absurd (record_no_view words is viewing);
     replaying = λ is. absurd (replay_no_view words is viewing);
+    checking = λ is. absurd (view_no_check words viewing is);
     viewing = view_row result row r w;
     drill = λ count is unwritten. absurd (word_no_drill (codes "view") words count viewing is);
     gathering = λ wanted is unwritten. absurd (session_no_word (codes "view") words wanted viewing is);
@@ -387,6 +464,7 @@ module _ (program : Script → Program) (words : List (List ℕ)) (read written 
     run = λ bytes script run. absurd (not_both words n run drill);
     recording = λ bytes script is. absurd (word_no_drill (codes "record") words n is drill);
     replaying = λ is. absurd (word_no_drill (codes "replay") words n is drill);
+    checking = λ is. absurd (word_no_drill (codes "check") words n is drill);
     viewing = λ bytes script is. absurd (word_no_drill (codes "view") words n is drill);
     drill = drill_row n result row w;
     gathering = λ wanted is unwritten. absurd (session_no_drill words wanted n drill is);
@@ -395,6 +473,7 @@ module _ (program : Script → Program) (words : List (List ℕ)) (read written 
     run = λ bytes script run. absurd (session_no_run words n run session);
     recording = λ bytes script is. absurd (session_no_word (codes "record") words n is session);
     replaying = λ is. absurd (session_no_word (codes "replay") words n is session);
+    checking = λ is. absurd (session_no_word (codes "check") words n is session);
     viewing = λ bytes script is. absurd (session_no_word (codes "view") words n is session);
     drill = λ count is unwritten. absurd (session_no_drill words n count is session);
     gathering = session_row n result row w;
@@ -403,7 +482,8 @@ module _ (program : Script → Program) (words : List (List ℕ)) (read written 
     run = λ bytes script run. absurd (never (inl run));
     recording = λ bytes script is. absurd (never (inr (inl is)));
     replaying = λ is. absurd (never (inr (inr (inl is))));
+    checking = λ is. absurd (never (inr (inr (inr (inr (inl is))))));
     viewing = λ bytes script is. absurd (never (inr (inr (inr (inl is)))));
-    drill = λ count is unwritten. absurd (never (inr (inr (inr (inr (inr (count, is)))))));
-    gathering = λ wanted is unwritten. absurd (never (inr (inr (inr (inr (inl (wanted, is)))))));
+    drill = λ count is unwritten. absurd (never (inr (inr (inr (inr (inr (inr (count, is))))))));
+    gathering = λ wanted is unwritten. absurd (never (inr (inr (inr (inr (inr (inl (wanted, is))))))));
   }

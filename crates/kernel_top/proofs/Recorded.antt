@@ -58,6 +58,7 @@ module _ (program : Script → Program) (script : Script) where
   recorded read written exchanges before now status.JournalFull ended is whole lines row = record { ended = ended; script = script; is = is; so = record { whole = whole; lines = lines; session = row } }
   recorded read written exchanges before now (status.Journal line) ended is whole lines row = absurd row
   recorded read written exchanges before now (status.Strayed most) ended is whole lines row = absurd row
+  recorded read written exchanges before now (status.Differs line) ended is whole lines row = absurd row
   recorded read written exchanges before now status.SessionFull ended is whole lines row = absurd row
   recorded read written exchanges before now status.Usage ended is whole lines row = absurd row
   recorded read written exchanges before now (status.Script line) ended is whole lines row = absurd row

@@ -46,6 +46,7 @@ module _ (program : Script → Program) (script : Script) (exchanges : List Exch
       let same = one_session exchanges r.1.journal bytes r.1.bytes journal r.1.lines r.1.is in
       r.1.so.none script (subst (λ l. IsScript l script) same.scripts is)
   replayed_so (status.Strayed most) written before now r = (read_back (λ list s. Strays (program s) s list most) r.1).unended whole
+  replayed_so (status.Differs line) written before now r = r
   replayed_so status.Usage written before now r = r
   replayed_so status.ReadFault written before now r = r
   replayed_so status.JournalFull written before now r = r

@@ -43,6 +43,7 @@ module _ (program : Program) (script : Script) (list : List Exchange) where
   refused_on status.NoMemory sink so = inl (refl, refl)
   refused_on (status.Strayed most) sink so = ((refl, refl), so)
   refused_on status.Done sink so = absurd so
+  refused_on (status.Differs line) sink so = absurd so
   refused_on status.Usage sink so = absurd so
   refused_on (status.Script line) sink so = absurd so
   refused_on status.ReadFault sink so = absurd so
@@ -59,7 +60,7 @@ pub no_read_fault : (program : Script → Program) (answer : Status) (read writt
 no_read_fault program answer read written before now so e = subst (λ a. Replayed program a read written before now) e so
 
 -- a journal has no more exchanges than bytes
-few_lines : (list : List Exchange) → length list ≤ length (journal list)
+pub few_lines : (list : List Exchange) → length list ≤ length (journal list)
 few_lines [] = omega arith
 few_lines (x ∷ list) =
     let ending : List ℕ = codes " -> " ++ (answer_words x.answer ++ 10 ∷ []) in
@@ -81,6 +82,7 @@ replayed_bytes program script status.WriteFault read journal at written before n
 replayed_bytes program script status.NoMemory read journal at written before now to is (inl nothing) = inl nothing
 replayed_bytes program script status.NoMemory read journal at written before now to is (inr so) = inr (record { journal = journal; bytes = drop at read; lines = to.lines; is = to.whole; so = (script, is, so) })
 replayed_bytes program script (status.Strayed most) read journal at written before now to is (nothing, so) = (nothing, record { journal = journal; bytes = drop at read; lines = to.lines; is = to.whole; so = (script, is, so) })
+replayed_bytes program script (status.Differs line) read journal at written before now to is so = absurd so
 replayed_bytes program script status.Usage read journal at written before now to is so = absurd so
 replayed_bytes program script (status.Script line) read journal at written before now to is so = absurd so
 replayed_bytes program script status.ReadFault read journal at written before now to is so = absurd so

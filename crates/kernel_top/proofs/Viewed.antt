@@ -75,3 +75,4 @@ came_viewed program script (status.Journal line) read written exchanges before n
 came_viewed program script status.JournalFull read written exchanges before now ended is so = absurd so
 came_viewed program script status.SessionFull read written exchanges before now ended is so = absurd so
 came_viewed program script (status.Strayed most) read written exchanges before now ended is so = absurd so
+came_viewed program script (status.Differs line) read written exchanges before now ended is so = absurd so

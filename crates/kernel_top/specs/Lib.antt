@@ -9,6 +9,7 @@ pub mod Drills
 pub mod Unseen
 pub mod Sessions
 pub mod Replaying
+pub mod Checking
 pub mod Viewing
 pub mod Gathering
 pub mod Outcomes

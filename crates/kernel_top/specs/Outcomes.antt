@@ -1,5 +1,5 @@
 -- What the top call claims, by its words and its status: of the bytes read, of the bytes written, and of the exchanges made.
-use Rattle.std.specs.Prelude.{◌≡◌, ℕ, ◌+◌, ◌<◌, ◌≤◌, ◌⊎◌, List, [], length, Some, Result, Ok, Err, codes, if◌then◌else◌}
+use Rattle.std.specs.Prelude.{◌≡◌, ℕ, ◌+◌, ◌<◌, ◌≤◌, ◌⊎◌, List, [], length, Some, Result, Ok, Err, codes, ◌||◌, if◌then◌else◌}
 use Rattle.std.specs.Io.KnownBytes.{Consumes, Appends}
 use Rattle.editor_model.specs.Values.{Script}
 use Rattle.plain_machine.specs.Exchanges.{Ask, Answer, Exchange}
@@ -13,12 +13,13 @@ use Rattle.kernel_steps.specs.HostCalls.{CallsSince, Tells}
 use Rattle.kernel_steps.specs.Outcomes.{RanScript, StoppedScript}
 use Rattle.kernel_steps.specs.declared.stop.Stop.{Stop}
 use Rattle.kernel_steps.specs.declared.stop.Stop.TheVariants as stop
-use Rattle.kernel_top.specs.Words.{is_word, IsRun, IsRecord, IsReplay, IsView, IsDrill, IsKnown}
+use Rattle.kernel_top.specs.Words.{is_word, IsRun, IsRecord, IsReplay, IsCheck, IsView, IsDrill, IsKnown}
 use Rattle.kernel_top.specs.SessionWords.{Wanted, IsSession}
 use Rattle.kernel_top.specs.Reading.{HasEnded}
 use Rattle.kernel_top.specs.Drills.{SumsUp, BreaksOff}
 use Rattle.kernel_top.specs.Sessions.{longest_session, Records, BreaksOffUnseen}
 use Rattle.kernel_top.specs.Replaying.{ReadAndReplayed}
+use Rattle.kernel_top.specs.Checking.{ReadAndChecked}
 use Rattle.kernel_top.specs.Viewing.{Viewed}
 use Rattle.kernel_top.specs.Gathering.{script_wanted, program_wanted, Gathers, Lined}
 use Rattle.kernel_top.specs.declared.status.Status.{Status}
@@ -95,6 +96,11 @@ abbrev pub OnReplay : (Script → Program) → Status → (read written : List �
 OnReplay program answer read written exchanges before now =
     (exchanges ≡ []) × (now.host ≡ before.host) × ReadAndReplayed program answer read written (HasEnded before.source.left now.source.left) before.sink now.sink
 
+-- the word `check`: the host is asked nothing
+abbrev pub OnCheck : (Script → Program) → Status → (read written : List ℕ) → List Exchange → (before now : Seen) → Type 0
+OnCheck program answer read written exchanges before now =
+    (exchanges ≡ []) × (now.host ≡ before.host) × ReadAndChecked program answer read written (HasEnded before.source.left now.source.left) before.sink now.sink
+
 -- the word `view`
 abbrev pub OnView : (Script → Program) → Status → (read written : List ℕ) → List Exchange → (before now : Seen) → Type 0
 OnView program (status.Script line) read written exchanges before now = RefusesScript line read written exchanges before now
@@ -151,6 +157,7 @@ pub data Outcome (program : Script → Program) (answer : Status) (words : List 
   of_run : IsRun words → OnRun program answer read written exchanges before now → Outcome program answer words read written exchanges before now
   of_record : IsRecord words → OnRecord program answer read written exchanges before now → Outcome program answer words read written exchanges before now
   of_replay : IsReplay words → OnReplay program answer read written exchanges before now → Outcome program answer words read written exchanges before now
+  of_check : IsCheck words → OnCheck program answer read written exchanges before now → Outcome program answer words read written exchanges before now
   of_view : IsView words → OnView program answer read written exchanges before now → Outcome program answer words read written exchanges before now
   of_drill : (count : ℕ) → IsDrill words count → IsUnread read before now → OnDrill program count answer written exchanges before now → Outcome program answer words read written exchanges before now
   of_session : (wanted : Wanted) → IsSession words wanted → IsUnread read before now → OnSession wanted answer written exchanges before now → Outcome program answer words read written exchanges before now
@@ -158,7 +165,7 @@ pub data Outcome (program : Script → Program) (answer : Status) (words : List 
 
 -- how many bytes a call asks of its source at most
 abbrev pub most_read : (words : List (List ℕ)) → ℕ
-most_read words = if is_word (codes "replay") words then longest_session + 1 else longest_script + 1
+most_read words = if is_word (codes "replay") words || is_word (codes "check") words then longest_session + 1 else longest_script + 1
 
 -- What a call came to. The bytes read and written are those that source and sink tell, where they tell any. The exchanges
 -- are the calls that were made on the host, which tells them where it tells any.
@@ -211,6 +218,16 @@ abbrev pub CompletesReplay : Status → (words : List (List ℕ)) → (source so
 CompletesReplay answer words source source' sink sink' =
     IsReplay words → (Rose source.faults source'.faults → ⊥) → (Rose sink.faults sink'.faults → ⊥) → EndsOrRefuses answer
 
+-- the same, or refused for what the claimed lines are
+abbrev pub EndsOrJudges : Status → Type 0
+EndsOrJudges (status.Differs line) = Unit {0}
+EndsOrJudges answer = EndsOrRefuses answer
+
+-- where neither failed, claimed lines are judged, or the transcript refused, or memory was wanting
+abbrev pub CompletesCheck : Status → (words : List (List ℕ)) → (source source' : SourceState) → (sink sink' : SinkState) → Type 0
+CompletesCheck answer words source source' sink sink' =
+    IsCheck words → (Rose source.faults source'.faults → ⊥) → (Rose sink.faults sink'.faults → ⊥) → EndsOrJudges answer
+
 -- where neither failed, the view of a script is written, or memory was wanting
 abbrev pub CompletesView : Status → (words : List (List ℕ)) → (source source' : SourceState) → (sink sink' : SinkState) → Type 0
 CompletesView answer words source source' sink sink' =
@@ -231,6 +248,7 @@ pub record Completes (answer : Status) (words : List (List ℕ)) (source source'
   pub run : CompletesRun answer words source source' sink sink'
   pub recording : CompletesRecord answer words source source' sink sink'
   pub replaying : CompletesReplay answer words source source' sink sink'
+  pub checking : CompletesCheck answer words source source' sink sink'
   pub viewing : CompletesView answer words source source' sink sink'
   pub drill : CompletesDrill answer words sink sink'
   pub gathering : CompletesSession answer words sink sink'

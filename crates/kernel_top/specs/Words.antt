@@ -22,6 +22,10 @@ IsRecord words = is_word (codes "record") words ≡ true
 abbrev pub IsReplay : List (List ℕ) → Type 0
 IsReplay words = is_word (codes "replay") words ≡ true
 
+-- the words are `check` alone
+abbrev pub IsCheck : List (List ℕ) → Type 0
+IsCheck words = is_word (codes "check") words ≡ true
+
 -- the words are `view` alone
 abbrev pub IsView : List (List ℕ) → Type 0
 IsView words = is_word (codes "view") words ≡ true
@@ -31,7 +35,7 @@ abbrev pub IsDrill : List (List ℕ) → (count : ℕ) → Type 0
 IsDrill words count = drill_of words ≡ Some count
 
 abbrev pub IsKnown : List (List ℕ) → Type 0
-IsKnown words = IsRun words ⊎ (IsRecord words ⊎ (IsReplay words ⊎ (IsView words ⊎ (((wanted : Wanted) × IsSession words wanted) ⊎ ((count : ℕ) × IsDrill words count)))))
+IsKnown words = IsRun words ⊎ (IsRecord words ⊎ (IsReplay words ⊎ (IsView words ⊎ (IsCheck words ⊎ (((wanted : Wanted) × IsSession words wanted) ⊎ ((count : ℕ) × IsDrill words count))))))
 
 -- the number that one to four digits spell
 abbrev pub number_of : List ℕ → Option ℕ

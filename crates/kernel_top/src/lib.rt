@@ -2,6 +2,8 @@
 //! the program measures itself.
 #![tactic(auto)]
 
+mod checking;
+mod comparing;
 mod counting;
 mod drill_child;
 mod drill_script;

@@ -6,6 +6,7 @@ ghost use Rattle.kernel_state.specs.Whole.{program_with};
 ghost use Rattle.kernel_top.specs.Words.{IsRun, IsRecord};
 ghost use Rattle.kernel_top.specs.Outcomes.{Came, CameSo, OfBytes, OnRun, OnDrill, Completes};
 
+use crate::checking::check_source;
 use crate::drilling::drill;
 use crate::reading::{Refused, read_all};
 use crate::recording::record_source;
@@ -15,7 +16,7 @@ use crate::session_words::session_of;
 use crate::status::{Status, status_of, written_status};
 use crate::summing::{count_run, write_summary};
 use crate::viewing::view_source;
-use crate::words::{drill_of, is_record, is_replay, is_run, is_view};
+use crate::words::{drill_of, is_check, is_record, is_replay, is_run, is_view};
 use ek_types::{Sink, Source};
 use handler_code::Natives;
 use host_link::Host;
@@ -111,7 +112,8 @@ fn run_drill<K: Sink, H: Host, N: Natives>(
 /// The words are those behind the program's name. `run` reads the script that the source holds, runs it, and writes
 /// its lines and the dump to the sink. `record` does so with the lines thrown away, and writes the session of the run:
 /// a line for each exchange, the line `script`, and the script as it was read. `replay` reads such a session and writes the
-/// lines and the dump of that run. It asks the host nothing. `view` runs the script with its lines thrown away, and writes what
+/// lines and the dump of that run. It asks the host nothing. `check` reads a transcript, which has claimed lines between the
+/// journal and the script, and writes the line `yes` where they are those of that run. It asks the host nothing either. `view` runs the script with its lines thrown away, and writes what
 /// is seen of the current buffer at its end. `drill` and a number of one to four digits reads nothing: it runs the script
 /// of that drill on the host, and writes one line that tells how many lines, exchanges and characters this came to.
 /// `session` with a number, a program and its words reads nothing: it runs a line session, with the natives of that, and writes the
@@ -126,14 +128,15 @@ fn run_drill<K: Sink, H: Host, N: Natives>(
 /// The line of a drill is the summary of the plain machine's whole run on the drill's script, over just the exchanges
 /// made. Of a session no more than 268,435,456 bytes are written, and none where it is longer. For `record` the host
 /// tells its exchanges, and has told none yet; each exchange of a recorded run has a line. A session is replayed only where the run of its script ends with all
-/// exchanges of its journal used up; else `Strayed` tells how many of the first ones the machine goes through. The text of a
+/// exchanges of its journal used up; else `Strayed` tells how many of the first ones the machine goes through. So it is of a
+/// check; where the run ends so, `Differs` tells the first line in which the claimed lines are others. The text of a
 /// line session is that of the buffer `*session*` in the machine's last state. It became full exactly where a process there
 /// isn't read any more.
 ///
 /// The source doesn't fail where it is known not to (`unfailing`), nor the sink where it has room for what the run
-/// says. No more than one byte behind the longest script, of 1,048,576 bytes, is asked of the source, or for `replay`
+/// says. No more than one byte behind the longest script, of 1,048,576 bytes, is asked of the source, or for `replay` and `check`
 /// one behind the longest session, of 268,435,456. Bytes that are no script, and no others, are answered by `Script` with
-/// the line of the fault; for `replay` bytes that are no session are answered by `Journal` first.
+/// the line of the fault; for `replay` and `check` bytes that are no session or transcript are answered by `Journal` first.
 pub fn run<S: Source, K: Sink, H: Host, N: Natives>(
     alloc: Global,
     words: &[String],
@@ -165,6 +168,9 @@ pub fn run<S: Source, K: Sink, H: Host, N: Natives>(
     }
     if is_replay(words) {
         return replay_source(alloc, source, sink, natives);
+    }
+    if is_check(words) {
+        return check_source(alloc, source, sink, natives);
     }
     if is_view(words) {
         return view_source(alloc, source, sink, host, natives);

@@ -35,6 +35,16 @@ pub(crate) fn is_replay(words: &[String]) -> bool
     }
 }
 
+/// Whether the words behind the program's name are `check` alone.
+pub(crate) fn is_check(words: &[String]) -> bool
+    ensures { result ≡ is_word (codes "check") (map string_bytes words.now) }
+{
+    match words {
+        [word] => word.as_str() == "check",
+        _ => false,
+    }
+}
+
 /// Whether the words behind the program's name are `view` alone.
 pub(crate) fn is_view(words: &[String]) -> bool
     ensures { result ≡ is_word (codes "view") (map string_bytes words.now) }

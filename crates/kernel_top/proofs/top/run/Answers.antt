@@ -1,6 +1,6 @@
 use Rattle.std.proofs.Common.{sym, refl, ◌∙◌, map, string_bytes, arith}
 use Rattle.kernel_state.specs.Whole.{program_with}
-use Rattle.kernel_top.proofs.Outcomes.{quiet, came_drilled, came_gathered, came_unknown, came_replayed, replay_is_known, drill_reads_nothing, session_reads_nothing, unknown, completes}
+use Rattle.kernel_top.proofs.Outcomes.{quiet, came_drilled, came_gathered, came_unknown, came_replayed, replay_is_known, came_checked, check_is_known, drill_reads_nothing, session_reads_nothing, unknown, completes}
 use Rattle.kernel_top.proofs.top.run.Goals as goal
 
 pub returns-then-is_run-clause-outcome : goal.returns-then-is_run-clause-outcome
@@ -43,6 +43,20 @@ returns-then-is_replay-clause-complete g c =
     let so = returns-then-is_replay-clause-outcome g c in
     completes _ (map string_bytes c.args.words.now) so.read so.written so.exchanges (g.S.Source.state c.args.source.now) (g.S.Source.state c.replay_source.new.source) (g.K.Sink.state c.args.sink.now) (g.K.Sink.state c.replay_source.new.sink) _ _ so.taken c.replay_source.result so.outcome
     c.replay_source.ensures.read_fault.rose c.replay_source.ensures.write_fault.rose
+
+pub returns-then-is_check-clause-outcome : goal.returns-then-is_check-clause-outcome
+returns-then-is_check-clause-outcome g c =
+    came_checked g.H.Host.state g.H.Host.made (λ script. program_with g.N.Natives.names g.N.Natives.does script c.args.natives.now) (map string_bytes c.args.words.now) c.check_source.result c.args.host.now c.args.host.now
+    (g.S.Source.state c.args.source.now) (g.S.Source.state c.check_source.new.source) (g.K.Sink.state c.args.sink.now) (g.K.Sink.state c.check_source.new.sink) (sym c.is_check.ensures ∙ c.if-is_check.true) c.check_source.ensures.outcome
+
+pub returns-then-is_check-clause-untouched : goal.returns-then-is_check-clause-untouched
+returns-then-is_check-clause-untouched g c = λ e. absurd (check_is_known (λ script. program_with g.N.Natives.names g.N.Natives.does script c.args.natives.now) c.check_source.result _ _ _ _ c.check_source.ensures.outcome e)
+
+pub returns-then-is_check-clause-complete : goal.returns-then-is_check-clause-complete
+returns-then-is_check-clause-complete g c =
+    let so = returns-then-is_check-clause-outcome g c in
+    completes _ (map string_bytes c.args.words.now) so.read so.written so.exchanges (g.S.Source.state c.args.source.now) (g.S.Source.state c.check_source.new.source) (g.K.Sink.state c.args.sink.now) (g.K.Sink.state c.check_source.new.sink) _ _ so.taken c.check_source.result so.outcome
+    c.check_source.ensures.read_fault.rose c.check_source.ensures.write_fault.rose
 
 pub returns-then-is_view-clause-outcome : goal.returns-then-is_view-clause-outcome
 returns-then-is_view-clause-outcome g c = c.view_source.ensures.outcome (map string_bytes c.args.words.now) (sym c.is_view.ensures ∙ c.if-is_view.true)
@@ -96,7 +110,7 @@ pub returns-in-None-clause-outcome : goal.returns-in-None-clause-outcome
 returns-in-None-clause-outcome g c =
     came_unknown g.H.Host.state g.H.Host.made (λ script. program_with g.N.Natives.names g.N.Natives.does script c.args.natives.now) (map string_bytes c.args.words.now) _ c.args.host.now c.args.host.now
     (g.S.Source.state c.args.source.now) (g.S.Source.state c.args.source.now) (g.K.Sink.state c.args.sink.now) (g.K.Sink.state c.args.sink.now)
-    (unknown (map string_bytes c.args.words.now) (sym c.is_run.ensures ∙ c.if-is_run.false) (sym c.is_record.ensures ∙ c.if-is_record.false) (sym c.is_replay.ensures ∙ c.if-is_replay.false) (sym c.is_view.ensures ∙ c.if-is_view.false) c.in_default.ensures c.in-None.ensures) (quiet _ _ _ _)
+    (unknown (map string_bytes c.args.words.now) (sym c.is_run.ensures ∙ c.if-is_run.false) (sym c.is_record.ensures ∙ c.if-is_record.false) (sym c.is_replay.ensures ∙ c.if-is_replay.false) (sym c.is_check.ensures ∙ c.if-is_check.false) (sym c.is_view.ensures ∙ c.if-is_view.false) c.in_default.ensures c.in-None.ensures) (quiet _ _ _ _)
 
 pub returns-in-None-clause-complete : goal.returns-in-None-clause-complete
 returns-in-None-clause-complete g c =

@@ -1,0 +1,129 @@
+-- What the functions of a check come to.
+use Rattle.std.proofs.Common.{◌≡◌, ℕ, Bool, true, false, ◌<◌, ◌≤◌, ◌+◌, ◌-◌, List, [], ◌∷◌, ◌++◌, length, take, drop, Result, Ok, Err, inl, inr, refl, sym, ap, subst, ◌∙◌, arith, length-append, codes}
+use Rattle.std.specs.Prelude.{nat_lt}
+use Rattle.std.proofs.lemmas.Bool.{ltb-true, ltb-false}
+use Rattle.std.proofs.lemmas.List.{length-take-le, length-drop}
+use Rattle.std.specs.Io.KnownBytes.{Appends}
+use Rattle.editor_model.specs.Values.{Script}
+use Rattle.plain_machine.specs.Exchanges.{Exchange}
+use Rattle.plain_machine.specs.State.{Program}
+use Rattle.plain_machine.specs.Grammar.{IsScript}
+use Rattle.ek_types.specs.Io.{SourceState, SinkState, Writes}
+use Rattle.journal_text.specs.Lines.{journal, claim}
+use Rattle.journal_text.specs.Transcripts.{between, IsTranscriptTo}
+use Rattle.kernel_steps.specs.Outcomes.{RanScript}
+use Rattle.kernel_top.specs.Reading.{HasEnded, IsAll, IsGivenUp}
+use Rattle.kernel_top.specs.Sessions.{longest_session}
+use Rattle.kernel_top.specs.Replaying.{Followed, Strays, HasNoScript, IsUnread}
+use Rattle.kernel_top.specs.Checking.{Judged, Checked, IsClaimed, DiffersIn, DiffersAt, yes, Told, SourceChecked}
+use Rattle.kernel_top.specs.Outcomes.{written_status}
+use Rattle.kernel_top.specs.declared.reading.Refused.{Refused}
+use Rattle.kernel_top.specs.declared.reading.Refused.TheVariants as refused
+use Rattle.kernel_top.specs.declared.status.Status.{Status}
+use Rattle.kernel_top.specs.declared.status.Status.TheVariants as status
+use Rattle.kernel_top.proofs.Replays.{few_lines}
+use Rattle.kernel_top.proofs.Outcomes.{no_verdict}
+
+-- THE SECOND RUN
+module _ (program : Program) (script : Script) (list : List Exchange) (claimed written : List ℕ) (before now : SinkState) (ran : RanScript program script list written before now) where
+  pub claimed_by : claimed ≡ written → Judged status.Done program script list claimed
+  claimed_by same = record { whole = record { lines = written; ran = ran.ran }; same = same }
+
+  pub differs_by : (line : ℕ) → DiffersAt line claimed written → Judged (status.Differs line) program script list claimed
+  differs_by line first = record { whole = record { lines = written; ran = ran.ran }; first = first }
+
+-- the first run refused it
+pub refused_by : (program : Program) (script : Script) (list : List Exchange) (claimed : List ℕ) (answer : Status) → Followed (Err answer) program script list → Judged answer program script list claimed
+refused_by program script list claimed status.NoMemory so = tt
+refused_by program script list claimed (status.Strayed most) so = so
+refused_by program script list claimed status.Done so = absurd so
+refused_by program script list claimed (status.Differs line) so = absurd so
+refused_by program script list claimed status.Usage so = absurd so
+refused_by program script list claimed (status.Script line) so = absurd so
+refused_by program script list claimed status.ReadFault so = absurd so
+refused_by program script list claimed status.WriteFault so = absurd so
+refused_by program script list claimed (status.Journal line) so = absurd so
+refused_by program script list claimed status.JournalFull so = absurd so
+refused_by program script list claimed status.SessionFull so = absurd so
+
+-- THE BYTES
+-- a journal has no more exchanges than bytes
+pub few_in : (bytes : List ℕ) (list : List Exchange) (from to at : ℕ) → IsTranscriptTo bytes list from to at → length bytes ≤ longest_session → length list ≤ longest_session
+few_in bytes list from to at found short =
+    omega (arith, short, few_lines list, ap length found.whole, length-append (journal list) (claim (between from to bytes) ++ (codes "script\n" ++ drop at bytes)))
+
+pub short_claim : (bytes : List ℕ) (from to : ℕ) → length bytes ≤ longest_session → from ≤ to → to ≤ length bytes → length (between from to bytes) ≤ longest_session
+short_claim bytes from to short ordered within =
+    omega (arith, short, within, length-take-le (to - from) (drop from bytes) (omega (arith, ordered, within, length-drop from bytes)))
+
+-- the script of a transcript was judged
+pub checked_bytes : (program : Script → Program) (script : Script) (answer : Status) (read : List ℕ) (list : List Exchange) (from to at : ℕ) →
+    IsTranscriptTo read list from to at → IsScript (drop at read) script → Judged answer (program script) script list (between from to read) → Checked program answer read
+checked_bytes program script status.Done read list from to at found is so = record { journal = list; claimed = between from to read; bytes = drop at read; lines = found.lines; is = found.whole; so = (script, is, so) }
+checked_bytes program script (status.Differs line) read list from to at found is so = record { journal = list; claimed = between from to read; bytes = drop at read; lines = found.lines; is = found.whole; so = (script, is, so) }
+checked_bytes program script (status.Strayed most) read list from to at found is so = record { journal = list; claimed = between from to read; bytes = drop at read; lines = found.lines; is = found.whole; so = (script, is, so) }
+checked_bytes program script status.NoMemory read list from to at found is so = tt
+checked_bytes program script status.Usage read list from to at found is so = absurd so
+checked_bytes program script (status.Script line) read list from to at found is so = absurd so
+checked_bytes program script status.ReadFault read list from to at found is so = absurd so
+checked_bytes program script status.WriteFault read list from to at found is so = absurd so
+checked_bytes program script (status.Journal line) read list from to at found is so = absurd so
+checked_bytes program script status.JournalFull read list from to at found is so = absurd so
+checked_bytes program script status.SessionFull read list from to at found is so = absurd so
+
+pub unscripted : (program : Script → Program) (line : ℕ) (read : List ℕ) (list : List Exchange) (from to at : ℕ) → IsTranscriptTo read list from to at → HasNoScript (drop at read) line → Checked program (status.Script line) read
+unscripted program line read list from to at found none = record { journal = list; claimed = between from to read; bytes = drop at read; lines = found.lines; is = found.whole; so = none }
+
+-- WHAT IS WRITTEN
+-- the line of a yes was written, or a front of it
+pub told_yes : {T E : Type 0} (program : Script → Program) (r : Result T E) (read : List ℕ) (sink sink' : SinkState) → Checked program status.Done read → Writes sink sink' r yes →
+    (written : List ℕ) × Appends sink.held sink'.held written × Told program (written_status r) read written sink sink'
+told_yes program (Ok x) read sink sink' so w = (yes, w.ok, (so, refl, λ few. (w.roomy few).faults))
+told_yes program (Err e) read sink sink' so w =
+    let (front, is_front, put) = w.err in
+    (front, put, (so, is_front, by (nat_lt sink.room (length yes)) refl))
+  where
+    by : (b : Bool) → nat_lt sink.room (length yes) ≡ b → sink.room < length yes
+    by true e = ltb-true sink.room (length yes) e
+    by false e = absurd (let no = (w.roomy (ltb-false sink.room (length yes) e)).ok in cc)
+
+-- and nothing for another verdict
+pub told_else : (program : Script → Program) (answer : Status) (read : List ℕ) (sink : SinkState) → (answer ≡ status.Done → ⊥) → Checked program answer read → Told program answer read [] sink sink
+told_else program status.Done read sink other so = absurd (other refl)
+told_else program status.WriteFault read sink other so = absurd (no_verdict so)
+told_else program status.NoMemory read sink other so = ((refl, refl), so)
+told_else program (status.Differs line) read sink other so = ((refl, refl), so)
+told_else program (status.Strayed most) read sink other so = ((refl, refl), so)
+told_else program (status.Journal line) read sink other so = ((refl, refl), so)
+told_else program (status.Script line) read sink other so = ((refl, refl), so)
+told_else program status.Usage read sink other so = ((refl, refl), so)
+told_else program status.ReadFault read sink other so = ((refl, refl), so)
+told_else program status.JournalFull read sink other so = ((refl, refl), so)
+told_else program status.SessionFull read sink other so = ((refl, refl), so)
+
+-- the verdict is no fault of reading or writing
+pub judged_no_fault : (program : Script → Program) (answer : Status) (read : List ℕ) → Checked program answer read → (answer ≡ status.ReadFault → ⊥) × (answer ≡ status.WriteFault → ⊥)
+judged_no_fault program answer read so = (λ e. no_verdict (subst (λ a. Checked program a read) e so), λ e. no_verdict (subst (λ a. Checked program a read) e so))
+
+-- THE SOURCE
+pub source_checked : (program : Script → Program) (answer : Status) (bytes written : List ℕ) (source source' : SourceState) (sink sink' : SinkState) →
+    IsAll longest_session bytes source source' → Appends sink.held sink'.held written → Told program answer bytes written sink sink' → SourceChecked program answer source source' sink sink'
+source_checked program answer bytes written source source' sink sink' all put so = record {
+  read = bytes;
+  written = written;
+  taken = all.taken;
+  few = omega (arith, all.short);
+  put = put;
+  so = inl (all.ended, all.short, so);
+}
+
+pub check_unread : (program : Script → Program) (answer : Status) (why : Refused) (source source' : SourceState) (sink : SinkState) → IsGivenUp longest_session why source source' → Appends sink.held sink.held [] →
+    ((bytes : List ℕ) → (why ≡ refused.TooLong → longest_session < length bytes) → IsUnread answer bytes) → SourceChecked program answer source source' sink sink
+check_unread program answer why source source' sink given_up nothing row = record {
+  read = given_up.bytes;
+  written = [];
+  taken = given_up.taken;
+  few = given_up.few;
+  put = nothing;
+  so = inr ((refl, refl), row given_up.bytes given_up.long);
+}

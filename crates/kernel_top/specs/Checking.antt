@@ -1,0 +1,110 @@
+-- What a check comes to: claimed lines beside those of the machine's run of a script on the exchanges of a journal.
+use Rattle.std.specs.Prelude.{◌≡◌, ℕ, ◌+◌, ◌≤◌, ◌<◌, ◌⊎◌, ◌==◌, nat_lt, ◌^◌, Bool, true, false, List, [], ◌∷◌, ◌++◌, length, codes, Some}
+use Rattle.editor_model.specs.Values.{Script}
+use Rattle.plain_machine.specs.Exchanges.{Exchange}
+use Rattle.plain_machine.specs.State.{Program}
+use Rattle.plain_machine.specs.Grammar.{IsScript, line_feeds}
+use Rattle.std.specs.Io.KnownBytes.{Consumes, Appends}
+use Rattle.ek_types.specs.Io.{SourceState, SinkState, IsPrefixOf}
+use Rattle.journal_text.specs.Lines.{transcript}
+use Rattle.journal_text.specs.Allowed.{IsJournal}
+use Rattle.journal_text.specs.Transcripts.{HasNoTranscript, IsTranscriptFault}
+use Rattle.kernel_top.specs.Sessions.{longest_session}
+use Rattle.kernel_top.specs.Reading.{HasEnded}
+use Rattle.kernel_top.specs.Unseen.{IsWhole}
+use Rattle.kernel_top.specs.Replaying.{Strays, HasNoScript, IsUnwritten, IsUnread}
+use Rattle.kernel_top.specs.declared.status.Status.{Status}
+use Rattle.kernel_top.specs.declared.status.Status.TheVariants as status
+
+-- COMPARING
+-- the longest common front
+abbrev pub common : (xs ys : List ℕ) → List ℕ
+common (x ∷ xs) (y ∷ ys) = elim (x == y) [ true ↦ x ∷ common xs ys | false ↦ [] ]
+common _ _ = []
+
+-- the claimed bytes are others, and this is the line of the first difference, from 1
+abbrev pub DiffersAt : (line : ℕ) → (claimed written : List ℕ) → Type 0
+DiffersAt line claimed written = (claimed ≡ written → ⊥) × (line ≡ line_feeds (common claimed written) + 1)
+
+-- claimed bytes, and those that a sink was given
+pub record Compared : Type 0 where
+  pub claimed : List ℕ
+  pub given : List ℕ
+
+-- such a sink holds the claimed bytes, their number in front of them, and what it was given; it has no faults, and its room doesn't shrink
+abbrev pub comparing_state : Compared → SinkState
+comparing_state c = record { held = Some (length c.claimed ∷ (c.claimed ++ c.given)); faults = 0; room = 2 ^ 64 }
+
+-- how far they agree: so many bytes, with so many line feeds, and whether the sink was given more than that
+pub record Agrees (c : Compared) (at feeds : ℕ) (differs : Bool) : Type 0 where
+  pub bytes : at ≡ length (common c.claimed c.given)
+  pub lines : feeds ≡ line_feeds (common c.claimed c.given)
+  pub more : differs ≡ nat_lt at (length c.given)
+  pub short : length c.claimed ≤ longest_session
+
+-- VERDICTS on claimed lines, by a journal and the run of a script on it
+-- the run has ended with the journal used up, and these are its lines and its dump
+pub record IsClaimed (program : Program) (script : Script) (journal : List Exchange) (claimed : List ℕ) : Type 0 where
+  pub whole : IsWhole program script journal
+  pub same : claimed ≡ whole.lines
+
+-- it has, and they are others, first in this line
+pub record DiffersIn (program : Program) (script : Script) (journal : List Exchange) (claimed : List ℕ) (line : ℕ) : Type 0 where
+  pub whole : IsWhole program script journal
+  pub first : DiffersAt line claimed whole.lines
+
+abbrev pub Judged : Status → Program → Script → (journal : List Exchange) → (claimed : List ℕ) → Type 0
+Judged status.Done program script journal claimed = IsClaimed program script journal claimed
+Judged (status.Differs line) program script journal claimed = DiffersIn program script journal claimed line
+Judged (status.Strayed most) program script journal claimed = Strays program script journal most
+Judged status.NoMemory program script journal claimed = Unit {0}
+Judged _ program script journal claimed = ⊥
+
+-- TRANSCRIPTS
+-- the bytes read are the transcript of a journal, claimed lines and some bytes, and this is so of them
+pub record OfTranscript (read : List ℕ) (So : List Exchange → (claimed bytes : List ℕ) → Type 0) : Type 0 where
+  pub journal : List Exchange
+  pub claimed : List ℕ
+  pub bytes : List ℕ
+  pub lines : IsJournal journal
+  pub is : read ≡ transcript journal claimed bytes
+  pub so : So journal claimed bytes
+
+-- its bytes are a script, and this is so of the journal, the claimed lines and the script
+abbrev pub OfCheck : (read : List ℕ) → (So : List Exchange → (claimed : List ℕ) → Script → Type 0) → Type 0
+OfCheck read So = OfTranscript read (λ journal claimed bytes. (script : Script) × IsScript bytes script × So journal claimed script)
+
+-- the bytes are no transcript, and this is the line of the fault
+pub record IsNoTranscript (read : List ℕ) (line : ℕ) : Type 0 where
+  pub none : HasNoTranscript read
+  pub at : IsTranscriptFault read line
+
+-- the verdict on bytes
+abbrev pub Checked : (Script → Program) → Status → (read : List ℕ) → Type 0
+Checked program (status.Journal line) read = IsNoTranscript read line
+Checked program (status.Script line) read = OfTranscript read (λ journal claimed bytes. HasNoScript bytes line)
+Checked program status.NoMemory read = Unit {0}
+Checked program answer read = OfCheck read (λ journal claimed script. Judged answer (program script) script journal claimed)
+
+-- WHAT IS WRITTEN: one line where the verdict is yes, and else nothing
+abbrev pub yes : List ℕ
+yes = codes "yes\n"
+
+abbrev pub Told : (Script → Program) → Status → (read written : List ℕ) → (before now : SinkState) → Type 0
+Told program status.Done read written before now = Checked program status.Done read × (written ≡ yes) × (length yes ≤ before.room → now.faults ≡ before.faults)
+Told program status.WriteFault read written before now = Checked program status.Done read × IsPrefixOf written yes × (before.room < length yes)
+Told program answer read written before now = IsUnwritten written before now × Checked program answer read
+
+-- what became of the bytes read from a source, which has ended or was given up
+abbrev pub ReadAndChecked : (Script → Program) → Status → (read written : List ℕ) → (Ended : Type 0) → (before now : SinkState) → Type 0
+ReadAndChecked program answer read written Ended before now =
+    (Ended × (length read ≤ longest_session) × Told program answer read written before now) ⊎ (IsUnwritten written before now × IsUnread answer read)
+
+-- what the check of a transcript that a source holds came to
+pub record SourceChecked (program : Script → Program) (answer : Status) (source source' : SourceState) (sink sink' : SinkState) : Type 0 where
+  pub read : List ℕ
+  pub written : List ℕ
+  pub taken : Consumes source.left source'.left read
+  pub few : length read ≤ longest_session + 1
+  pub put : Appends sink.held sink'.held written
+  pub so : ReadAndChecked program answer read written (HasEnded source.left source'.left) sink sink'

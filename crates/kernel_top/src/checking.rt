@@ -1,0 +1,132 @@
+//! The word `check`: a transcript is read, and its claimed lines compared with those of its script's run on its journal.
+ghost use Rattle.std.specs.Prelude.{◌≡◌, ◌≢◌, ◌<◌, ◌≤◌, ◌^◌, length, IsTrue};
+ghost use Rattle.ek_types.specs.Io.{HasCause};
+ghost use Rattle.ek_call.specs.Meaning.{script_of};
+ghost use Rattle.host_link.specs.Meaning.{exchanges_of};
+ghost use Rattle.journal_text.specs.Allowed.{AreAnswered};
+ghost use Rattle.journal_text.specs.Replayed.{new_replay};
+ghost use Rattle.kernel_state.specs.Whole.{program_with};
+ghost use Rattle.kernel_top.specs.Sessions.{longest_session};
+ghost use Rattle.kernel_top.specs.Unseen.{IsWhole};
+ghost use Rattle.kernel_top.specs.Checking.{Judged, Checked, SourceChecked};
+
+use crate::comparing::ComparingSink;
+use crate::reading::{Refused, read_all};
+use crate::replaying::follow;
+use crate::status::{Status, written_status};
+use ek_call::Script;
+use ek_types::{Sink, Source, put};
+use handler_code::Natives;
+use host_link::Exchanges;
+use journal_text::{JournalFault, LONGEST_SESSION, Replay, Transcript, read_transcript};
+use kernel_run::Kernel;
+use script_read::{ScriptFault, read};
+use std::alloc::Global;
+
+/// Runs the script over a journal that its run follows to the end, and compares what this writes with the bytes claimed.
+fn compare_run<N: Natives>(
+    alloc: Global,
+    script: &Script,
+    host: &mut Replay,
+    claimed: &[u8],
+    natives: &N,
+) -> Status
+    requires fresh { host.old ≡ new_replay host.old.list }
+    requires answered { AreAnswered 0 host.old.list }
+    requires whole { IsWhole (program_with N.names N.does (script_of script.now) natives.now)
+        (script_of script.now) host.old.list }
+    requires short { length claimed.now ≤ longest_session }
+    ensures { Judged result (program_with N.names N.does (script_of script.now) natives.now)
+        (script_of script.now) host.old.list claimed.now }
+{
+    let Ok(mut kernel) = Kernel::new(alloc) else {
+        return Status::NoMemory;
+    };
+    let mut sink = ComparingSink::new(claimed);
+    let ended = kernel.run_script(script, natives, host, &mut sink);
+    kernel.close();
+    let Ok(()) = ended else {
+        return Status::NoMemory;
+    };
+    match sink.difference() {
+        None => Status::Done,
+        Some(line) => Status::Differs(line),
+    }
+}
+
+/// The verdict on claimed lines. The script is run over the journal twice: to see whether it follows it to its end, and then for
+/// its lines.
+fn judge<N: Natives>(
+    alloc: Global,
+    script: &Script,
+    journal: Exchanges,
+    claimed: &[u8],
+    natives: &N,
+) -> Status
+    requires few { length (exchanges_of journal) < 2 ^ 32 }
+    requires answered { AreAnswered 0 (exchanges_of journal) }
+    requires short { length claimed.now ≤ longest_session }
+    ensures { Judged result (program_with N.names N.does (script_of script.now) natives.now)
+        (script_of script.now) (exchanges_of journal) claimed.now }
+{
+    let count = journal.len();
+    let mut host = Replay::new(journal);
+    match follow(alloc, script, &mut host, count, natives) {
+        Ok(()) => {
+            host.restart();
+            compare_run(alloc, script, &mut host, claimed, natives)
+        }
+        Err(status) => status,
+    }
+}
+
+/// Reads the transcript that some bytes are, and judges its claimed lines. Nothing is written.
+fn check_bytes<N: Natives>(alloc: Global, bytes: &[u8], natives: &N) -> Status
+    requires { length bytes.now ≤ longest_session }
+    ensures { Checked (λ script. program_with N.names N.does script natives.now) result bytes.now }
+{
+    let Transcript {
+        journal,
+        from,
+        to,
+        script: at,
+    } = match read_transcript(alloc, bytes) {
+        Ok(found) => found,
+        Err(JournalFault::Line(line)) => return Status::Journal(line),
+        Err(JournalFault::NoMemory) => return Status::NoMemory,
+    };
+    let script = match read(alloc, &bytes[at..]) {
+        Ok(script) => script,
+        Err(ScriptFault::Line(line)) => return Status::Script(line),
+        Err(ScriptFault::NoMemory) => return Status::NoMemory,
+    };
+    judge(alloc, &script, journal, &bytes[from..to], natives)
+}
+
+/// Reads the transcript that the source holds, judges its claimed lines, and writes one line where they are those of the run.
+pub(crate) fn check_source<S: Source, K: Sink, N: Natives>(
+    alloc: Global,
+    source: &mut S,
+    sink: &mut K,
+    natives: &N,
+) -> Status
+    ensures outcome { SourceChecked (λ script. program_with N.names N.does script natives.now) result
+        (S.state source.old) (S.state source.new) (K.state sink.old) (K.state sink.new) }
+    ensures read_fault { HasCause (S.state source.old).faults (S.state source.new).faults
+        (result ≡ Status.ReadFault) }
+    ensures write_fault { HasCause (K.state sink.old).faults (K.state sink.new).faults
+        (result ≡ Status.WriteFault) }
+    ensures unfailing { IsTrue (S.state source.old).unfailing →
+        (S.state source.new).faults ≡ (S.state source.old).faults }
+{
+    let bytes = match read_all(alloc, source, LONGEST_SESSION) {
+        Ok(bytes) => bytes,
+        Err(Refused::Failed) => return Status::ReadFault,
+        Err(Refused::TooLong) => return Status::Journal(0),
+        Err(Refused::NoMemory) => return Status::NoMemory,
+    };
+    match check_bytes(alloc, bytes.as_slice(), natives) {
+        Status::Done => written_status(put(Ok(()), sink, b"yes\n")),
+        status => status,
+    }
+}
