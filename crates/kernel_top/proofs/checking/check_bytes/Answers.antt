@@ -38,4 +38,4 @@ pub returns : goal.returns
 returns g c =
     let found = c.in-Ok.found in
     checked_bytes (λ script. program_with g.N.Natives.names g.N.Natives.does script c.args.natives.now) (script_of c.in-Ok-read.script) c.judge.result c.args.bytes.now (exchanges_of found.journal) found.from found.to found.script c.in-Ok.ensures.read
-        (subst (λ l. IsScript l (script_of c.in-Ok-read.script)) (rest_is c.args.bytes.now found.script) c.in-Ok-read.ensures.script) c.judge.ensures
+    (subst (λ l. IsScript l (script_of c.in-Ok-read.script)) (rest_is c.args.bytes.now found.script) c.in-Ok-read.ensures.script) c.judge.ensures
