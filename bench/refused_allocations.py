@@ -537,10 +537,16 @@ def behind(output):
 CODINGS = ["utf-8-unix", "utf-8-dos", "latin-1-unix"]
 
 
+def shown(text):
+    """Characters as a string prints them."""
+    escapes = {"\n": "\\n", "\t": "\\t", '"': '\\"', "\\": "\\\\"}
+    return "".join(escapes.get(c, f"\\{ord(c):03o}" if ord(c) < 32 or ord(c) == 127 else c) for c in text)
+
+
 def spelled(read, ended, coding):
     """The characters that filters are entered with after these bytes, as entries print them."""
     if coding == "latin-1-unix":
-        return read.decode("latin-1").replace("\n", "\\n")
+        return shown(read.decode("latin-1"))
     if coding == "utf-8-dos":
         read = read.replace(b"\r\n", b"\n")
         read = read[:-1] if read.endswith(b"\r") and not ended else read
@@ -548,7 +554,7 @@ def spelled(read, ended, coding):
     while at < len(read):
         for size in range(1, 5):
             try:
-                text += read[at:at + size].decode().replace("\n", "\\n")
+                text += shown(read[at:at + size].decode())
                 at += size
                 break
             except UnicodeDecodeError as fault:

@@ -105,6 +105,13 @@ told_else program status.SessionFull read sink other so = ((refl, refl), so)
 pub judged_no_fault : (program : Script → Program) (answer : Status) (read : List ℕ) → Checked program answer read → (answer ≡ status.ReadFault → ⊥) × (answer ≡ status.WriteFault → ⊥)
 judged_no_fault program answer read so = (λ e. no_verdict (subst (λ a. Checked program a read) e so), λ e. no_verdict (subst (λ a. Checked program a read) e so))
 
+-- nor what was told of it one of reading
+pub told_no_fault : (program : Script → Program) (answer : Status) (read written : List ℕ) (before now : SinkState) → Told program answer read written before now → answer ≡ status.ReadFault → ⊥
+told_no_fault program answer read written before now so e = by (subst (λ a. Told program a read written before now) e so)
+  where
+    by : Told program status.ReadFault read written before now → ⊥
+    by told = no_verdict told.1
+
 -- THE SOURCE
 pub source_checked : (program : Script → Program) (answer : Status) (bytes written : List ℕ) (source source' : SourceState) (sink sink' : SinkState) →
     IsAll longest_session bytes source source' → Appends sink.held sink'.held written → Told program answer bytes written sink sink' → SourceChecked program answer source source' sink sink'

@@ -59,7 +59,7 @@ few_read n words h = few_by n (is_word (codes "replay") words || is_word (codes 
 
 -- no verdict has this status
 pub no_verdict : {read : List ℕ} → OfCheck read (λ journal claimed script. ⊥) → ⊥
-no_verdict of = let (script, is, no) = of.so in no
+no_verdict of = let (script, is, never) = of.so in never
 
 -- THE OUTCOME
 pub quiet : (source source' : SourceState) (sink : SinkState) (host : HostState) → IsQuiet [] [] (seen source sink host) (seen source' sink host)

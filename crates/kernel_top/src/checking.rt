@@ -1,5 +1,6 @@
 //! The word `check`: a transcript is read, and its claimed lines compared with those of its script's run on its journal.
-ghost use Rattle.std.specs.Prelude.{◌≡◌, ◌≢◌, ◌<◌, ◌≤◌, ◌^◌, length, IsTrue};
+ghost use Rattle.std.specs.Prelude.{◌≡◌, ◌<◌, ◌≤◌, ◌^◌, ℕ, List, length, IsTrue};
+ghost use Rattle.std.specs.Io.KnownBytes.{Appends};
 ghost use Rattle.ek_types.specs.Io.{HasCause};
 ghost use Rattle.ek_call.specs.Meaning.{script_of};
 ghost use Rattle.host_link.specs.Meaning.{exchanges_of};
@@ -8,14 +9,14 @@ ghost use Rattle.journal_text.specs.Replayed.{new_replay};
 ghost use Rattle.kernel_state.specs.Whole.{program_with};
 ghost use Rattle.kernel_top.specs.Sessions.{longest_session};
 ghost use Rattle.kernel_top.specs.Unseen.{IsWhole};
-ghost use Rattle.kernel_top.specs.Checking.{Judged, Checked, SourceChecked};
+ghost use Rattle.kernel_top.specs.Checking.{Judged, Checked, Told, SourceChecked};
 
 use crate::comparing::ComparingSink;
 use crate::reading::{Refused, read_all};
 use crate::replaying::follow;
 use crate::status::{Status, written_status};
 use ek_call::Script;
-use ek_types::{Sink, Source, put};
+use ek_types::{Sink, Source, write_all};
 use handler_code::Natives;
 use host_link::Exchanges;
 use journal_text::{JournalFault, LONGEST_SESSION, Replay, Transcript, read_transcript};
@@ -103,7 +104,27 @@ fn check_bytes<N: Natives>(alloc: Global, bytes: &[u8], natives: &N) -> Status
     judge(alloc, &script, journal, &bytes[from..to], natives)
 }
 
-/// Reads the transcript that the source holds, judges its claimed lines, and writes one line where they are those of the run.
+/// Reads the transcript that some bytes are, judges its claimed lines, and writes one line where they are those of the run.
+fn answer_bytes<K: Sink, N: Natives>(
+    alloc: Global,
+    bytes: &[u8],
+    sink: &mut K,
+    natives: &N,
+) -> Status
+    requires { length bytes.now ≤ longest_session }
+    ensures written { (written : List ℕ) × Appends (K.state sink.old).held (K.state sink.new).held written
+        × Told (λ script. program_with N.names N.does script natives.now) result bytes.now written
+        (K.state sink.old) (K.state sink.new) }
+    ensures write_fault { HasCause (K.state sink.old).faults (K.state sink.new).faults
+        (result ≡ Status.WriteFault) }
+{
+    match check_bytes(alloc, bytes, natives) {
+        Status::Done => written_status(write_all(sink, b"yes\n")),
+        status => status,
+    }
+}
+
+/// Reads the transcript that the source holds, and judges its claimed lines.
 pub(crate) fn check_source<S: Source, K: Sink, N: Natives>(
     alloc: Global,
     source: &mut S,
@@ -119,14 +140,10 @@ pub(crate) fn check_source<S: Source, K: Sink, N: Natives>(
     ensures unfailing { IsTrue (S.state source.old).unfailing →
         (S.state source.new).faults ≡ (S.state source.old).faults }
 {
-    let bytes = match read_all(alloc, source, LONGEST_SESSION) {
-        Ok(bytes) => bytes,
-        Err(Refused::Failed) => return Status::ReadFault,
-        Err(Refused::TooLong) => return Status::Journal(0),
-        Err(Refused::NoMemory) => return Status::NoMemory,
-    };
-    match check_bytes(alloc, bytes.as_slice(), natives) {
-        Status::Done => written_status(put(Ok(()), sink, b"yes\n")),
-        status => status,
+    match read_all(alloc, source, LONGEST_SESSION) {
+        Ok(bytes) => answer_bytes(alloc, bytes.as_slice(), sink, natives),
+        Err(Refused::Failed) => Status::ReadFault,
+        Err(Refused::TooLong) => Status::Journal(0),
+        Err(Refused::NoMemory) => Status::NoMemory,
     }
 }

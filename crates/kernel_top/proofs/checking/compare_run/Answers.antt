@@ -13,7 +13,7 @@ run_script-ended-requires-clause-few g c = rw c.requires.fresh (omega arith)
 
 pub returns-in-None : goal.returns-in-None
 returns-in-None g c =
-    let (written, exchanges, put, calls, ends) = c.in-Ok.ensures.outcome in
+    let (written, exchanges, put, calls, ends) = c.in-Ok-ended.ensures.outcome in
     let (ran, last) = ends in
     let new = c.new-sink.ensures in
     let held : Kept (compared c.args.claimed.now []) c.run_script-ended.new.sink written = kept (compared c.args.claimed.now []) c.run_script-ended.new.sink written (rw new at put) in
@@ -24,7 +24,7 @@ returns-in-None g c =
 
 pub returns-in-Some : goal.returns-in-Some
 returns-in-Some g c =
-    let (written, exchanges, put, calls, ends) = c.in-Ok.ensures.outcome in
+    let (written, exchanges, put, calls, ends) = c.in-Ok-ended.ensures.outcome in
     let (ran, last) = ends in
     let new = c.new-sink.ensures in
     let held : Kept (compared c.args.claimed.now []) c.run_script-ended.new.sink written = kept (compared c.args.claimed.now []) c.run_script-ended.new.sink written (rw new at put) in
