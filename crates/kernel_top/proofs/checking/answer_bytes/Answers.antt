@@ -9,12 +9,11 @@ returns-in-Done-clause-written g c =
     let (written, put, so) = told_yes (λ script. program_with g.N.Natives.names g.N.Natives.does script c.args.natives.now) c.write_all.result c.args.bytes.now (g.K.Sink.state c.args.sink.now) (g.K.Sink.state c.write_all.new.sink) c.in-Done.ensures c.write_all.ensures in
     rw c.written_status.ensures (written, put, so)
 
-pub returns-clause-written : goal.returns-clause-written
-returns-clause-written g c =
-    ([], Appends-nil _, told_else (λ script. program_with g.N.Natives.names g.N.Natives.does script c.args.natives.now) c.check_bytes.result c.args.bytes.now (g.K.Sink.state c.args.sink.now) c.in_default.not-Done c.check_bytes.ensures)
-
-pub returns-clause-write_fault : goal.returns-clause-write_fault
-returns-clause-write_fault g c = record {
-  later = omega arith;
-  rose = λ e. absurd ((judged_no_fault (λ script. program_with g.N.Natives.names g.N.Natives.does script c.args.natives.now) c.check_bytes.result c.args.bytes.now c.check_bytes.ensures).1 e);
+pub returns-in_default : goal.returns-in_default
+returns-in_default g c = record {
+  written = ([], Appends-nil _, told_else (λ script. program_with g.N.Natives.names g.N.Natives.does script c.args.natives.now) c.check_bytes.result c.args.bytes.now (g.K.Sink.state c.args.sink.now) c.in_default.not-Done c.check_bytes.ensures);
+  write_fault = record {
+    later = omega arith;
+    rose = λ e. absurd ((judged_no_fault (λ script. program_with g.N.Natives.names g.N.Natives.does script c.args.natives.now) c.check_bytes.result c.args.bytes.now c.check_bytes.ensures).1 e);
+  };
 }
