@@ -1,5 +1,5 @@
 #!/bin/bash
-# Runs the program on each example and compares what it writes, on sessions, on two of the most bytes and one more, on views, on three
+# Runs the program on each example and compares what it writes, on sessions and their lines, on two of the most bytes and one more, on views, on three
 # drills, and on a line session: examples/check.sh [PROGRAM]
 set -u
 here="$(cd "$(dirname "$0")" && pwd)"
@@ -24,6 +24,17 @@ for session in "$here"/*.session; do
     fi
     if ! "$program" record < "$here/$name.el" 2> /dev/null | cmp -s - "$session"; then
         echo "differs: the session of $name"
+        failed=1
+    fi
+    # The lines of the run, claimed of its journal.
+    told="$({
+        sed '/^script$/,$d' "$session"
+        echo "lines $(wc -c < "$here/$name.out")"
+        cat "$here/$name.out"
+        sed -n '/^script$/,$p' "$session"
+    } | "$program" check 2>&1)"
+    if [ "$? $told" != "0 yes" ]; then
+        echo "differs: the check of $name"
         failed=1
     fi
 done
