@@ -1,5 +1,5 @@
 -- Asks that agree are the same, and what an item comes to that asks.
-use Rattle.std.proofs.Common.{◌≡◌, ℕ, Bool, true, false, List, [], ◌∷◌, Result, Ok, refl, ap, ◌∙◌, sym, inl, inr}
+use Rattle.std.proofs.Common.{◌≡◌, ℕ, Bool, true, false, List, [], ◌∷◌, Result, Ok, Err, refl, ap, ◌∙◌, sym, inl, inr}
 use Rattle.std.specs.Prelude.{◌⊎◌, Option, Some, None, ◌==◌}
 use Rattle.std.proofs.KnownBytes.{Appends-nil}
 use Rattle.std.proofs.lemmas.Bool.{and_parts, eqb-true}
@@ -14,7 +14,9 @@ use Rattle.plain_machine.specs.Run.{same_ask, same_bytes}
 use Rattle.kernel_steps.specs.Outside.{deepest}
 use Rattle.kernel_steps.specs.Work.{working}
 use Rattle.kernel_steps.specs.Worlds.{Stands}
+use Rattle.trace_check.specs.Answers.{TakesUp}
 use Rattle.trace_check.specs.Steps.{Unheard, IsAsking, IsOff}
+use Rattle.trace_check.specs.declared.turn.Done.{Done}
 use Rattle.trace_check.specs.declared.turn.Done.TheVariants as done
 
 -- ASKS
@@ -41,22 +43,39 @@ module _ (program : Program) (next : Option Exchange) (known : State) (work : Li
   AsksThis go = (s : State) → Stands known s → step program deepest (working s work) ≡ Asks ask (go s)
 
   pub comes_waiting : {E : Type 0} (known2 : State) (left : List Item) (go : (s : State) → Answer → Option Next) → AsksThis go → next ≡ None → known2 ≡ known → left ≡ work → Unheard {E = E} (Ok done.Waits) program next known known2 work left
-  comes_waiting known2 left go asks none same work_is = λ sink. (none, record { state = same; work_is = work_is; sink = refl }, λ s h. (ask, go s, asks s h))
+  comes_waiting E known2 left go asks none same work_is = λ sink. (none, record { state = same; work_is = work_is; sink = refl }, λ s h. (ask, go s, asks s h))
 
   pub comes_astray : {E : Type 0} (known2 : State) (left : List Item) (go : (s : State) → Answer → Option Next) → AsksThis go → (x : Exchange) → next ≡ Some x →
       ((s : State) → Stands known s → (same_ask ask x.ask ≡ false) ⊎ (go s x.answer ≡ None)) → known2 ≡ known → left ≡ work → Unheard {E = E} (Ok done.Off) program next known known2 work left
-  comes_astray known2 left go asks x is off same work_is = λ sink. (x, is, record { state = same; work_is = work_is; sink = refl }, λ s h. (ask, go s, asks s h, off s h))
+  comes_astray E known2 left go asks x is off same work_is = λ sink. (x, is, record { state = same; work_is = work_is; sink = refl }, λ s h. (ask, go s, asks s h, off s h))
+
+  -- by an answer, wherever it leads
+  pub comes_heard : {E : Type 0} (known2 : State) (left : List Item) (go : (s : State) → Answer → Option Next) → AsksThis go → (x : Exchange) → next ≡ Some x → same_ask ask x.ask ≡ true →
+      ((s : State) → Stands known s → (t : State) × Stands known2 t × (go s x.answer ≡ Some (silent t left))) → Unheard {E = E} (Ok done.Answered) program next known known2 work left
+  comes_heard E known2 left go asks x is same goes = λ sink. (
+    x,
+    is,
+    λ s h. (
+        let (t, stands, so) = goes s h in
+        record {
+          next = silent t left;
+          steps = (go s, asks s h ∙ ap (λ a. Asks a (go s)) (ask_equal ask x.ask same), so);
+          stands = stands;
+          left_is = refl;
+          written = Appends-nil sink.held;
+        }
+        ),
+  )
 
   pub comes_answered : {E : Type 0} (known2 : State) (left : List Item) (go : (s : State) → Answer → Option Next) → AsksThis go → (x : Exchange) → next ≡ Some x → same_ask ask x.ask ≡ true →
       (change : State → State) → ((s : State) → Stands known s → Stands known2 (change s)) → ((s : State) → Stands known s → go s x.answer ≡ Some (silent (change s) left)) → Unheard {E = E} (Ok done.Answered) program next known known2 work left
-  comes_answered known2 left go asks x is same change stands goes = λ sink. (
-    x,
-    is,
-    λ s h. record {
-      next = silent (change s) left;
-      steps = (go s, asks s h ∙ ap (λ a. Asks a (go s)) (ask_equal ask x.ask same), goes s h);
-      stands = stands s h;
-      left_is = refl;
-      written = Appends-nil sink.held;
-    },
-  )
+  comes_answered E known2 left go asks x is same change stands goes = comes_heard E known2 left go asks x is same (λ s h. (change s, stands s h, goes s h))
+
+  -- by what became of the answer
+  pub comes_taken : {E : Type 0} (r : Result Done E) (known2 : State) (left : List Item) (go : (s : State) → Answer → Option Next) → AsksThis go → (x : Exchange) → next ≡ Some x → same_ask ask x.ask ≡ true →
+      TakesUp r (λ s. go s x.answer) known known2 work left → Unheard r program next known known2 work left
+  comes_taken {E = E} (Ok done.Answered) known2 left go asks x is same taken = comes_heard E known2 left go asks x is same taken
+  comes_taken {E = E} (Ok done.Off) known2 left go asks x is same taken = comes_astray E known2 left go asks x is (λ s h. inr (taken.2 s h)) taken.0 taken.1
+  comes_taken (Ok done.Alone) known2 left go asks x is same taken = absurd taken
+  comes_taken (Ok done.Waits) known2 left go asks x is same taken = absurd taken
+  comes_taken (Err e) known2 left go asks x is same taken = λ sink. tt

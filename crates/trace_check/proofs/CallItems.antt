@@ -1,5 +1,6 @@
 -- Calls that ask no child.
-use Rattle.std.proofs.Common.{◌≡◌, ℕ, List, [], ◌∷◌, ◌++◌, map, refl, ap, sym, ◌∙◌}
+use Rattle.std.proofs.Common.{◌≡◌, ℕ, suc, ◌+◌, ◌<◌, ◌≤◌, List, [], ◌∷◌, ◌++◌, map, length, drop, get_or, refl, ap, sym, ◌∙◌, add-one, drop-cons}
+use Rattle.std.proofs.lemmas.List.{drop_all}
 use Rattle.std.specs.Prelude.{Option, Some, None, Bool, true, false}
 use Rattle.editor_model.specs.Values.{Value, Nil, T, Fault, Reply, Answered, Refused, Prim, AcceptProcessOutput, DeleteProcess, KillBuffer}
 use Rattle.editor_model.specs.Editor.{is_live, killed}
@@ -97,6 +98,17 @@ module _ (program : Program) (known : State) (args : List Value) (target : Targe
   kills_put b ps left passes buffer are e = stays_put program known _ left (λ s h.
       let same : buffer_of s.editor (arg args 0) ≡ b = ap (λ (t : State). buffer_of t.editor (arg args 0)) (sym h) ∙ sym buffer in
       effect_step KillBuffer refl passes s h ∙ ap (λ n. on s (map Delete (running_in s n) ++ (KillsBuffer n target ∷ rest))) same ∙ ap (λ l. on s (map Delete l ++ (KillsBuffer b target ∷ rest))) (sym (are ∙ running_in_alike known s b h)) ∙ ap (on s) (sym e))
+
+-- deletions are put in front from the last one on
+pub deletes_more : (ps : List ℕ) (j p : ℕ) (tail : List Item) → j < length ps → p ≡ get_or ps j p → Delete p ∷ (map Delete (drop (j + 1) ps) ++ tail) ≡ map Delete (drop j ps) ++ tail
+deletes_more ps j p tail within read = sym (
+    ap (λ l. map Delete l ++ tail) (drop-cons ps j p within)
+    ∙ ap (λ q. Delete q ∷ (map Delete (drop (suc j) ps) ++ tail)) (sym read)
+    ∙ ap (λ k. Delete p ∷ (map Delete (drop k ps) ++ tail)) (sym (add-one j))
+    )
+
+pub deletes_none : (ps : List ℕ) (n : ℕ) (tail : List Item) → length ps ≤ n → map Delete (drop n ps) ++ tail ≡ tail
+deletes_none ps n tail past = ap (λ l. map Delete l ++ tail) (drop_all n ps past)
 
 -- THE KILL OF A BUFFER
 abbrev by_life : State → (b : ℕ) → Bool → Applied

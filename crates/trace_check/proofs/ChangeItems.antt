@@ -1,11 +1,11 @@
 -- Changes, and the hook functions round them.
 use Rattle.std.proofs.Common.{◌≡◌, ℕ, List, [], ◌∷◌, refl, ap, sym, ◌∙◌}
-use Rattle.std.specs.Prelude.{Some, true}
+use Rattle.std.specs.Prelude.{Some, true, false}
 use Rattle.editor_model.specs.Values.{Value, Fault}
 use Rattle.editor_model.specs.Answers.{Change, Committed, Done, Failed}
 use Rattle.plain_machine.specs.State.{State, Program}
 use Rattle.plain_machine.specs.Lines.{Kind, OfFilter, OfSentinel, OfBefore, OfAfter}
-use Rattle.plain_machine.specs.Items.{Item, Config, MakeChange, CommitChange, Hooks, Refuse, Enter}
+use Rattle.plain_machine.specs.Items.{Item, Config, MakeChange, CommitChange, Hooks, Calm, Refuse, Enter}
 use Rattle.plain_machine.specs.Calls.{on}
 use Rattle.plain_machine.specs.Forms.{bracket, after_commit}
 use Rattle.plain_machine.specs.Step.{step}
@@ -69,3 +69,16 @@ module _ (program : Program) (known : State) (rest : List Item) (kind : Kind) (a
 
   pub hooks_end : Quietly program known known (Hooks kind [] args ∷ rest) rest
   hooks_end = stays_put program known _ _ (λ s h. refl)
+
+-- PUTTING HOOK FUNCTIONS ROUND WORK
+pub unhooked : (known : State) (rest : List Item) (kind : Kind) (args : List Value) → known.inhibited ≡ true → working known rest ≡ around kind args known rest
+unhooked known rest kind args on =
+    ap (λ b. working (record known { inhibited = b }) rest) on
+    ∙ ap (λ b. working (record known { inhibited = true }) (bracket b kind (hook_names kind known) args rest)) (sym on)
+
+pub hooked : (known known2 : State) (rest left : List Item) (kind : Kind) (names : List ℕ) (args : List Value) → known.inhibited ≡ false → known2 ≡ record known { inhibited = true } → names ≡ hook_names kind known →
+    left ≡ Hooks kind names args ∷ Calm false ∷ rest → working known2 left ≡ around kind args known rest
+hooked known known2 rest left kind names args off now are e =
+    ap (λ s. working s left) now
+    ∙ ap (working (record known { inhibited = true })) (e ∙ ap (λ n. Hooks kind n args ∷ Calm false ∷ rest) are)
+    ∙ ap (λ b. working (record known { inhibited = true }) (bracket b kind (hook_names kind known) args rest)) (sym off)

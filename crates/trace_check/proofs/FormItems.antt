@@ -1,9 +1,9 @@
 -- Forms, blocks and their ends.
 use Rattle.std.proofs.Common.{◌≡◌, ℕ, List, [], ◌∷◌, refl, ap, sym, ◌∙◌}
 use Rattle.std.specs.Prelude.{Option, Some, None, Bool, true, false}
-use Rattle.editor_model.specs.Values.{Value, VoidVariable, Call, Arg, Form, Forms, NoForms, Then, In, WhenEq, Block, SaveExcursion, SaveRestriction, SaveCurrentBuffer, InhibitHooks, InhibitReadOnly}
+use Rattle.editor_model.specs.Values.{Value, Reply, VoidVariable, Call, Arg, Form, Forms, NoForms, Then, In, WhenEq, Block, SaveExcursion, SaveRestriction, SaveCurrentBuffer, InhibitHooks, InhibitReadOnly}
 use Rattle.plain_machine.specs.State.{State, Program}
-use Rattle.plain_machine.specs.Items.{Item, Top, Body, DoForm, MakeCall, Leave, Refuse, Calm, Finish, Kept, Step}
+use Rattle.plain_machine.specs.Items.{Item, Top, Body, DoForm, MakeCall, Leave, Refuse, Calm, Called, Finish, Kept, Step}
 use Rattle.plain_machine.specs.Calls.{on}
 use Rattle.plain_machine.specs.Forms.{evaluate, call_with, when_eq, opened, restored, kept_of}
 use Rattle.plain_machine.specs.Step.{step}
@@ -86,3 +86,7 @@ module _ (program : Program) (known : State) (rest : List Item) where
 
   pub calms : (known2 : State) (old : Bool) → known2 ≡ record known { inhibited = old } → Quietly program known known2 (Calm old ∷ rest) rest
   calms known2 old now = quietly program known known2 _ _ (calmed old) (λ s h. now ∙ ap (calmed old) h) (λ s h. refl)
+
+  -- a native whose reply was lost
+  pub called_goes : (i : ℕ) (args : List Value) (past : List Reply) → Quietly program known known (Called i args past ∷ rest) rest
+  called_goes i args past = stays_put program known _ _ (λ s h. refl)

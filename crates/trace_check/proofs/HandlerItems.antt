@@ -1,49 +1,21 @@
 -- Natives, and lines of handlers.
 use Rattle.std.proofs.Common.{◌≡◌, ℕ, ◌<◌, ◌≤◌, List, [], ◌∷◌, length, refl, ap, sym, ◌∙◌, map}
-use Rattle.std.specs.Prelude.{Option, Some, None, Bool, true, false, nat_lt, ◌&&◌}
-use Rattle.std.specs.List.{list_all}
+use Rattle.std.specs.Prelude.{Option, Some, None, Bool, true, false, nat_lt}
 use Rattle.std.proofs.lemmas.Bool.{lt-ltb, le-ltb}
-use Rattle.std.proofs.lemmas.List.{length-map}
-use Rattle.editor_model.specs.Values.{Value, Values, Nil, T, Int, Sym, Str, Items, Dotted, TheBuffer, TheMarker, TheOverlay, TheProcess, End, More, WrongType, Reply, Prim}
+use Rattle.editor_model.specs.Values.{Value, WrongType, Reply, Prim}
 use Rattle.plain_machine.specs.State.{State, Program}
 use Rattle.plain_machine.specs.Items.{Item, Native, Called, MakeCall, Refuse, ToNative}
 use Rattle.plain_machine.specs.Calls.{on}
-use Rattle.plain_machine.specs.Natives.{normal, is_callable, was_made, each_was_made, takes}
+use Rattle.plain_machine.specs.Natives.{normal, is_callable}
 use Rattle.plain_machine.specs.Handling.{native_call, native_next}
 use Rattle.plain_machine.specs.Step.{step}
 use Rattle.handler_code.specs.Calls.{allowed}
-use Rattle.process_table.specs.Table.{kept}
 use Rattle.kernel_steps.specs.Outside.{deepest}
 use Rattle.kernel_steps.specs.Work.{working}
-use Rattle.kernel_steps.specs.Worlds.{Stands, kept_state}
+use Rattle.kernel_steps.specs.Worlds.{Stands}
+use Rattle.kernel_steps.proofs.Defaults.{barred_item, callable_alike, made_item}
 use Rattle.trace_check.specs.Steps.{Quietly}
 use Rattle.trace_check.proofs.Quiet.{stays_put}
-
--- WHAT WAS MADE
-mutual
-  made_kept : (program : Program) (s : State) (v : Value) → was_made program (kept_state s) v ≡ was_made program s v
-  made_kept program s Nil = refl
-  made_kept program s T = refl
-  made_kept program s (Int i) = refl
-  made_kept program s (Sym n) = refl
-  made_kept program s (Str text) = refl
-  made_kept program s (Items vs) = each_kept program s vs
-  made_kept program s (Dotted vs v) = (λ i. each_kept program s vs i && made_kept program s v i)
-  made_kept program s (TheBuffer b) = refl
-  made_kept program s (TheMarker k) = refl
-  made_kept program s (TheOverlay k) = refl
-  made_kept program s (TheProcess p) = ap (λ n. nat_lt p n) (length-map s.processes kept)
-
-  each_kept : (program : Program) (s : State) (vs : Values) → each_was_made program (kept_state s) vs ≡ each_was_made program s vs
-  each_kept program s End = refl
-  each_kept program s (More v vs) = (λ i. made_kept program s v i && each_kept program s vs i)
-
-all_kept : (program : Program) (s : State) (vs : List Value) → list_all (was_made program (kept_state s)) vs ≡ list_all (was_made program s) vs
-all_kept program s [] = refl
-all_kept program s (v ∷ vs) = (λ i. made_kept program s v i && all_kept program s vs i)
-
-callable_alike : (program : Program) (known s : State) (c : Prim × List Value) → Stands known s → is_callable program known c ≡ is_callable program s c
-callable_alike program known s c h = ap (λ t. is_callable program t c) h ∙ ap (λ b. takes c.0 (length c.1) && b) (all_kept program s c.1)
 
 -- CALLS OF NATIVES
 abbrev item_by : Bool → Prim × List Value → Item
@@ -51,14 +23,6 @@ item_by b c = elim b [ true ↦ MakeCall c.0 (map normal c.1) ToNative | false �
 
 abbrev allowed_by : Bool → Prim × List Value → Option (Prim × List Value)
 allowed_by b c = elim b [ true ↦ Some (c.0, map normal c.1) | false ↦ None ]
-
-made_item : (b : Bool) (c d : Prim × List Value) → Some d ≡ allowed_by b c → item_by b c ≡ MakeCall d.0 d.1 ToNative
-made_item true c d e = let same : (c.0, map normal c.1) ≡ d = (let x : Some d ≡ Some (c.0, map normal c.1) = e in cc) in ap (λ (x : Prim × List Value). MakeCall x.0 x.1 ToNative) same
-made_item false c d e = absurd (let x : Some d ≡ None = e in cc)
-
-barred_item : (b : Bool) (c : Prim × List Value) → None ≡ allowed_by b c → item_by b c ≡ Refuse WrongType
-barred_item true c e = absurd (let x : None ≡ Some (c.0, map normal c.1) = e in cc)
-barred_item false c e = refl
 
 pub call_made : (program : Program) (s : State) (c d : Prim × List Value) → Some d ≡ allowed program s c → MakeCall d.0 d.1 ToNative ≡ native_call program s c
 call_made program s c d e = sym (made_item (is_callable program s c) c d e)

@@ -4,7 +4,15 @@ pub mod FormItems
 pub mod ChangeItems
 pub mod CallItems
 pub mod HandlerItems
+pub mod Entering
 pub mod Lines
 pub mod Agreement
 pub mod Asking
+pub mod Aheads
+pub mod Turning
+pub mod Dropping
+pub mod Fronts
+pub mod Words
+pub mod WaitItems
+pub mod Deletions
 pub mod CommonFronts

@@ -15,6 +15,7 @@ use Rattle.kernel_steps.specs.Worlds.{Stands, kept_state}
 use Rattle.kernel_steps.proofs.Journeys.{lines_of_one}
 use Rattle.kernel_steps.proofs.KeptStates.{reply_kept, dump_kept, assigned_apart}
 use Rattle.trace_check.specs.Steps.{Aloud, Drops, Sheds}
+use Rattle.trace_check.specs.Replies.{HandsOn}
 
 -- the line of a reply is the machine's
 reply_alike : (symbols : List (List ℕ)) (known s : State) (r : Reply) → Stands known s → line symbols known (Replied known.depth r) ≡ line symbols s (Replied s.depth r)
@@ -45,6 +46,17 @@ module _ (program : Program) (known : State) (rest : List Item) (old new : SinkS
   pub given_native : (left : List Item) → left ≡ kept_reply (Answered v) rest → Aloud program known known (GiveAnswer v ToNative ∷ rest) left old new
   given_native left e = aloud program known known _ left old new {T = T} {E = E} x (λ s. Replied s.depth (Answered v)) (λ s. s) (λ s h. h)
       (λ s h. ap (λ l. Goes (says program s (Replied s.depth (Answered v)) s l)) (sym e)) (λ s h. reply_alike program.symbols known s (Answered v) h) written
+
+-- by where it goes
+pub given_on : (program : Program) (known known2 : State) (rest left : List Item) (old new : SinkState) {T E : Type 0} (x : T) (v : Value) → (target : Target) → HandsOn target (Answered v) known known2 rest left →
+    Writes {T = T} {E = E} old new (Ok x) (line program.symbols known (Replied known.depth (Answered v))) → Aloud program known known2 (GiveAnswer v target ∷ rest) left old new
+given_on program known known2 rest left old new {T = T} {E = E} x v Nowhere h written =
+    subst (λ k. Aloud program known k (GiveAnswer v Nowhere ∷ rest) left old new) (sym h.0)
+    (subst (λ l. Aloud program known known (GiveAnswer v Nowhere ∷ rest) l old new) (sym h.1) (given_away program known rest old new {T = T} {E = E} x v written))
+given_on program known known2 rest left old new {T = T} {E = E} x v (ToName name) h written =
+    subst (λ l. Aloud program known known2 (GiveAnswer v (ToName name) ∷ rest) l old new) (sym h.1) (given_name program known rest old new {T = T} {E = E} x v written known2 name (h.0 v refl))
+given_on program known known2 rest left old new {T = T} {E = E} x v ToNative h written =
+    subst (λ k. Aloud program known k (GiveAnswer v ToNative ∷ rest) left old new) (sym h.0) (given_native program known rest old new {T = T} {E = E} x v written left h.1)
 
 -- FAULTS
 pub refused_drops : (program : Program) (known known2 : State) (rest left : List Item) (old new : SinkState) {T E : Type 0} (x : T) (f : Fault) → Drops f known known2 rest left →

@@ -1,8 +1,9 @@
 pub mod Meaning
+pub mod Waits
 pub mod Answers
 pub mod Questions
-pub mod Waits
 pub mod Steps
+pub mod Replies
 pub mod Turns
 pub mod Comparing
 pub mod Comparers

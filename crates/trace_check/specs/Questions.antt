@@ -1,5 +1,5 @@
 -- What a step asks, and what that meets in the journal.
-use Rattle.std.specs.Prelude.{◌≡◌, true, false, map, string_bytes, Option, Some, None}
+use Rattle.std.specs.Prelude.{◌≡◌, ℕ, Bool, true, false, map, string_bytes, Option, Some, None}
 use Rattle.plain_machine.specs.Exchanges.{Ask, Spawn, Read, AskEnd, Send, Close, Kill, Exchange}
 use Rattle.plain_machine.specs.Run.{same_ask}
 use Rattle.host_link.specs.Meaning.{answer_of}
@@ -15,6 +15,11 @@ asked (question.End child) = AskEnd child
 asked (question.Send child bytes) = Send child bytes.now
 asked (question.Close child) = Close child
 asked (question.Kill child) = Kill child
+
+-- a process is asked about its output, or about its end once that has ended
+abbrev pub asked_about : (drained : Bool) → (child : ℕ) → Ask
+asked_about false child = Read child
+asked_about true child = AskEnd child
 
 -- by the exchange that the journal has next
 abbrev pub Meets : Ask → (next : Option Exchange) → Met → Type 0

@@ -50,3 +50,7 @@ told_by (Err why) = Err why
 abbrev pub heard_by : Result Done NoMemory → Result Done StepFault
 heard_by (Ok how) = Ok how
 heard_by (Err wanting) = Err fault.NoMemory
+
+abbrev pub quiet_by : {T : Type 0} → Result T NoMemory → Result Done NoMemory
+quiet_by (Ok x) = Ok done.Alone
+quiet_by (Err wanting) = Err wanting

@@ -73,13 +73,15 @@ pub(crate) fn change_text<M: Kernel>(
 {
     match kernel.prepare(prim, args)? {
         Prepared::Change(change) => {
-            work.put(Item::GiveAnswer(change.reply.copy()?, target))?;
+            let reply = change.reply.copy()?;
+            work.put(Item::GiveAnswer(reply, target))?;
             work.put(Item::MakeChange(change))?;
             Ok(())
         }
         Prepared::Quiet(change) => {
             kernel.commit_quiet(&change)?;
-            work.put(Item::GiveAnswer(change.reply.copy()?, target))?;
+            let reply = change.reply.copy()?;
+            work.put(Item::GiveAnswer(reply, target))?;
             Ok(())
         }
         Prepared::Nothing(value) => {
@@ -168,8 +170,9 @@ pub(crate) fn kill_buffer<M: Kernel, P: Program>(
     let buffer = kernel.buffer_given(args);
     let doomed = kernel.running_in(buffer)?;
     work.put(Item::KillBuffer(buffer, target))?;
-    for i in (0..doomed.len()).rev() {
-        work.put(Item::Delete(doomed[i]))?;
+    for i in 0..doomed.len() {
+        let last = doomed[doomed.len() - 1 - i];
+        work.put(Item::Delete(last))?;
     }
     Ok(())
 }

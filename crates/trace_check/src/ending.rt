@@ -43,24 +43,28 @@ pub(crate) fn finish<M: Kernel, P: Program, K: Sink>(
         leave_only(work, Item::WriteDump)?;
         return Ok(Done::Alone);
     }
+    let child = kernel.processes().get(p).child();
     if !is_running(kernel, p) {
         leave_only(work, Item::Finish(p + 1))?;
         return Ok(Done::Alone);
     }
-    let child = kernel.processes().get(p).child();
     match meet(next, &Question::Kill(child)) {
-        Met::Answer(answer) if may_kill(answer) => {
-            kernel.tell_kill(program.symbols(), p, sink)?;
-            leave_only(work, Item::Finish(p + 1))?;
-            Ok(Done::Answered)
-        }
         Met::Nothing => {
             work.put_back(Item::Finish(p));
             Ok(Done::Waits)
         }
-        _ => {
+        Met::Another => {
             work.put_back(Item::Finish(p));
             Ok(Done::Off)
+        }
+        Met::Answer(answer) => {
+            if !may_kill(answer) {
+                work.put_back(Item::Finish(p));
+                return Ok(Done::Off);
+            }
+            kernel.tell_kill(program.symbols(), p, sink)?;
+            leave_only(work, Item::Finish(p + 1))?;
+            Ok(Done::Answered)
         }
     }
 }

@@ -53,38 +53,14 @@ pub(crate) fn do_form<M: Kernel>(kernel: &mut M, work: &mut Work, form: Form) ->
         (DoForm (form_of form) ∷ (list_of work.old)) (list_of work.new)) }
 {
     match form {
-        Form::Do(call) => {
-            do_call(kernel, work, call, Target::Nowhere)?;
-            Ok(())
-        }
-        Form::Setq(name, call) => {
-            do_call(kernel, work, call, Target::Name(name))?;
-            Ok(())
-        }
-        Form::Excursion(forms) => {
-            do_block(kernel, work, Block::Excursion, forms)?;
-            Ok(())
-        }
-        Form::Restriction(forms) => {
-            do_block(kernel, work, Block::Restriction, forms)?;
-            Ok(())
-        }
-        Form::KeepBuffer(forms) => {
-            do_block(kernel, work, Block::CurrentBuffer, forms)?;
-            Ok(())
-        }
-        Form::NoHooks(forms) => {
-            do_block(kernel, work, Block::NoHooks, forms)?;
-            Ok(())
-        }
-        Form::ReadOnlyOff(forms) => {
-            do_block(kernel, work, Block::ReadOnlyOff, forms)?;
-            Ok(())
-        }
-        Form::WhenEq(pair, forms) => {
-            do_when(kernel, work, &pair.0, &pair.1, forms)?;
-            Ok(())
-        }
+        Form::Do(call) => do_call(kernel, work, call, Target::Nowhere),
+        Form::Setq(name, call) => do_call(kernel, work, call, Target::Name(name)),
+        Form::Excursion(forms) => do_block(kernel, work, Block::Excursion, forms),
+        Form::Restriction(forms) => do_block(kernel, work, Block::Restriction, forms),
+        Form::KeepBuffer(forms) => do_block(kernel, work, Block::CurrentBuffer, forms),
+        Form::NoHooks(forms) => do_block(kernel, work, Block::NoHooks, forms),
+        Form::ReadOnlyOff(forms) => do_block(kernel, work, Block::ReadOnlyOff, forms),
+        Form::WhenEq(pair, forms) => do_when(kernel, work, &pair.0, &pair.1, forms),
     }
 }
 

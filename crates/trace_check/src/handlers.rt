@@ -7,7 +7,7 @@ ghost use Rattle.ek_types.specs.Listing.{items_of};
 ghost use Rattle.ek_types.specs.Property.{number_of};
 ghost use Rattle.ek_call.specs.Meaning.{reply_of, view};
 ghost use Rattle.handler_code.specs.Calls.{call_asked};
-ghost use Rattle.kernel_steps.specs.Handlers.{code_of, ended_work, kind_of};
+ghost use Rattle.kernel_steps.specs.Handlers.{code_of, ended_work, kind_of, named_code};
 ghost use Rattle.kernel_steps.specs.Work.{working};
 ghost use Rattle.trace_check.specs.Meaning.{list_of};
 ghost use Rattle.trace_check.specs.Steps.{Aloud, Quietly};
@@ -61,13 +61,27 @@ fn put_code<M: Kernel, P: Program>(
         code_of (P.meant program.now) (kind_of kind) (option_map number_of handler)
         (map view (items_of args)) (M.state kernel.old) (list_of work.old)) }
 {
-    let Some(name) = handler else {
-        put_default(kernel, work, kind, &args)?;
-        return Ok(());
-    };
+    match handler {
+        None => put_default(kernel, work, kind, &args),
+        Some(name) => put_named(kernel, program, work, name, args),
+    }
+}
+
+/// Puts a body of the script or a native in front.
+fn put_named<M: Kernel, P: Program>(
+    kernel: &M,
+    program: &P,
+    work: &mut Work,
+    name: Sym,
+    args: Values,
+) -> Mem<()>
+    ensures { OnOk result (working (M.state kernel.now) (list_of work.new) ≡
+        named_code (P.meant program.now) name.0 (map view (items_of args)) (M.state kernel.now) (list_of work.old)) }
+{
     match program.body(name) {
         Some(body) => {
-            work.put(Item::Body(body.copy()?, 0))?;
+            let copy = body.copy()?;
+            work.put(Item::Body(copy, 0))?;
             Ok(())
         }
         None => {
@@ -173,12 +187,14 @@ pub(crate) fn exit<M: Kernel, P: Program, K: Sink>(
 fn end_work(work: &mut Work, kind: Kind, faulted: bool) -> Mem<()>
     ensures { OnOk result (list_of work.new ≡ ended_work (kind_of kind) faulted (list_of work.old)) }
 {
+    if !faulted {
+        return Ok(());
+    }
     match kind {
-        Kind::Before(_) | Kind::After(_) if faulted => {
-            drop_hooks(work)?;
-            Ok(())
-        }
-        _ => Ok(()),
+        Kind::Before(_) => drop_hooks(work),
+        Kind::After(_) => drop_hooks(work),
+        Kind::Filter(_) => Ok(()),
+        Kind::Sentinel(_) => Ok(()),
     }
 }
 

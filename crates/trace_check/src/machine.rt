@@ -1,5 +1,5 @@
 //! The machine, one step at a time.
-ghost use Rattle.std.specs.Prelude.{◌≡◌, ◌<◌, ◌∷◌, Err, map, option_map};
+ghost use Rattle.std.specs.Prelude.{◌≡◌, ◌<◌, ◌∷◌, Err, map, option_map, slice_get};
 ghost use Rattle.editor_model.specs.Prims.{ConcernsHandlers, manner_of};
 ghost use Rattle.plain_machine.specs.Items.{MakeCall};
 ghost use Rattle.ek_types.specs.Io.{HasCause};
@@ -9,7 +9,8 @@ ghost use Rattle.ek_call.specs.Primitives.{prim_of};
 ghost use Rattle.host_link.specs.Meaning.{exchange_of, exchanges_of};
 ghost use Rattle.trace_check.specs.Meaning.{item_of, list_of, places_of, target_of};
 ghost use Rattle.trace_check.specs.Steps.{Comes, Unheard};
-ghost use Rattle.trace_check.specs.Turns.{Turns, alone_by, heard_by, seen, told_by};
+ghost use Rattle.kernel_steps.specs.Waits.{Passes};
+ghost use Rattle.trace_check.specs.Turns.{Turns, alone_by, heard_by, quiet_by, seen, told_by};
 
 use crate::calls;
 use crate::changes::{calm, commit_change, enter_hooks, make_change};
@@ -59,6 +60,48 @@ fn heard(done: Mem<Done>) -> Result<Done, StepFault>
     Ok(done?)
 }
 
+/// What a call comes to that asks no child.
+fn quiet(done: Mem<()>) -> Mem<Done>
+    ensures { result ≡ quiet_by done }
+{
+    done?;
+    Ok(Done::Alone)
+}
+
+/// A call on hooks or processes that isn't refused.
+fn call_passed<M: Stepped, P: Program>(
+    kernel: &mut M,
+    program: &P,
+    work: &mut Work,
+    prim: Primitive,
+    args: Values,
+    target: Target,
+    next: Option<&Exchange>,
+) -> Mem<Done>
+    requires place { 0 < places_of work.old }
+    requires manner { manner_of (prim_of prim) ≡ ConcernsHandlers }
+    requires passes { Passes (P.meant program.now) (M.state kernel.old) (prim_of prim)
+        (map view (items_of args)) }
+    ensures { Unheard result (P.meant program.now) (option_map (λ x. exchange_of x.now) next.entry)
+        (M.state kernel.old) (M.state kernel.new)
+        (MakeCall (prim_of prim) (map view (items_of args)) (target_of target) ∷ (list_of work.old))
+        (list_of work.new) }
+{
+    match prim {
+        Primitive::StartProcess => start_process(kernel, program, work, args, target, next),
+        Primitive::ProcessSendString => send_string(kernel, program, work, args, target, next),
+        Primitive::ProcessSendEof => send_eof(kernel, program, work, args, target, next),
+        Primitive::AcceptProcessOutput => {
+            quiet(calls::accept_output(kernel, program, work, &args, target))
+        }
+        Primitive::DeleteProcess => {
+            quiet(calls::delete_process(kernel, program, work, &args, target))
+        }
+        Primitive::KillBuffer => quiet(calls::kill_buffer(kernel, program, work, &args, target)),
+        _ => quiet(calls::call_silently(kernel, program, work, prim, &args, target)),
+    }
+}
+
 /// A call on hooks or processes.
 fn call_process<M: Stepped, P: Program>(
     kernel: &mut M,
@@ -76,24 +119,10 @@ fn call_process<M: Stepped, P: Program>(
         (MakeCall (prim_of prim) (map view (items_of args)) (target_of target) ∷ (list_of work.old))
         (list_of work.new) }
 {
-    if let Some(fault) = kernel.refusal(program, prim, &args) {
-        work.put(Item::Refuse(fault))?;
-        return Ok(Done::Alone);
+    match kernel.refusal(program, prim, &args) {
+        Some(fault) => quiet(work.put(Item::Refuse(fault))),
+        None => call_passed(kernel, program, work, prim, args, target, next),
     }
-    match prim {
-        Primitive::StartProcess => return start_process(kernel, program, work, args, target, next),
-        Primitive::ProcessSendString => {
-            return send_string(kernel, program, work, args, target, next);
-        }
-        Primitive::ProcessSendEof => return send_eof(kernel, program, work, args, target, next),
-        Primitive::AcceptProcessOutput => calls::accept_output(
-            kernel, program, work, &args, target,
-        )?,
-        Primitive::DeleteProcess => calls::delete_process(kernel, program, work, &args, target)?,
-        Primitive::KillBuffer => calls::kill_buffer(kernel, program, work, &args, target)?,
-        _ => calls::call_silently(kernel, program, work, prim, &args, target)?,
-    }
-    Ok(Done::Alone)
 }
 
 /// A call.
@@ -113,14 +142,23 @@ fn call<M: Stepped, P: Program>(
         (list_of work.new) }
 {
     match M::manner(prim) {
-        Manner::OnlyAsks => calls::ask_editor(kernel, work, prim, &args, target)?,
-        Manner::SetsState => calls::set_editor(kernel, work, prim, &args, target)?,
-        Manner::ChangesText => calls::change_text(kernel, work, prim, &args, target)?,
+        Manner::OnlyAsks => quiet(calls::ask_editor(kernel, work, prim, &args, target)),
+        Manner::SetsState => quiet(calls::set_editor(kernel, work, prim, &args, target)),
+        Manner::ChangesText => quiet(calls::change_text(kernel, work, prim, &args, target)),
         Manner::ConcernsHandlers => {
-            return call_process(kernel, program, work, prim, args, target, next);
+            call_process(kernel, program, work, prim, args, target, next)
         }
     }
-    Ok(Done::Alone)
+}
+
+/// The exchange of a journal at a place, if it is so long.
+fn exchange_at(journal: &Exchanges, i: usize) -> Option<&Exchange>
+    ensures { option_map (λ x. exchange_of x.now) result ≡ slice_get (exchanges_of journal.now) i }
+{
+    if i >= journal.len() {
+        return None;
+    }
+    Some(journal.at(i))
 }
 
 /// Does an item that was taken from the front of the work, where the journal has this exchange next.
@@ -227,7 +265,7 @@ impl<M: Stepped> Machine<M> {
         let Some(item) = self.work.take() else {
             return Ok(Turn::Ended);
         };
-        let next = journal.as_slice().get(self.used);
+        let next = exchange_at(journal, self.used);
         let done = do_item(&mut self.kernel, program, &mut self.work, sink, item, next)?;
         match done {
             Done::Alone => Ok(Turn::Went),

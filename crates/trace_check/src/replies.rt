@@ -1,20 +1,22 @@
 //! The replies of calls, and faults.
-ghost use Rattle.std.specs.Prelude.{◌≡◌, ◌∷◌, Err, IfOk, OnOk};
+ghost use Rattle.std.specs.Prelude.{◌≡◌, ◌∷◌, false, Err, IfOk, OnOk};
 ghost use Rattle.plain_machine.specs.Items.{GiveAnswer, Refuse};
-ghost use Rattle.plain_machine.specs.Forms.{kept_reply};
+ghost use Rattle.editor_model.specs.Values.{Answered, Value as Meant};
+ghost use Rattle.plain_machine.specs.Forms.{assigned, kept_reply};
 ghost use Rattle.ek_types.specs.Io.{HasCause};
 ghost use Rattle.ek_call.specs.Faults.{fault_of};
 ghost use Rattle.ek_call.specs.Meaning.{reply_of, view};
 ghost use Rattle.kernel_steps.specs.Work.{reply_item};
 ghost use Rattle.trace_check.specs.Meaning.{item_of, list_of, target_of};
 ghost use Rattle.trace_check.specs.Steps.{Aloud, Drops, DropsBy};
+ghost use Rattle.trace_check.specs.Replies.{HandsOn};
 
 use crate::item::{Item, Target};
 use crate::stepped::Stepped;
 use crate::turn::StepFault;
 use crate::work::Work;
 use ek_call::{Fault, Reply, Value};
-use ek_types::{Mem, Sink};
+use ek_types::{Mem, Sink, Sym};
 use kernel_steps::{Kernel, Program};
 
 /// Puts the item of a reply in front.
@@ -50,16 +52,40 @@ pub(crate) fn give_answer<M: Kernel, P: Program, K: Sink>(
 {
     let reply = Reply::Value(value);
     kernel.tell_reply(program.symbols(), &reply, sink)?;
-    match target {
-        Target::Nowhere => {}
-        Target::Name(name) => {
-            if let Reply::Value(value) = reply {
-                kernel.assign(name, value)?;
-            }
-        }
-        Target::Native => keep_reply(work, reply)?,
-    }
+    hand_on(kernel, work, reply, target)?;
     Ok(())
+}
+
+/// A reply that was told goes where it is wanted.
+fn hand_on<M: Kernel>(kernel: &mut M, work: &mut Work, reply: Reply, target: Target) -> Mem<()>
+    ensures { OnOk result (HandsOn (target_of target) (reply_of reply) (M.state kernel.old)
+        (M.state kernel.new) (list_of work.old) (list_of work.new)) }
+{
+    match target {
+        Target::Nowhere => Ok(()),
+        Target::Name(name) => {
+            keep_value(kernel, name, reply)?;
+            Ok(())
+        }
+        Target::Native => {
+            keep_reply(work, reply)?;
+            Ok(())
+        }
+    }
+}
+
+/// An answer is kept under a name.
+fn keep_value<M: Kernel>(kernel: &mut M, name: Sym, reply: Reply) -> Mem<()>
+    ensures { (v : Meant) → reply_of reply ≡ Answered v →
+        OnOk result (M.state kernel.new ≡ assigned name.0 v (M.state kernel.old)) }
+{
+    match reply {
+        Reply::Value(value) => {
+            kernel.assign(name, value)?;
+            Ok(())
+        }
+        Reply::Fault(_) => Ok(()),
+    }
 }
 
 /// A reply is kept for the native that made the call.
@@ -115,28 +141,33 @@ fn drop_work<M: Stepped>(kernel: &mut M, work: &mut Work, fault: Fault) -> Mem<(
 
 /// Drops one item, or says that the fault ends there.
 fn drop_item<M: Stepped>(kernel: &mut M, work: &mut Work, item: Item, fault: Fault) -> Mem<bool>
-    ensures { IfOk result (λ ends. DropsBy ends (fault_of fault) (M.state kernel.old)
+    ensures drops { IfOk result (λ ends. DropsBy ends (fault_of fault) (M.state kernel.old)
         (M.state kernel.new) (item_of item ∷ (list_of work.old)) (list_of work.new)) }
+    ensures rest { IfOk result (λ ends. ends ≡ false → list_of work.new ≡ list_of work.old) }
 {
     match item {
-        Item::Top(forms, at) => work.put(Item::Top(forms, at))?,
+        Item::Top(forms, at) => {
+            work.put(Item::Top(forms, at))?;
+            Ok(true)
+        }
         Item::Called(native, args, past) => {
             let mut past = past;
             past.push(Reply::Fault(fault))?;
             work.put(Item::Native(native, args, past))?;
+            Ok(true)
         }
         Item::Exit(kind, handler, current, _) => {
             work.put(Item::Exit(kind, handler, current, true))?;
+            Ok(true)
         }
         Item::Leave(kept) => {
             kernel.restore(kept);
-            return Ok(false);
+            Ok(false)
         }
         Item::CommitChange(_) => {
             kernel.forget_kept();
-            return Ok(false);
+            Ok(false)
         }
-        _ => return Ok(false),
+        _ => Ok(false),
     }
-    Ok(true)
 }

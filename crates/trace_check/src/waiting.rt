@@ -1,18 +1,27 @@
 //! Waits for output.
-ghost use Rattle.std.specs.Prelude.{◌≡◌, map, OnOk};
-ghost use Rattle.plain_machine.specs.Waits.{is_eligible, is_target, target_is_eligible};
+ghost use Rattle.std.specs.Prelude.{◌≡◌, [], false, true, map, IfOk, OnOk};
+ghost use Rattle.editor_model.specs.Arguments.{arg};
+ghost use Rattle.editor_model.specs.Values.{Nil};
+ghost use Rattle.plain_machine.specs.Calls.{waiting};
+ghost use Rattle.plain_machine.specs.Refusals.{rounds_of};
+ghost use Rattle.plain_machine.specs.Waits.{eligible, from_eligible, target_is_eligible};
 ghost use Rattle.ek_types.specs.Listing.{items_of};
 ghost use Rattle.ek_call.specs.Meaning.{view};
 ghost use Rattle.process_table.specs.Table.{with_table};
+ghost use Rattle.wait_loop.specs.Aims.{waiting_for};
 ghost use Rattle.wait_loop.specs.KeptWaits.{noted};
 ghost use Rattle.kernel_steps.specs.Waits.{waiting_of};
 ghost use Rattle.trace_check.specs.Waits.{ahead_of, in_next_round, without_first};
 
+use editor_prims::kinds::flag;
+use editor_prims::{arg, nil};
 use ek_call::{Value, Values};
 use ek_types::Mem;
 use kernel_steps::Kernel;
-use process_table::{Filter, Processes, Status};
+use process_table::Processes;
+use std::alloc::Global;
 use std::marker::Model;
+use wait_loop::Aim;
 
 /// The most rounds of a wait, which it has where none are given.
 const MOST_ROUNDS: u64 = 1000;
@@ -31,8 +40,7 @@ pub(crate) enum Ahead {
 /// A wait for the output of a process or of any.
 #[derive(Drop)]
 pub struct Waiting {
-    target: Option<u32>,
-    just: bool,
+    aim: Aim,
     rounds: u64,
     /// The processes of this round, of which those from `at` on are still to be asked.
     asking: Vec<u32>,
@@ -47,8 +55,8 @@ impl Model for Waiting {
     ghost Value = { Meant };
 
     ghost view = { λ w. record {
-      target = w.target;
-      just = w.just;
+      target = w.aim.target;
+      just = w.aim.just;
       rounds = w.rounds;
       asking = drop w.at w.asking.items;
       counted = w.counted;
@@ -57,19 +65,41 @@ impl Model for Waiting {
     ghost invariant = { λ w. w.at ≤ length w.asking.items };
 }
 
-/// Whether the argument at a place is nil, or isn't given.
-fn is_nil_at(args: &Values, i: usize) -> bool {
-    i >= args.len() || matches!(args.at(i), Value::Nil)
+/// How many rounds a value gives.
+fn rounds(v: &Value) -> u64
+    ensures { result ≡ rounds_of (view v.now) }
+{
+    match v {
+        Value::Nil => MOST_ROUNDS,
+        Value::Int(n) if *n < 0 => 0,
+        Value::Int(n) => *n as u64,
+        _ => 0,
+    }
 }
 
-/// The rounds that the second argument gives.
-fn rounds_given(args: &Values) -> u64 {
-    if is_nil_at(args, 1) {
-        return MOST_ROUNDS;
+/// The process that a wait is for, by the first argument.
+fn target<M: Kernel>(kernel: &M, args: &Values, v: &Value) -> Option<u32>
+    requires { view v.now ≡ arg (map view (items_of args.now)) 0 }
+    ensures { result ≡ (waiting (M.state kernel.now) (view v.now) Nil Nil).target }
+{
+    match v {
+        Value::Nil => None,
+        _ => Some(kernel.process_given(args)),
     }
-    match args.at(1) {
-        Value::Int(n) if *n > 0 => *n as u64,
-        _ => 0,
+}
+
+/// The processes of a round, the target first.
+fn list_round(alloc: Global, aim: Aim, table: &Processes) -> Mem<Vec<u32>>
+    ensures { IfOk result (λ list. list.items ≡ eligible (with_table table.now) (waiting_for aim)) }
+{
+    let mut list = Vec::with_capacity(alloc, table.count() as usize)?;
+    match aim.first(table) {
+        None => Ok(list),
+        Some(first) => {
+            aim.list_others(table, first, &mut list);
+            list.insert(0, first)?;
+            Ok(list)
+        }
     }
 }
 
@@ -78,71 +108,16 @@ impl Waiting {
     pub(crate) fn new<M: Kernel>(kernel: &M, args: &Values) -> Waiting
         ensures { result ≡ waiting_of (M.state kernel.now) (map view (items_of args.now)) }
     {
-        let any = is_nil_at(args, 0);
+        let nil = nil();
+        let target = target(kernel, args, arg(args, 0, &nil));
+        let just = target.is_some() && flag(arg(args, 2, &nil));
         Waiting {
-            target: if any {
-                None
-            } else {
-                Some(kernel.process_given(args))
-            },
-            just: !any && !is_nil_at(args, 2),
-            rounds: rounds_given(args),
+            aim: Aim { target, just },
+            rounds: rounds(arg(args, 1, &nil)),
             asking: Vec::new(kernel.allocator()),
             at: 0,
             counted: false,
         }
-    }
-
-    /// Whether a process is the target, or there is none.
-    fn is_for(&self, p: u32) -> bool
-        ensures { result ≡ is_target self.now.target p }
-    {
-        self.target.is_none_or(|t| t == p)
-    }
-
-    /// Whether a process may be asked.
-    fn may_ask(&self, table: &Processes, p: u32) -> bool
-        ensures { result ≡ is_eligible (with_table table.now) self.now p }
-    {
-        if p >= table.count() {
-            return false;
-        }
-        let process = table.get(p);
-        process.status() == Status::Run
-            && process.filter() != Filter::Off
-            && (!self.just || self.is_for(p))
-    }
-
-    /// Whether the target may be asked; so it is where there is none.
-    fn may_ask_target(&self, table: &Processes) -> bool
-        ensures { result ≡ target_is_eligible (with_table table.now) self.now }
-    {
-        match self.target {
-            None => true,
-            Some(target) => self.may_ask(table, target),
-        }
-    }
-
-    /// The place of the first process left in this round that may be asked, or the end.
-    fn first_left(&self, table: &Processes) -> usize {
-        let mut at = self.at;
-        while at < self.asking.len() && !self.may_ask(table, self.asking[at]) {
-            at += 1;
-        }
-        at
-    }
-
-    /// Whether a round can begin: a process may be asked, or one is the target.
-    fn finds_any(&self, table: &Processes) -> bool {
-        if self.target.is_some() {
-            return true;
-        }
-        for p in 0..table.count() {
-            if self.may_ask(table, p) {
-                return true;
-            }
-        }
-        false
     }
 
     /// What the wait comes to next, by the first rule that fits.
@@ -152,41 +127,53 @@ impl Waiting {
         if self.counted {
             return Ahead::Done(true);
         }
-        if !self.may_ask_target(table) {
+        if !self.aim.may_ask_target(table) {
             return Ahead::Done(false);
         }
-        let at = self.first_left(table);
-        if at < self.asking.len() {
-            return Ahead::Ask(self.asking[at]);
-        }
-        if self.rounds > 0 && self.finds_any(table) {
-            Ahead::Round
-        } else {
-            Ahead::Done(false)
+        match self.aim.first_in(table, &self.asking[self.at..]) {
+            Some(i) => Ahead::Ask(self.asking[self.at + i]),
+            None => self.ahead_of_round(table),
         }
     }
 
-    /// Takes the first process left in this round that may be asked, which comes next.
-    pub(crate) fn drop_first(&mut self, table: &Processes)
+    /// What comes behind a round of which nobody is left.
+    fn ahead_of_round(&self, table: &Processes) -> Ahead
+        requires quiet { self.now.counted ≡ false }
+        requires fit { target_is_eligible (with_table table.now) self.now ≡ true }
+        requires over { from_eligible (with_table table.now) self.now self.now.asking ≡ [] }
+        ensures { result ≡ ahead_of (with_table table.now) self.now }
+    {
+        if self.rounds == 0 {
+            return Ahead::Done(false);
+        }
+        match self.aim.first(table) {
+            Some(_) => Ahead::Round,
+            None => Ahead::Done(false),
+        }
+    }
+
+    /// Takes the first process left in this round that may be asked, if there is one.
+    pub(crate) fn take_first(&mut self, table: &Processes) -> Option<u32>
         ensures { self.new ≡ without_first (with_table table.now) self.old }
     {
-        let at = self.first_left(table);
-        self.at = if at < self.asking.len() { at + 1 } else { at };
+        match self.aim.first_in(table, &self.asking[self.at..]) {
+            Some(i) => {
+                let p = self.asking[self.at + i];
+                self.at += i + 1;
+                Some(p)
+            }
+            None => {
+                self.at = self.asking.len();
+                None
+            }
+        }
     }
 
     /// Begins a round. A refusal leaves nothing that may go on.
     pub(crate) fn begin_round(&mut self, table: &Processes) -> Mem<()>
         ensures { OnOk result (self.new ≡ in_next_round (with_table table.now) self.old) }
     {
-        let mut asking = Vec::new(*self.asking.allocator());
-        if let Some(target) = self.target {
-            asking.push(target)?;
-        }
-        for p in 0..table.count() {
-            if self.target != Some(p) && self.may_ask(table, p) {
-                asking.push(p)?;
-            }
-        }
+        let asking = list_round(*self.asking.allocator(), self.aim, table)?;
         self.asking = asking;
         self.at = 0;
         self.rounds = self.rounds.saturating_sub(1);
@@ -197,7 +184,7 @@ impl Waiting {
     pub(crate) fn note(&mut self, p: u32, bytes: bool)
         ensures { self.new ≡ noted p bytes self.old }
     {
-        if bytes && self.is_for(p) {
+        if bytes && self.aim.counts(p) {
             self.counted = true;
         }
     }

@@ -1,9 +1,10 @@
 //! The state of a wait: which process is to be asked next, and what the wait answers in the end.
 #![tactic(auto)]
 
-mod aim;
+mod aims;
 mod rounds;
 #[cfg(test)]
 mod tests;
 
+pub use aims::Aim;
 pub use rounds::{Step, Wait};
