@@ -603,14 +603,12 @@ def spells(ran, name, names, coding):
     return entered(ran, name) == "".join(heard(ran.exchanges, child, coding) for child in children)
 
 
-def codings(whole, names):
-    """The coding of the processes of each name, known by what they entered where memory was ample."""
-    return {name: next(it for it in CODINGS if spells(whole, name, names, it)) for name in {*names}}
-
-
 def entries_spell(ran, whole, names):
-    """Whether the filter entries of each name spell what was read from the children of that name."""
-    return all(spells(ran, name, names, coding) for name, coding in codings(whole, names).items())
+    """Whether the filter entries of each name spell what was read from the children of that name, in a coding in which they do
+    where memory is ample."""
+    return all(
+        any(spells(whole, name, names, it) and spells(ran, name, names, it) for it in CODINGS) for name in {*names}
+    )
 
 
 def verdict(ran, whole, names):
