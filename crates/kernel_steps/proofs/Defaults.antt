@@ -65,7 +65,7 @@ output_is : (s : State) (mark : ℕ) (text : List Cell) (rest : List Item) (o : 
 output_is s mark text rest None = refl
 output_is s mark text rest (Some b) = refl
 
-default_is : (kind : Kind) (args : List Value) (s : State) (rest : List Item) → default_handler s kind args rest ≡ put_in (default_state kind s) (default_prepared kind args s) rest
+pub default_is : (kind : Kind) (args : List Value) (s : State) (rest : List Item) → default_handler s kind args rest ≡ put_in (default_state kind s) (default_prepared kind args s) rest
 default_is (OfFilter p) args s rest = output_is s (mark_of_process s p) (plain_text (second args)) rest (process_buffer_of s p)
 default_is (OfSentinel p) args s rest = output_is s (mark_of_process s p) (sentinel_words s p (plain_text (second args))) rest (process_buffer_of s p)
 default_is (OfBefore b) args s rest = refl
@@ -75,13 +75,13 @@ state_by_kept : (s : State) (o : Option ℕ) → state_by (kept_state s) o ≡ k
 state_by_kept s None = refl
 state_by_kept s (Some b) = refl
 
-state_kept : (kind : Kind) (s : State) → default_state kind (kept_state s) ≡ kept_state (default_state kind s)
+pub state_kept : (kind : Kind) (s : State) → default_state kind (kept_state s) ≡ kept_state (default_state kind s)
 state_kept (OfFilter p) s = ap (state_by (kept_state s)) (buffer_kept s p) ∙ state_by_kept s (process_buffer_of s p)
 state_kept (OfSentinel p) s = ap (state_by (kept_state s)) (buffer_kept s p) ∙ state_by_kept s (process_buffer_of s p)
 state_kept (OfBefore b) s = refl
 state_kept (OfAfter b) s = refl
 
-prepared_kept : (kind : Kind) (args : List Value) (s : State) → default_prepared kind args (kept_state s) ≡ default_prepared kind args s
+pub prepared_kept : (kind : Kind) (args : List Value) (s : State) → default_prepared kind args (kept_state s) ≡ default_prepared kind args s
 prepared_kept (OfFilter p) args s = ap (λ m. prepared_by s m (plain_text (second args)) (process_buffer_of (kept_state s) p)) (mark_kept s p) ∙ ap (prepared_by s (mark_of_process s p) (plain_text (second args))) (buffer_kept s p)
 prepared_kept (OfSentinel p) args s =
     ap (λ m. prepared_by s m (sentinel_words (kept_state s) p (plain_text (second args))) (process_buffer_of (kept_state s) p)) (mark_kept s p)
@@ -222,7 +222,7 @@ all_kept : (program : Program) (s : State) (vs : List Value) → list_all (was_m
 all_kept program s [] = refl
 all_kept program s (v ∷ vs) = (λ i. made_kept program s v i && all_kept program s vs i)
 
-callable_alike : (program : Program) (known s : State) (c : Prim × List Value) → Stands known s → is_callable program known c ≡ is_callable program s c
+pub callable_alike : (program : Program) (known s : State) (c : Prim × List Value) → Stands known s → is_callable program known c ≡ is_callable program s c
 callable_alike program known s c h = ap (λ t. is_callable program t c) h ∙ ap (λ b. takes c.0 (length c.1) && b) (all_kept program s c.1)
 
 -- CALLS OF NATIVES
@@ -240,11 +240,11 @@ item_by b c = elim b [ true ↦ MakeCall c.0 (map normal c.1) ToNative | false �
 abbrev allowed_by : Bool → Prim × List Value → Option (Prim × List Value)
 allowed_by b c = elim b [ true ↦ Some (c.0, map normal c.1) | false ↦ None ]
 
-made_item : (b : Bool) (c d : Prim × List Value) → Some d ≡ allowed_by b c → item_by b c ≡ MakeCall d.0 d.1 ToNative
+pub made_item : (b : Bool) (c d : Prim × List Value) → Some d ≡ allowed_by b c → item_by b c ≡ MakeCall d.0 d.1 ToNative
 made_item true c d e = let same : (c.0, map normal c.1) ≡ d = (let x : Some d ≡ Some (c.0, map normal c.1) = e in cc) in ap (λ (x : Prim × List Value). MakeCall x.0 x.1 ToNative) same
 made_item false c d e = absurd (let x : Some d ≡ None = e in cc)
 
-barred_item : (b : Bool) (c : Prim × List Value) → None ≡ allowed_by b c → item_by b c ≡ Refuse WrongType
+pub barred_item : (b : Bool) (c : Prim × List Value) → None ≡ allowed_by b c → item_by b c ≡ Refuse WrongType
 barred_item true c e = absurd (let x : None ≡ Some (c.0, map normal c.1) = e in cc)
 barred_item false c e = refl
 

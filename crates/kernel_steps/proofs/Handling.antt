@@ -68,7 +68,7 @@ module _ (program : Program) where
   abbrev code_by : Option HandlerDef → (name : ℕ) → List Value → State → List Item → Config
   code_by o name args s rest = elim o [ Some d ↦ working s (Body d.body ∷ rest) | None ↦ working s (Native (native_of program name) args [] ∷ rest) ]
 
-  body_code : (kind : Kind) (handler : Option ℕ) (args : List Value) (s : State) (rest : List Item) → body_of program (record s { depth = s.depth + 1 }) kind handler args rest ≡ code_of program kind handler args (entered program handler args s) rest
+  pub body_code : (kind : Kind) (handler : Option ℕ) (args : List Value) (s : State) (rest : List Item) → body_of program (record s { depth = s.depth + 1 }) kind handler args rest ≡ code_of program kind handler args (entered program handler args s) rest
   body_code kind None args s rest = refl
   body_code kind (Some name) args s rest = by (handler_def program.handlers name)
     where
@@ -259,7 +259,7 @@ module _ (program : Program) where
   current_calm : (c : ℕ) → IsCalm (λ s. if_live s c (current c s))
   current_calm c = calm_if c (current c) (λ s. refl) (λ s. refl) (λ s. refl) (λ s. refl) (λ s. refl)
 
-  ended_config : (kind : Kind) (faulted : Bool) (s : State) (rest : List Item) → ended_handler kind faulted s rest ≡ working (ended_state kind faulted s) (ended_work kind faulted rest)
+  pub ended_config : (kind : Kind) (faulted : Bool) (s : State) (rest : List Item) → ended_handler kind faulted s rest ≡ working (ended_state kind faulted s) (ended_work kind faulted rest)
   ended_config (OfFilter p) faulted s rest = refl
   ended_config (OfSentinel p) faulted s rest = refl
   ended_config (OfBefore b) true s rest = refl
@@ -294,7 +294,7 @@ module _ (program : Program) where
     out_line : (s : State) → Stands w.state s → line program.symbols w.state (event_out w.state) ≡ line program.symbols s (event_out s)
     out_line s stands = ap (λ (t : State). line program.symbols t (event_out t)) stands
 
-    leaves_kept : (s : State) → leaves (kept_state s) ≡ kept_state (leaves s)
+    pub leaves_kept : (s : State) → leaves (kept_state s) ≡ kept_state (leaves s)
     leaves_kept s = ap (ended_state kind faulted) ((current_calm c).kept (out s)) ∙ (ended_calm kind faulted).kept (left_state s c)
 
     pub leave_told : {U E : Type 0} (u : U) (sink : SinkState) (known : State) → known ≡ leaves w.state → Writes {T = U} {E = E} w.outside.sink sink (Ok u) (line program.symbols w.state (event_out w.state)) →

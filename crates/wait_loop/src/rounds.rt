@@ -1,5 +1,5 @@
 //! A wait and its rounds.
-use crate::aim::Aim;
+use crate::aims::Aim;
 use ek_types::Mem;
 use process_table::Processes;
 use std::alloc::Global;

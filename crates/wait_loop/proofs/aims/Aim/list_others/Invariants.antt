@@ -4,7 +4,7 @@ use Rattle.plain_machine.specs.Waits.{is_eligible}
 use Rattle.process_table.specs.Table.{with_table}
 use Rattle.wait_loop.specs.Aims.{waiting_for}
 use Rattle.wait_loop.proofs.EligibleLemmas.{others}
-use Rattle.wait_loop.proofs.aim.Aim.list_others.Given as goal
+use Rattle.wait_loop.proofs.aims.Aim.list_others.Given as goal
 
 abbrev pub invariant-loop-p : goal.invariant-loop-p
 invariant-loop-p l = record {

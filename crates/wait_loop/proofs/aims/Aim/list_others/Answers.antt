@@ -4,8 +4,8 @@ use Rattle.plain_machine.specs.Waits.{is_eligible}
 use Rattle.process_table.specs.Table.{with_table}
 use Rattle.wait_loop.specs.Aims.{waiting_for}
 use Rattle.wait_loop.proofs.EligibleLemmas.{others, others_of_round, one_more_passes, none_more_fails, none_more_first}
-use Rattle.wait_loop.proofs.aim.Aim.list_others.Goals as goal
-use Rattle.wait_loop.proofs.aim.Aim.list_others.Goals.{then-p-first+then-may_ask, else-p-first, else-p-first-via-then-p-first+else-may_ask, else-p-first-via-else-p-first}
+use Rattle.wait_loop.proofs.aims.Aim.list_others.Goals as goal
+use Rattle.wait_loop.proofs.aims.Aim.list_others.Goals.{then-p-first+then-may_ask, else-p-first, else-p-first-via-then-p-first+else-may_ask, else-p-first-via-else-p-first}
 
 pub loop-p-preserved : goal.loop-p-preserved
 loop-p-preserved c =

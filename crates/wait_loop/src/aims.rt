@@ -9,21 +9,21 @@ use process_table::{Filter, Processes, Status};
 
 /// A process or any, and whether that one alone is asked.
 #[derive(Clone, Copy)]
-pub(crate) struct Aim {
-    pub(crate) target: Option<u32>,
-    pub(crate) just: bool,
+pub struct Aim {
+    pub target: Option<u32>,
+    pub just: bool,
 }
 
 impl Aim {
     /// Whether bytes of process `p` count: those of the target, or of any where there is none.
-    pub(crate) fn counts(self, p: u32) -> bool
+    pub fn counts(self, p: u32) -> bool
         ensures { result ≡ is_target self.target p }
     {
         self.target.is_none_or(|t| t == p)
     }
 
     /// Whether process `p` may be asked.
-    pub(crate) fn may_ask(self, table: &Processes, p: u32) -> bool
+    pub fn may_ask(self, table: &Processes, p: u32) -> bool
         ensures { result ≡ is_eligible (with_table table.now) (waiting_for self) p }
     {
         if p >= table.count() {
@@ -36,21 +36,21 @@ impl Aim {
     }
 
     /// Whether the target may be asked; so it is where there is none.
-    pub(crate) fn may_ask_target(self, table: &Processes) -> bool
+    pub fn may_ask_target(self, table: &Processes) -> bool
         ensures { result ≡ target_is_eligible (with_table table.now) (waiting_for self) }
     {
         self.target.is_none_or(|t| self.may_ask(table, t))
     }
 
     /// The place of the first process of a list that may be asked.
-    pub(crate) fn first_in(self, table: &Processes, asking: &[u32]) -> Option<usize>
+    pub fn first_in(self, table: &Processes, asking: &[u32]) -> Option<usize>
         ensures { result ≡ position (is_eligible (with_table table.now) (waiting_for self)) asking.now }
     {
         asking.iter().position(|p| self.may_ask(table, *p))
     }
 
     /// The first process of a round.
-    pub(crate) fn first(self, table: &Processes) -> Option<u32>
+    pub fn first(self, table: &Processes) -> Option<u32>
         ensures { result ≡ slice_get (eligible (with_table table.now) (waiting_for self)) 0 }
     {
         match self.target {
@@ -68,7 +68,7 @@ impl Aim {
     }
 
     /// Makes `asking` the processes of a round behind the first one, by rising number.
-    pub(crate) fn list_others(self, table: &Processes, first: u32, asking: &mut Vec<u32>)
+    pub fn list_others(self, table: &Processes, first: u32, asking: &mut Vec<u32>)
         requires first { slice_get (eligible (with_table table.now) (waiting_for self)) 0 ≡ Some first }
         requires room { length table.now ≤ vec_capacity asking.old }
         ensures items { asking.new.items ≡ drop 1 (eligible (with_table table.now) (waiting_for self)) }
