@@ -1,0 +1,12 @@
+-- The list of work, whose next item lies at the end.
+use Rattle.std.proofs.Common.{◌≡◌, List, [], ◌∷◌, ◌++◌, refl}
+use Rattle.plain_machine.specs.Items.{Item}
+use Rattle.trace_check.specs.declared.item.Item.{Item as Written}
+use Rattle.trace_check.specs.Meaning.{item_of, in_front, work_of}
+
+in_front_more : (items : List Written) (x : Written) (rest : List Item) → in_front (items ++ x ∷ []) rest ≡ item_of x ∷ in_front items rest
+in_front_more [] x rest = refl
+in_front_more (y ∷ items) x rest = in_front_more items x (item_of y ∷ rest)
+
+pub work_more : (items : List Written) (x : Written) → work_of (items ++ x ∷ []) ≡ item_of x ∷ work_of items
+work_more items x = in_front_more items x []

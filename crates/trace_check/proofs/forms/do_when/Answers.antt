@@ -1,0 +1,18 @@
+use Rattle.std.proofs.Common.{map, ap, sym, ◌∙◌}
+use Rattle.ek_types.specs.Listing.{items_of}
+use Rattle.ek_call.specs.Meaning.{arg_of, form_of, joined}
+use Rattle.trace_check.specs.Meaning.{list_of}
+use Rattle.trace_check.proofs.FormItems.{when_void, when_equal, when_other}
+use Rattle.trace_check.proofs.forms.do_when.Goals as goal
+
+pub returns-in_ok-put-in-None : goal.returns-in_ok-put-in-None
+returns-in_ok-put-in-None g c = λ program.
+    rw c.in_ok-put-in-None.ensures.ok (when_void program (g.M.Kernel.state c.args.kernel.now) (list_of c.args.work.now) (arg_of c.args.a.now) (arg_of c.args.b.now) (joined (map form_of (items_of c.args.forms))) (sym (rw c.in-None.is at c.are_equal.ensures)))
+
+pub returns-in_ok-put-in-Some-true : goal.returns-in_ok-put-in-Some-true
+returns-in_ok-put-in-Some-true g c = λ program.
+    rw c.in_ok-put-in-Some-true.ensures.ok (when_equal program (g.M.Kernel.state c.args.kernel.now) (list_of c.args.work.now) (arg_of c.args.a.now) (arg_of c.args.b.now) (joined (map form_of (items_of c.args.forms))) (sym (rw c.in-Some-true.field-0-test at c.in-Some-true.ensures)))
+
+pub returns-in-Some-false : goal.returns-in-Some-false
+returns-in-Some-false g c = λ program.
+    when_other program (g.M.Kernel.state c.args.kernel.now) (list_of c.args.work.now) (arg_of c.args.a.now) (arg_of c.args.b.now) (joined (map form_of (items_of c.args.forms))) (sym (rw c.in-Some-false.field-0-test at c.in-Some-false.ensures))

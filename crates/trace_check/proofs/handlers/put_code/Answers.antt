@@ -1,0 +1,7 @@
+use Rattle.trace_check.proofs.handlers.put_code.Goals as goal
+
+pub returns-in-None : goal.returns-in-None
+returns-in-None g c = rw c.in-None.is c.put_default.ensures
+
+pub returns-in-Some : goal.returns-in-Some
+returns-in-Some g c = rw c.in-Some.is c.put_named.ensures

@@ -1,0 +1,33 @@
+use Rattle.std.proofs.Common.{◌≡◌, ℕ, ◌+◌, ◌-◌, List, [], length, take, drop, refl, ap, sym, ◌∙◌, subst, arith}
+use Rattle.std.specs.Prelude.{Some, None}
+use Rattle.std.specs.List.{position}
+use Rattle.std.proofs.lemmas.List.{drop_all}
+use Rattle.plain_machine.specs.Items.{Waiting}
+use Rattle.plain_machine.specs.Waits.{is_eligible}
+use Rattle.process_table.specs.Table.{with_table}
+use Rattle.wait_loop.specs.Aims.{waiting_for}
+use Rattle.wait_loop.proofs.RoundLemmas.{none_left, one_left}
+use Rattle.trace_check.specs.contracts.waiting.Waiting.{the_view}
+use Rattle.trace_check.specs.Waits.{without_first}
+use Rattle.trace_check.proofs.Aheads.{first_taken, nobody_taken}
+use Rattle.trace_check.proofs.waiting.Waiting.take_first.Goals as goal
+
+pub returns-in-Some : goal.returns-in-Some
+returns-in-Some c =
+    let s = with_table c.args.table.now in
+    let old = the_view c.self.inside in
+    let seen = λ (xs : List ℕ). position (is_eligible s (waiting_for c.self.inside.aim)) (take (length xs - c.self.inside.at) (drop c.self.inside.at xs)) in
+    let found : Some c.in-Some.i ≡ seen c.self.inside.asking.items = sym c.in-Some.is ∙ c.first_in.ensures ∙ ap seen c.deref.ensures.value in
+    let left : Waiting = record old { asking = drop (c.self.inside.at + (c.in-Some.i + 1)) c.self.inside.asking.items } in
+    subst (λ (w : Waiting). left ≡ without_first s w) c.self.view_is
+    (first_taken s old c.index-p.result.now left (one_left s old c.self.inside.asking.items c.self.inside.at c.in-Some.i c.index-p.result.now refl found c.index-p.ensures))
+
+pub returns-in-None : goal.returns-in-None
+returns-in-None c =
+    let s = with_table c.args.table.now in
+    let old = the_view c.self.inside in
+    let items = c.self.inside.asking.items in
+    let seen = λ (xs : List ℕ). position (is_eligible s (waiting_for c.self.inside.aim)) (take (length xs - c.self.inside.at) (drop c.self.inside.at xs)) in
+    let found : None ≡ seen items = sym c.in-None.is ∙ c.first_in.ensures ∙ ap seen c.deref.ensures.value in
+    subst (λ (w : Waiting). record old { asking = drop (length items) items } ≡ without_first s w) c.self.view_is
+    (ap (λ l. record old { asking = l }) (drop_all (length items) items (omega arith)) ∙ nobody_taken s old (none_left s old items c.self.inside.at refl found))

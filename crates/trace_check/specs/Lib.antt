@@ -1,0 +1,10 @@
+pub mod Meaning
+pub mod Waits
+pub mod Answers
+pub mod Questions
+pub mod Steps
+pub mod Replies
+pub mod Turns
+pub mod Comparing
+pub mod Comparers
+pub mod Verdicts

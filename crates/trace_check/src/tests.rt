@@ -1,0 +1,34 @@
+//! Worked cases of the list of work, and of claimed lines.
+use crate::comparer::Comparer;
+use crate::item::Item;
+use crate::work::Work;
+use std::test::Fail;
+
+#[test]
+fn the_next_item_is_the_one_put_last(rt: HostRuntime) -> Result<(), Fail> {
+    let mut work = Work::new(rt.alloc());
+    work.put(Item::WriteDump)?;
+    work.put(Item::Finish(3))?;
+    assert!(rt; matches!(work.take(), Some(Item::Finish(3))));
+    work.clear();
+    assert!(rt; work.take().is_none());
+    Ok(())
+}
+
+/// The line in which claimed bytes differ from those of a run that come in two pieces.
+fn difference(claimed: &[u8], first: &[u8], second: &[u8]) -> Option<usize> {
+    let mut comparer = Comparer::new(claimed);
+    comparer.take(first);
+    comparer.take(second);
+    comparer.difference()
+}
+
+#[test]
+fn the_line_of_the_first_difference_is_found(rt: HostRuntime) -> Result<(), Fail> {
+    assert_eq!(rt; difference(b"= 1\n= 2\n", b"= 1\n", b"= 2\n"), None);
+    assert_eq!(rt; difference(b"= 1\n= 3\n", b"= 1\n", b"= 2\n"), Some(2));
+    assert_eq!(rt; difference(b"= 1\n", b"= 1\n", b"= 2\n"), Some(2));
+    assert_eq!(rt; difference(b"= 1\n= 2\n= 3\n", b"= 1\n", b"= 2\n"), Some(3));
+    assert_eq!(rt; difference(b"", b"= 1\n", b"= 2\n"), Some(1));
+    Ok(())
+}

@@ -1,0 +1,203 @@
+//! Waits and deletions.
+ghost use Rattle.std.specs.Prelude.{◌≡◌, ◌<◌, ◌∷◌, true, option_map, OnOk};
+ghost use Rattle.plain_machine.specs.Arguments.{is_running};
+ghost use Rattle.plain_machine.specs.Items.{Delete, Wait};
+ghost use Rattle.plain_machine.specs.State.{Program as Plain};
+ghost use Rattle.process_table.specs.Table.{with_table};
+ghost use Rattle.host_link.specs.Meaning.{answer_of, exchange_of};
+ghost use Rattle.ek_call.specs.Meaning.{view};
+ghost use Rattle.kernel_steps.specs.Waits.{entering, truth_of};
+ghost use Rattle.trace_check.specs.Answers.{Deletes, Hears, IsAllowed};
+ghost use Rattle.trace_check.specs.Meaning.{list_of, places_of, target_of};
+ghost use Rattle.trace_check.specs.Questions.{asked, asked_about};
+ghost use Rattle.trace_check.specs.Steps.{Unheard};
+ghost use Rattle.trace_check.specs.Waits.{ahead_of};
+
+use crate::asks::{Met, Question, may_hear, may_kill, meet};
+use crate::item::{Item, Target};
+use crate::stepped::Stepped;
+use crate::turn::Done;
+use crate::waiting::{Ahead, Waiting};
+use crate::work::Work;
+use ek_call::{Fault, Value};
+use ek_types::Mem;
+use host_link::{Answer, Exchange};
+use kernel_steps::{Entry, Kernel};
+use process_table::Status;
+
+/// What a wait answers.
+fn truth(heard: bool) -> Value
+    ensures { view result ≡ truth_of heard }
+{
+    if heard { Value::T } else { Value::Nil }
+}
+
+/// A wait goes on by its next rule.
+pub(crate) fn wait<M: Stepped>(
+    kernel: &mut M,
+    work: &mut Work,
+    waiting: Waiting,
+    target: Target,
+    next: Option<&Exchange>,
+) -> Mem<Done>
+    requires { 0 < places_of work.old }
+    ensures { (program : Plain) → Unheard result program (option_map (λ x. exchange_of x.now) next.entry)
+        (M.state kernel.old) (M.state kernel.new) (Wait waiting (target_of target) ∷ (list_of work.old))
+        (list_of work.new) }
+{
+    match waiting.ahead(kernel.processes()) {
+        Ahead::Done(heard) => {
+            work.put(Item::GiveAnswer(truth(heard), target))?;
+            Ok(Done::Alone)
+        }
+        Ahead::Round => {
+            let mut waiting = waiting;
+            waiting.begin_round(kernel.processes())?;
+            work.put(Item::Wait(waiting, target))?;
+            Ok(Done::Alone)
+        }
+        Ahead::Ask(p) => ask(kernel, work, waiting, target, p, next),
+    }
+}
+
+/// What a process is asked: for its output, or for its end once that has ended.
+fn question_about<'a>(drained: bool, child: u32) -> Question<'a>
+    ensures { asked result ≡ asked_about drained child }
+{
+    if drained {
+        Question::End(child)
+    } else {
+        Question::Read(child)
+    }
+}
+
+/// One process is asked, and what was heard is to be entered.
+fn ask<M: Stepped>(
+    kernel: &mut M,
+    work: &mut Work,
+    waiting: Waiting,
+    target: Target,
+    p: u32,
+    next: Option<&Exchange>,
+) -> Mem<Done>
+    requires place { 0 < places_of work.old }
+    requires ahead { ahead_of (with_table (M.state kernel.old).processes) waiting ≡ Ahead.Ask p }
+    ensures { (program : Plain) → Unheard result program (option_map (λ x. exchange_of x.now) next.entry)
+        (M.state kernel.old) (M.state kernel.new) (Wait waiting (target_of target) ∷ (list_of work.old))
+        (list_of work.new) }
+{
+    if !kernel.may_ask() {
+        work.put(Item::Refuse(Fault::ExchangesSpent))?;
+        return Ok(Done::Alone);
+    }
+    let process = kernel.processes().get(p);
+    let drained = process.drained();
+    let question = question_about(drained, process.child());
+    match meet(next, &question) {
+        Met::Nothing => {
+            work.put_back(Item::Wait(waiting, target));
+            Ok(Done::Waits)
+        }
+        Met::Another => {
+            work.put_back(Item::Wait(waiting, target));
+            Ok(Done::Off)
+        }
+        Met::Answer(answer) => {
+            if !may_hear(drained, answer) {
+                work.put_back(Item::Wait(waiting, target));
+                return Ok(Done::Off);
+            }
+            hear(kernel, work, waiting, target, p, answer)?;
+            Ok(Done::Answered)
+        }
+    }
+}
+
+/// The answer of a process is taken: the wait stands behind what is to be entered.
+fn hear<M: Stepped>(
+    kernel: &mut M,
+    work: &mut Work,
+    waiting: Waiting,
+    target: Target,
+    p: u32,
+    answer: &Answer,
+) -> Mem<()>
+    requires { IsAllowed (M.state kernel.old) p (answer_of answer.now) }
+    ensures { OnOk result (Hears (M.state kernel.old) (M.state kernel.new) waiting (target_of target) p
+        (answer_of answer.now) (list_of work.old) (list_of work.new)) }
+{
+    let mut waiting = waiting;
+    let _taken = waiting.take_first(kernel.processes());
+    let heard = kernel.take_answer(p, answer)?;
+    waiting.note(p, heard.bytes);
+    work.put(Item::Wait(waiting, target))?;
+    put_entry(work, heard.entry)?;
+    Ok(())
+}
+
+/// Puts a filter or a sentinel in front, if there is one to be entered.
+fn put_entry(work: &mut Work, entry: Option<Entry>) -> Mem<()>
+    ensures { OnOk result (list_of work.new ≡ entering entry (list_of work.old)) }
+{
+    match entry {
+        None => Ok(()),
+        Some(entry) => {
+            work.put(Item::Enter(entry.kind, entry.handler, entry.args))?;
+            Ok(())
+        }
+    }
+}
+
+/// Whether a process was made and runs.
+pub(crate) fn is_running<M: Kernel>(kernel: &M, p: u32) -> bool
+    ensures { result ≡ is_running (M.state kernel.now) p }
+{
+    let table = kernel.processes();
+    p < table.count() && table.get(p).status() == Status::Run
+}
+
+/// A process is deleted: if it runs it is killed, and its sentinel is to be entered.
+pub(crate) fn delete<M: Stepped>(
+    kernel: &mut M,
+    work: &mut Work,
+    p: u32,
+    next: Option<&Exchange>,
+) -> Mem<Done>
+    requires { 0 < places_of work.old }
+    ensures { (program : Plain) → Unheard result program (option_map (λ x. exchange_of x.now) next.entry)
+        (M.state kernel.old) (M.state kernel.new) (Delete p ∷ (list_of work.old)) (list_of work.new) }
+{
+    if !is_running(kernel, p) {
+        return Ok(Done::Alone);
+    }
+    let child = kernel.processes().get(p).child();
+    match meet(next, &Question::Kill(child)) {
+        Met::Nothing => {
+            work.put_back(Item::Delete(p));
+            Ok(Done::Waits)
+        }
+        Met::Another => {
+            work.put_back(Item::Delete(p));
+            Ok(Done::Off)
+        }
+        Met::Answer(answer) => {
+            if !may_kill(answer) {
+                work.put_back(Item::Delete(p));
+                return Ok(Done::Off);
+            }
+            kill(kernel, work, p)?;
+            Ok(Done::Answered)
+        }
+    }
+}
+
+/// A process was killed: its sentinel is to be entered.
+fn kill<M: Stepped>(kernel: &mut M, work: &mut Work, p: u32) -> Mem<()>
+    requires { is_running (M.state kernel.old) p ≡ true }
+    ensures { OnOk result (Deletes (M.state kernel.old) (M.state kernel.new) p (list_of work.old)
+        (list_of work.new)) }
+{
+    let entry = kernel.take_kill(p)?;
+    work.put(Item::Enter(entry.kind, entry.handler, entry.args))?;
+    Ok(())
+}
