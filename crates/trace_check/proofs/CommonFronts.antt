@@ -1,9 +1,10 @@
 -- The longest common front of two lists, as one of them grows.
-use Rattle.std.proofs.Common.{◌≡◌, ℕ, zero, suc, ◌<◌, ◌≤◌, Bool, true, false, List, [], ◌∷◌, ◌++◌, length, get_or, refl, ap, sym, ◌∙◌, arith, inl, inr, ◌+◌, filter, length-append}
+use Rattle.std.proofs.Common.{◌≡◌, ℕ, zero, suc, ◌<◌, ◌≤◌, Bool, true, false, List, [], ◌∷◌, ◌++◌, length, get_or, refl, ap, sym, ◌∙◌, arith, inl, inr, ◌+◌, cond, filter, length-append}
 use Rattle.std.specs.Prelude.{◌==◌, ◌⊎◌}
 use Rattle.std.proofs.lemmas.Bool.{eqb-true, eq-eqb, ne_eqb}
 use Rattle.std.proofs.lemmas.List.Elements.{filter-append}
-use Rattle.trace_check.specs.Comparing.{common, line_feeds}
+use Rattle.plain_machine.specs.Grammar.{line_feeds}
+use Rattle.trace_check.specs.Comparing.{common}
 
 abbrev by_head : Bool → ℕ → List ℕ → List ℕ
 by_head same x front = elim same [ true ↦ x ∷ front | false ↦ [] ]
@@ -91,3 +92,14 @@ no_feed xs b other = ap length (filter-append (λ c. c == 10) xs (b ∷ [])) ∙
 -- all of what was met agrees
 pub all_met : (xs ys : List ℕ) (at : ℕ) → at ≡ length (common xs ys) → length ys ≤ at → at ≡ length ys
 all_met xs ys at is h = omega (arith, is, (no_longer xs ys).1)
+
+filter_few : (test : ℕ → Bool) (xs : List ℕ) → length (filter test xs) ≤ length xs
+filter_few test [] = omega arith
+filter_few test (x ∷ xs) = go (test x) (filter_few test xs)
+  where
+    go : (kept : Bool) → length (filter test xs) ≤ length xs → length (cond kept (x ∷ filter test xs) (filter test xs)) ≤ suc (length xs)
+    go true ih = omega (arith, ih)
+    go false ih = omega (arith, ih)
+
+pub feeds_few : (xs : List ℕ) → line_feeds xs ≤ length xs
+feeds_few xs = filter_few (λ c. c == 10) xs

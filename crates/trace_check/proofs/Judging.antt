@@ -16,13 +16,12 @@ use Rattle.machine_laws.proofs.OneRun.{one_run}
 use Rattle.kernel_steps.specs.Outside.{deepest, IsStep}
 use Rattle.kernel_steps.specs.Work.{working}
 use Rattle.kernel_steps.proofs.Journeys.{lines_then}
-use Rattle.trace_check.specs.Comparers.{Compares, DiffersAt}
-use Rattle.trace_check.specs.Comparing.{HeldLine, sink_of}
+use Rattle.trace_check.specs.Comparing.{Compared, comparing_state, DiffersAt}
 use Rattle.trace_check.specs.Steps.{IsAsking, IsOff}
 use Rattle.trace_check.specs.Turns.{Seen, Turns, Uses as UsesMade}
 use Rattle.trace_check.specs.Verdicts.{Uses, IsReach, Ends, HasCome, IsVerdict}
 use Rattle.trace_check.specs.declared.checking.Verdict.TheVariants as verdict
-use Rattle.trace_check.specs.declared.comparer.Comparer.{Comparer}
+use Rattle.trace_check.proofs.Agreeing.{Kept, kept}
 use Rattle.trace_check.specs.declared.turn.Turn.TheVariants as turn
 
 -- FRONTS OF A JOURNAL
@@ -106,39 +105,41 @@ ask_same (Close child) = eq-eqb child child refl
 ask_same (Kill child) = eq-eqb child child refl
 
 module _ (program : Program) (from : Config) (journal : List Exchange) where
-  pub begins : (known : State) (work : List Item) (used : ℕ) (c : Comparer) → from ≡ working new_state work → known ≡ new_state → used ≡ 0 → Compares c [] → HasCome program from journal (record { state = known; work = work; used = used }) c
-  begins known work used c is fresh unused compares = record {
+  pub begins : (known : State) (work : List Item) (used : ℕ) (written : List ℕ) → from ≡ working new_state work → known ≡ new_state → used ≡ 0 → written ≡ [] → HasCome program from journal (record { state = known; work = work; used = used }) written
+  begins known work used written is fresh unused nothing = record {
     state = new_state;
     stands = fresh;
     said = [];
     within = omega (arith, unused);
     run = subst (λ n. Reaches program deepest from (take n journal) [] (working new_state work)) (sym unused) (subst (λ d. Reaches program deepest from [] [] d) is stays);
-    compares = compares;
+    bytes = nothing;
   }
 
   -- one step more
-  pub goes_on : (old new : Seen) (line line2 : HeldLine) (c c2 : Comparer) (met : List ℕ) → line.bytes ≡ [] → met ≡ line2.bytes → Turns (Ok turn.Went) program journal old new (sink_of line) (sink_of line2) →
-      ((written : List ℕ) → Compares c written → Compares c2 (written ++ met)) → HasCome program from journal old c → HasCome program from journal new c2
-  goes_on old new line line2 c c2 met empty met_is turned more come =
+  pub goes_on : (old new : Seen) (sink sink2 : Compared) → Turns (Ok turn.Went) program journal old new (comparing_state sink) (comparing_state sink2) →
+      HasCome program from journal old sink.given → HasCome program from journal new sink2.given × (sink2.claimed ≡ sink.claimed)
+  goes_on old new sink sink2 turned come =
       let (made, uses, steps) = turned in
       let moves = steps come.state come.stands in
       let front = take_made journal old.used new.used made uses come.within in
       let one : Reaches program deepest (working come.state old.work) made moves.next.said moves.next.config = rw append-nil at (run_of_step program (working come.state old.work) made moves.next moves.steps) in
       let all = reaches_then program deepest from (working come.state old.work) moves.next.config (take old.used journal) made come.said moves.next.said come.run one in
-      let bytes : met ≡ lines moves.next.said = met_is ∙ moves.written ∙ ap (λ l. l ++ lines moves.next.said) empty in
-      record {
-        state = moves.next.config.state;
-        stands = moves.stands;
-        said = come.said ++ moves.next.said;
-        within = front.0;
-        run =
-            subst (λ l. Reaches program deepest from l (come.said ++ moves.next.said) (working moves.next.config.state new.work)) (sym front.1)
-            (subst (λ w. Reaches program deepest from (take old.used journal ++ made) (come.said ++ moves.next.said) (working moves.next.config.state w)) moves.left_is all);
-        compares = subst (Compares c2) (ap (λ l. lines come.said ++ l) bytes ∙ sym (lines_then come.said moves.next.said)) (more (lines come.said) come.compares);
-      }
+      let more : Kept sink sink2 (lines moves.next.said) = kept sink sink2 (lines moves.next.said) moves.written in (
+        record {
+          state = moves.next.config.state;
+          stands = moves.stands;
+          said = come.said ++ moves.next.said;
+          within = front.0;
+          run =
+              subst (λ l. Reaches program deepest from l (come.said ++ moves.next.said) (working moves.next.config.state new.work)) (sym front.1)
+              (subst (λ w. Reaches program deepest from (take old.used journal ++ made) (come.said ++ moves.next.said) (working moves.next.config.state w)) moves.left_is all);
+          bytes = more.given ∙ ap (λ l. l ++ lines moves.next.said) come.bytes ∙ sym (lines_then come.said moves.next.said);
+        },
+        more.claimed,
+      )
 
   -- WHERE IT STOPS
-  module _ (now : Seen) (c : Comparer) (come : HasCome program from journal now c) where
+  module _ (now : Seen) (given : List ℕ) (come : HasCome program from journal now given) where
     abbrev there : Config
     there = working come.state now.work
 
@@ -225,8 +226,8 @@ module _ (program : Program) (from : Config) (journal : List Exchange) where
           bytes = is;
         }
 
-        pub are_claimed : (claimed : List ℕ) → DiffersAt None claimed (lines come.said) → IsVerdict program from journal claimed verdict.Yes
-        are_claimed claimed same = ends_so claimed same
+        pub are_claimed : (claimed : List ℕ) → claimed ≡ given → IsVerdict program from journal claimed verdict.Yes
+        are_claimed claimed same = ends_so claimed (same ∙ come.bytes)
 
-        pub differ : (claimed : List ℕ) (line : ℕ) → DiffersAt (Some line) claimed (lines come.said) → IsVerdict program from journal claimed (verdict.Differs line)
-        differ claimed line differs = (lines come.said, ends_so (lines come.said) refl, differs.0, differs.1)
+        pub differ : (claimed : List ℕ) (line : ℕ) → DiffersAt line claimed given → IsVerdict program from journal claimed (verdict.Differs line)
+        differ claimed line differs = (given, ends_so given come.bytes, differs)

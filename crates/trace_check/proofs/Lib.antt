@@ -6,6 +6,7 @@ pub mod CallItems
 pub mod HandlerItems
 pub mod Entering
 pub mod Lines
+pub mod Agreeing
 pub mod Agreement
 pub mod Asking
 pub mod Aheads

@@ -6,5 +6,4 @@ pub mod Steps
 pub mod Replies
 pub mod Turns
 pub mod Comparing
-pub mod Comparers
 pub mod Verdicts

@@ -8,15 +8,13 @@ ghost use Rattle.trace_check.specs.Meaning.{list_of};
 ghost use Rattle.trace_check.specs.Turns.{Seen};
 ghost use Rattle.trace_check.specs.Verdicts.{HasCome, IsVerdict};
 
-use crate::comparer::Comparer;
-use crate::line_sink::LineSink;
+use crate::comparing::ComparingSink;
 use crate::machine::Machine;
 use crate::stepped::Stepped;
 use crate::turn::{StepFault, Turn};
 use ek_types::{Mem, NoMemory};
 use host_link::Exchanges;
 use kernel_steps::Program;
-use std::alloc::Global;
 
 /// What a check comes to.
 #[derive(Clone, Copy, Debug, PartialEq, Eq)]
@@ -29,10 +27,9 @@ pub enum Verdict {
     Differs(u32),
 }
 
-/// Runs a machine that is new on a journal, and compares its lines and its dump with those claimed. A run of 2^64 steps counts
-/// as want of memory.
+/// Runs a machine that is new on a journal, and compares its lines and its dump with those claimed, as they come. A run of 2^64
+/// steps counts as want of memory.
 pub fn check<M: Stepped, P: Program>(
-    alloc: Global,
     machine: &mut Machine<M>,
     program: &P,
     journal: &Exchanges,
@@ -45,13 +42,11 @@ pub fn check<M: Stepped, P: Program>(
     ensures { IfOk result (IsVerdict (P.meant program.now) (working new_state (list_of machine.old.work))
         (exchanges_of journal.now) claimed.now) }
 {
-    let mut sink = LineSink::new(alloc);
-    let mut comparer = Comparer::new(claimed);
+    let mut sink = ComparingSink::new(claimed);
     'steps: for _ in 0..u64::MAX {
-        sink.clear();
         match machine.step(program, journal, &mut sink) {
-            Ok(Turn::Went) => comparer.take(sink.bytes()),
-            Ok(Turn::Ended) => return Ok(judge(machine.used(), journal, &comparer)),
+            Ok(Turn::Went) => {}
+            Ok(Turn::Ended) => return Ok(judge(machine.used(), journal, &sink)),
             Ok(Turn::Waits) => return Ok(Verdict::Strayed(machine.used() as u32)),
             Ok(Turn::Off) => return Ok(Verdict::Strayed(machine.used() as u32)),
             Err(StepFault::Sink) | Err(StepFault::NoMemory) => return Err(NoMemory),
@@ -61,18 +56,17 @@ pub fn check<M: Stepped, P: Program>(
 }
 
 /// The verdict on a run that has ended with so many exchanges used.
-fn judge(used: usize, journal: &Exchanges, comparer: &Comparer) -> Verdict
+fn judge(used: usize, journal: &Exchanges, sink: &ComparingSink) -> Verdict
     requires few { length (exchanges_of journal.now) < 2 ^ 32 }
-    requires short { length comparer.now.claimed.now < 2 ^ 32 - 1 }
     ensures { (program : Plain) (from : Config) (now : Seen) → now.used ≡ used → now.work ≡ [] →
-        HasCome program from (exchanges_of journal.now) now comparer.now → IsVerdict program from
-        (exchanges_of journal.now) comparer.now.claimed.now result }
+        HasCome program from (exchanges_of journal.now) now sink.now.given → IsVerdict program from
+        (exchanges_of journal.now) sink.now.claimed result }
 {
     if used < journal.len() {
         return Verdict::Strayed(used as u32);
     }
-    match comparer.difference() {
+    match sink.difference() {
         None => Verdict::Yes,
-        Some(line) => Verdict::Differs(line as u32),
+        Some(line) => Verdict::Differs(line),
     }
 }

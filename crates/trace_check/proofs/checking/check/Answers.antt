@@ -2,6 +2,7 @@ use Rattle.std.proofs.Common.{◌≡◌, ◌-◌, ◌<◌, ◌≤◌, ◌^◌, l
 use Rattle.plain_machine.specs.State.{new_state}
 use Rattle.host_link.specs.Meaning.{exchanges_of}
 use Rattle.kernel_steps.specs.Work.{working}
+use Rattle.trace_check.specs.Comparing.{Compared}
 use Rattle.trace_check.specs.Meaning.{list_of}
 use Rattle.trace_check.specs.Turns.{Seen, seen}
 use Rattle.trace_check.specs.Verdicts.{IsVerdict}
@@ -11,8 +12,8 @@ use Rattle.trace_check.proofs.checking.check.Goals as goal
 
 pub steps-init : goal.steps-init
 steps-init g c = record {
-  come = begins (g.P.Program.meant c.args.program.now) (working new_state (list_of c.args.machine.now.work)) (exchanges_of c.args.journal.now) (g.M.Kernel.state c.args.machine.now.kernel) (list_of c.args.machine.now.work) c.args.machine.now.used c.new-comparer.result refl c.requires.new c.requires.unused c.new-comparer.ensures.compares;
-  claimed = c.new-comparer.ensures.claimed;
+  come = begins (g.P.Program.meant c.args.program.now) (working new_state (list_of c.args.machine.now.work)) (exchanges_of c.args.journal.now) (g.M.Kernel.state c.args.machine.now.kernel) (list_of c.args.machine.now.work) c.args.machine.now.used c.new-sink.result.given refl c.requires.new c.requires.unused (ap (λ (s : Compared). s.given) c.new-sink.ensures);
+  claimed = ap (λ (s : Compared). s.claimed) c.new-sink.ensures;
 }
 
 pub steps-preserved : goal.steps-preserved
@@ -22,13 +23,8 @@ steps-preserved g c =
     let journal = exchanges_of c.args.journal.now in
     let old = seen (g.M.Kernel.state c.steps.machine.kernel) (list_of c.steps.machine.work) c.steps.machine.used in
     let new = seen (g.M.Kernel.state c.step.new.self.kernel) (list_of c.step.new.self.work) c.step.new.self.used in
-    record {
-      come = goes_on program from journal old new c.clear.new.self c.step.new.sink c.steps.comparer c.take.new.self c.bytes.result.now c.clear.ensures.bytes c.bytes.ensures (rw c.in-Ok-Went.is at c.step.ensures.turn) c.take.ensures.compares c.steps.invariant.come;
-      claimed = c.take.ensures.claimed ∙ c.steps.invariant.claimed;
-    }
-
-pub judge-requires-clause-short : goal.judge-requires-clause-short
-judge-requires-clause-short g c = subst (λ l. length l < 2 ^ 32 - 1) (sym c.steps.invariant.claimed) c.requires.short
+    let on = goes_on program from journal old new c.steps.sink c.step.new.sink (rw (c.in-Ok-Went.is, c.in-Ok-Went.field-0-is) at c.step.ensures.turn) c.steps.invariant.come in
+    record { come = on.0; claimed = on.1 ∙ c.steps.invariant.claimed }
 
 pub returns-in-Ok-Ended : goal.returns-in-Ok-Ended
 returns-in-Ok-Ended g c =
@@ -56,7 +52,7 @@ returns-in-Ok-Waits g c =
     let old = seen (g.M.Kernel.state c.steps.machine.kernel) (list_of c.steps.machine.work) c.steps.machine.used in
     let turned = rw c.in-Ok-Waits.is at c.step.ensures.turn in
     let same : c.used-in-Ok-Waits.result ≡ c.steps.machine.used = c.used-in-Ok-Waits.ensures ∙ ap (λ (s : Seen). s.used) turned.1 in
-    subst (λ n. IsVerdict program from journal claimed (verdict.Strayed n)) (sym same) (waits program from journal old c.steps.comparer c.steps.invariant.come claimed turned.0 turned.3)
+    subst (λ n. IsVerdict program from journal claimed (verdict.Strayed n)) (sym same) (waits program from journal old c.steps.sink.given c.steps.invariant.come claimed turned.0 turned.3)
 
 pub overflow_cast-result-in-Ok-Off : goal.overflow_cast-result-in-Ok-Off
 overflow_cast-result-in-Ok-Off g c =
@@ -74,4 +70,4 @@ returns-in-Ok-Off g c =
     let old = seen (g.M.Kernel.state c.steps.machine.kernel) (list_of c.steps.machine.work) c.steps.machine.used in
     let turned = rw c.in-Ok-Off.is at c.step.ensures.turn in
     let same : c.used-in-Ok-Off.result ≡ c.steps.machine.used = c.used-in-Ok-Off.ensures ∙ ap (λ (s : Seen). s.used) turned.2 in
-    subst (λ n. IsVerdict program from journal claimed (verdict.Strayed n)) (sym same) (is_off program from journal old c.steps.comparer c.steps.invariant.come claimed turned.0 turned.1 turned.4)
+    subst (λ n. IsVerdict program from journal claimed (verdict.Strayed n)) (sym same) (is_off program from journal old c.steps.sink.given c.steps.invariant.come claimed turned.0 turned.1 turned.4)

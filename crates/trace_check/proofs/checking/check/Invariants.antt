@@ -9,6 +9,6 @@ use Rattle.trace_check.proofs.checking.check.Given as goal
 
 abbrev pub invariant-steps : goal.invariant-steps
 invariant-steps g l = record {
-  come : HasCome (g.P.Program.meant l.program) (working new_state (list_of l.fn.machine.work)) (exchanges_of l.journal) (seen (g.M.Kernel.state l.machine.kernel) (list_of l.machine.work) l.machine.used) l.comparer;
-  claimed : l.comparer.claimed.now ≡ l.claimed;
+  come : HasCome (g.P.Program.meant l.program) (working new_state (list_of l.fn.machine.work)) (exchanges_of l.journal) (seen (g.M.Kernel.state l.machine.kernel) (list_of l.machine.work) l.machine.used) l.sink.given;
+  claimed : l.sink.claimed ≡ l.claimed;
 }
