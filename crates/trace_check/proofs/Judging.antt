@@ -15,6 +15,7 @@ use Rattle.machine_laws.specs.OneRun.{GoesOn}
 use Rattle.machine_laws.proofs.OneRun.{one_run}
 use Rattle.kernel_steps.specs.Outside.{deepest, IsStep}
 use Rattle.kernel_steps.specs.Work.{working}
+use Rattle.kernel_steps.specs.Worlds.{Stands}
 use Rattle.kernel_steps.proofs.Journeys.{lines_then}
 use Rattle.trace_check.specs.Comparing.{Compared, comparing_state, DiffersAt}
 use Rattle.trace_check.specs.Steps.{IsAsking, IsOff}
@@ -25,7 +26,7 @@ use Rattle.trace_check.proofs.Agreeing.{Kept, kept}
 use Rattle.trace_check.specs.declared.turn.Turn.TheVariants as turn
 
 -- FRONTS OF A JOURNAL
-take_one : (xs : List Exchange) (i : ℕ) (x : Exchange) → slice_get xs i ≡ Some x → (i < length xs) × (take (i + 1) xs ≡ take i xs ++ x ∷ [])
+take_one : (xs : List Exchange) (i : ℕ) (x : Exchange) → slice_get xs i ≡ Some x → (i < length xs) × (take (suc i) xs ≡ take i xs ++ x ∷ [])
 take_one [] i x h = absurd (let e : None ≡ Some x = h in cc)
 take_one (y ∷ xs) zero x h = let same : y ≡ x = (let e : Some y ≡ Some x = h in cc) in (omega arith, ap (λ z. z ∷ []) same)
 take_one (y ∷ xs) (suc i) x h = let (within, is) = take_one xs i x h in (omega (arith, within), ap (λ l. y ∷ l) is)
@@ -50,7 +51,8 @@ take_made journal old new [] uses within = (omega (arith, uses, within), ap (λ 
 take_made journal old new (x ∷ []) uses within =
     let (there, one) = uses in
     let (less, is) = take_one journal old x there in
-    (omega (arith, less, one), ap (λ n. take n journal) one ∙ is)
+    let next : new ≡ suc old = omega (arith, one) in
+    (omega (arith, less, one), ap (λ n. take n journal) next ∙ is)
 take_made journal old new (x ∷ y ∷ more) uses within = absurd uses
 
 -- STEPS

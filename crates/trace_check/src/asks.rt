@@ -76,11 +76,13 @@ pub(crate) enum Met<'a> {
 pub(crate) fn meet<'a>(next: Option<&'a Exchange>, question: &Question) -> Met<'a>
     ensures { Meets (asked question.now) (option_map (λ x. exchange_of x.now) next.entry) result }
 {
-    match next {
-        None => Met::Nothing,
-        Some(exchange) if question.is(&exchange.ask) => Met::Answer(&exchange.answer),
-        Some(_) => Met::Another,
+    let Some(exchange) = next else {
+        return Met::Nothing;
+    };
+    if question.is(&exchange.ask) {
+        return Met::Answer(&exchange.answer);
     }
+    Met::Another
 }
 
 /// Whether a read may be answered so: it gives 1 to 4,096 bytes.

@@ -32,13 +32,13 @@ returns-in-Ok-Ended g c =
     let from = working new_state (list_of c.args.machine.now.work) in
     let journal = exchanges_of c.args.journal.now in
     let old = seen (g.M.Kernel.state c.steps.machine.kernel) (list_of c.steps.machine.work) c.steps.machine.used in
-    let turned = rw c.in-Ok-Ended.is at c.step.ensures.turn in
+    let turned = rw (c.in-Ok-Ended.is, c.in-Ok-Ended.field-0-is) at c.step.ensures.turn in
     subst (λ l. IsVerdict program from journal l c.judge.result) c.steps.invariant.claimed
     (c.judge.ensures program from old (sym (c.used.ensures ∙ ap (λ (s : Seen). s.used) turned.1)) turned.0 c.steps.invariant.come)
 
 pub overflow_cast-result : goal.overflow_cast-result
 overflow_cast-result g c =
-    let turned = rw c.in-Ok-Waits.is at c.step.ensures.turn in
+    let turned = rw (c.in-Ok-Waits.is, c.in-Ok-Waits.field-0-is) at c.step.ensures.turn in
     let same : c.used-in-Ok-Waits.result ≡ c.steps.machine.used = c.used-in-Ok-Waits.ensures ∙ ap (λ (s : Seen). s.used) turned.1 in
     let within : c.steps.machine.used ≤ length (exchanges_of c.args.journal.now) = c.steps.invariant.come.within in
     omega (arith, same, within, c.requires.few)
@@ -50,13 +50,13 @@ returns-in-Ok-Waits g c =
     let journal = exchanges_of c.args.journal.now in
     let claimed = c.args.claimed.now in
     let old = seen (g.M.Kernel.state c.steps.machine.kernel) (list_of c.steps.machine.work) c.steps.machine.used in
-    let turned = rw c.in-Ok-Waits.is at c.step.ensures.turn in
+    let turned = rw (c.in-Ok-Waits.is, c.in-Ok-Waits.field-0-is) at c.step.ensures.turn in
     let same : c.used-in-Ok-Waits.result ≡ c.steps.machine.used = c.used-in-Ok-Waits.ensures ∙ ap (λ (s : Seen). s.used) turned.1 in
     subst (λ n. IsVerdict program from journal claimed (verdict.Strayed n)) (sym same) (waits program from journal old c.steps.sink.given c.steps.invariant.come claimed turned.0 turned.3)
 
 pub overflow_cast-result-in-Ok-Off : goal.overflow_cast-result-in-Ok-Off
 overflow_cast-result-in-Ok-Off g c =
-    let turned = rw c.in-Ok-Off.is at c.step.ensures.turn in
+    let turned = rw (c.in-Ok-Off.is, c.in-Ok-Off.field-0-is) at c.step.ensures.turn in
     let same : c.used-in-Ok-Off.result ≡ c.steps.machine.used = c.used-in-Ok-Off.ensures ∙ ap (λ (s : Seen). s.used) turned.2 in
     let within : c.steps.machine.used ≤ length (exchanges_of c.args.journal.now) = c.steps.invariant.come.within in
     omega (arith, same, within, c.requires.few)
@@ -68,6 +68,6 @@ returns-in-Ok-Off g c =
     let journal = exchanges_of c.args.journal.now in
     let claimed = c.args.claimed.now in
     let old = seen (g.M.Kernel.state c.steps.machine.kernel) (list_of c.steps.machine.work) c.steps.machine.used in
-    let turned = rw c.in-Ok-Off.is at c.step.ensures.turn in
+    let turned = rw (c.in-Ok-Off.is, c.in-Ok-Off.field-0-is) at c.step.ensures.turn in
     let same : c.used-in-Ok-Off.result ≡ c.steps.machine.used = c.used-in-Ok-Off.ensures ∙ ap (λ (s : Seen). s.used) turned.2 in
     subst (λ n. IsVerdict program from journal claimed (verdict.Strayed n)) (sym same) (is_off program from journal old c.steps.sink.given c.steps.invariant.come claimed turned.0 turned.1 turned.4)

@@ -3,7 +3,7 @@ use Rattle.std.specs.Prelude.{Some, None, option_map, string_bytes, Option}
 use Rattle.editor_model.specs.Values.{StartProcess, ProcessSendString, ProcessSendEof}
 use Rattle.editor_model.specs.Arguments.{arg}
 use Rattle.plain_machine.specs.Arguments.{child_of, is_closed, process_of}
-use Rattle.plain_machine.specs.Calls.{spawned, sent_answer, closed_answer}
+use Rattle.plain_machine.specs.Calls.{on, closed_answer}
 use Rattle.plain_machine.specs.Exchanges.{Answer, Spawn, Send, Close}
 use Rattle.plain_machine.specs.State.{State}
 use Rattle.plain_machine.specs.Items.{MakeCall, GiveAnswer, Next}
@@ -82,3 +82,40 @@ returns-in-Answer g c =
     let left = list_of c.take_closed.new.work in
     let taken : TakesUp c.take_closed.result (λ s. go s x.answer) known known2 work left = subst (λ a. TakesUp c.take_closed.result (λ s. go s a) known known2 work left) (sym answer) c.take_closed.ensures in
     comes_taken program next known work (Close (child_of known p)) c.take_closed.result known2 left go asks x is same taken
+
+pub returns-then-closed : goal.returns-then-closed
+returns-then-closed g c =
+    let program = g.P.Program.meant c.args.program.now in
+    let known = g.M.Kernel.state c.args.kernel.now in
+    let args = map view (items_of c.args.args) in
+    let target = target_of c.args.target in
+    let rest = list_of c.args.work.now in
+    let p = c.process_given-p.result in
+    let k = c.get-process.result.now in
+    let made : slice_get known.processes p ≡ Some k = subst (λ l. slice_get l p ≡ Some k) c.processes.ensures c.get-process.ensures in
+    let closed = closed_found known p k made ∙ sym c.closed.ensures ∙ c.if-closed.true in
+    let left_is = c.in_ok-put.ensures.ok ∙ ap (λ v. GiveAnswer v target ∷ rest) (process_is p) in
+    stays_put program known (MakeCall ProcessSendEof args target ∷ rest) (list_of c.put.new.self) (λ s h. close_nothing program known args target rest p c.requires.passes c.process_given-p.ensures closed s h ∙ ap (on s) (sym left_is))
+
+pub get-process-requires : goal.get-process-requires
+get-process-requires g c =
+    let program = g.P.Program.meant c.args.program.now in
+    let known = g.M.Kernel.state c.args.kernel.now in
+    let args = map view (items_of c.args.args) in
+    let small = running_within known (process_of known (arg args 0)) (closes_of program known args c.requires.passes) in
+    omega (arith, small, c.process_given-p.ensures, ap length c.processes.ensures)
+
+pub take_closed-requires : goal.take_closed-requires
+take_closed-requires g c =
+    let program = g.P.Program.meant c.args.program.now in
+    let known = g.M.Kernel.state c.args.kernel.now in
+    let args = map view (items_of c.args.args) in
+    let p = c.process_given-p.result in
+    let k = c.get-process.result.now in
+    let made : slice_get known.processes p ≡ Some k = subst (λ l. slice_get l p ≡ Some k) c.processes.ensures c.get-process.ensures in
+    let unclosed = ap (is_closed known) (sym c.process_given-p.ensures) ∙ closed_found known p k made ∙ sym c.closed.ensures ∙ c.if-closed.false in
+    record {
+      place = c.requires.place;
+      asked = closes_may program known args c.requires.passes unclosed;
+      made = omega (arith, running_within known (process_of known (arg args 0)) (closes_of program known args c.requires.passes), c.process_given-p.ensures);
+    }

@@ -3,7 +3,7 @@ use Rattle.std.specs.Prelude.{Some, None, option_map, string_bytes, Option}
 use Rattle.editor_model.specs.Values.{StartProcess, ProcessSendString, ProcessSendEof}
 use Rattle.editor_model.specs.Arguments.{arg}
 use Rattle.plain_machine.specs.Arguments.{child_of, is_closed, process_of}
-use Rattle.plain_machine.specs.Calls.{spawned, sent_answer, closed_answer}
+use Rattle.plain_machine.specs.Calls.{on, sent_answer}
 use Rattle.plain_machine.specs.Exchanges.{Answer, Spawn, Send, Close}
 use Rattle.plain_machine.specs.State.{State}
 use Rattle.plain_machine.specs.Items.{MakeCall, GiveAnswer, Next}
@@ -86,3 +86,38 @@ returns-in-Answer g c =
     let left = list_of c.take_sent.new.work in
     let taken : TakesUp c.take_sent.result (λ s. go s x.answer) known known2 work left = subst (λ a. TakesUp c.take_sent.result (λ s. go s a) known known2 work left) (sym answer) c.take_sent.ensures in
     comes_taken program next known work (Send (child_of known p) bytes) c.take_sent.result known2 left go asks x is same taken
+
+pub returns-then-is_empty : goal.returns-then-is_empty
+returns-then-is_empty g c =
+    let program = g.P.Program.meant c.args.program.now in
+    let known = g.M.Kernel.state c.args.kernel.now in
+    let args = map view (items_of c.args.args) in
+    let target = target_of c.args.target in
+    let rest = list_of c.args.work.now in
+    let bytes = c.in_ok-bytes.bytes.items in
+    let none = nothing_there bytes (sym (ap (λ l. nat_eq (length l) 0) c.as_slice.ensures.value) ∙ sym c.is_empty.ensures ∙ c.if-is_empty.true) in
+    let left_is = c.in_ok-put.ensures.ok ∙ ap (λ v. GiveAnswer v target ∷ rest) nil_is in
+    stays_put program known (MakeCall ProcessSendString args target ∷ rest) (list_of c.put.new.self) (λ s h. send_nothing program known args target rest bytes c.requires.passes c.in_ok-bytes.ensures none s h ∙ ap (on s) (sym left_is))
+
+pub get-requires : goal.get-requires
+get-requires g c =
+    let program = g.P.Program.meant c.args.program.now in
+    let known = g.M.Kernel.state c.args.kernel.now in
+    let args = map view (items_of c.args.args) in
+    let some = something_there args c.in_ok-bytes.bytes.items c.in_ok-bytes.ensures (sym (ap (λ l. nat_eq (length l) 0) c.as_slice.ensures.value) ∙ sym c.is_empty.ensures ∙ c.if-is_empty.false) in
+    let runs = sends_to program known args c.requires.passes (λ e. some (c.in_ok-bytes.ensures ∙ e)) in
+    omega (arith, running_within known (process_of known (arg args 0)) runs, c.process_given.ensures, ap length c.processes.ensures)
+
+pub take_sent-requires : goal.take_sent-requires
+take_sent-requires g c =
+    let program = g.P.Program.meant c.args.program.now in
+    let known = g.M.Kernel.state c.args.kernel.now in
+    let args = map view (items_of c.args.args) in
+    let bytes = c.in_ok-bytes.bytes.items in
+    let some = something_there args bytes c.in_ok-bytes.ensures (sym (ap (λ l. nat_eq (length l) 0) c.as_slice.ensures.value) ∙ sym c.is_empty.ensures ∙ c.if-is_empty.false) in
+    let some_given = λ e. some (c.in_ok-bytes.ensures ∙ e) in
+    record {
+      place = c.requires.place;
+      asked = sends_may program known args c.requires.passes some_given;
+      sent = omega (arith, ap length c.in_ok-bytes.ensures, sends_few program known args c.requires.passes some_given);
+    }
