@@ -1,10 +1,11 @@
 -- How far claimed bytes agree with those given, as more is given.
-use Rattle.std.proofs.Common.{◌≡◌, ℕ, suc, ◌+◌, ◌<◌, ◌≤◌, Bool, true, false, List, [], ◌∷◌, ◌++◌, length, get_or, refl, ap, sym, ◌∙◌, arith, inl, inr, length-append, append_assoc, take, drop}
-use Rattle.std.specs.Prelude.{◌⊎◌, nat_lt}
+use Rattle.std.proofs.Common.{◌≡◌, ℕ, suc, ◌+◌, ◌<◌, ◌≤◌, Bool, true, false, List, [], ◌∷◌, ◌++◌, length, get_or, refl, ap, sym, ◌∙◌, arith, inl, inr, length-append, append_assoc, append-nil, take, drop}
+use Rattle.std.specs.Prelude.{◌⊎◌, nat_lt, Some}
+use Rattle.ek_types.specs.Io.{SinkState}
 use Rattle.std.proofs.lemmas.Bool.{ltb-true, ltb-false, lt-ltb, le-ltb}
 use Rattle.std.proofs.lemmas.List.{take_at, drop_at}
 use Rattle.plain_machine.specs.Grammar.{line_feeds}
-use Rattle.trace_check.specs.Comparing.{common, Compared, Agrees, DiffersAt}
+use Rattle.trace_check.specs.Comparing.{common, comparing_state, Compared, Agrees, DiffersAt}
 use Rattle.trace_check.proofs.CommonFronts.{common_nil, no_longer, stays_behind, stays_there, grows, one_feed, no_feed, feeds_few, all_met, all_same, they_differ}
 
 abbrev pub compared : (claimed given : List ℕ) → Compared
@@ -27,6 +28,10 @@ kept old now written e =
       claimed = sym (take_at now.claimed now.given n heads) ∙ ap (take n) tails ∙ take_at old.claimed (old.given ++ written) n refl;
       given = sym (drop_at now.claimed now.given n heads) ∙ ap (drop n) tails ∙ drop_at old.claimed (old.given ++ written) n refl;
     }
+
+-- a sink that holds the same
+pub same_held : (old now : Compared) → comparing_state now ≡ comparing_state old → all_of now ≡ all_of old ++ []
+same_held old now e = let same : all_of now ≡ all_of old = (let h : Some (all_of now) ≡ Some (all_of old) = ap (λ (s : SinkState). s.held) e in cc) in same ∙ sym (append-nil (all_of old))
 
 pub held_more : (claimed given more : List ℕ) → all_of (compared claimed (given ++ more)) ≡ all_of (compared claimed given) ++ more
 held_more claimed given more = ap (λ l. length claimed ∷ l) (sym (append_assoc claimed given more))

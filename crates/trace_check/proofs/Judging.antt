@@ -9,7 +9,8 @@ use Rattle.plain_machine.specs.Exchanges.{Ask, Spawn, Read, AskEnd, Send, Close,
 use Rattle.plain_machine.specs.State.{State, Program, new_state}
 use Rattle.plain_machine.specs.Items.{Item, Said, Config, Next, Goes, Asks, Ended}
 use Rattle.plain_machine.specs.Step.{step}
-use Rattle.plain_machine.specs.Run.{Reaches, stays, goes, asks, lines, same_ask, same_bytes}
+use Rattle.editor_model.specs.Values.{Script}
+use Rattle.plain_machine.specs.Run.{Reaches, stays, goes, asks, start, lines, same_ask, same_bytes}
 use Rattle.plain_machine.proofs.Composed.{reaches_then}
 use Rattle.machine_laws.specs.OneRun.{GoesOn}
 use Rattle.machine_laws.proofs.OneRun.{one_run}
@@ -20,7 +21,8 @@ use Rattle.kernel_steps.proofs.Journeys.{lines_then}
 use Rattle.trace_check.specs.Comparing.{Compared, comparing_state, DiffersAt}
 use Rattle.trace_check.specs.Steps.{IsAsking, IsOff}
 use Rattle.trace_check.specs.Turns.{Seen, Turns, Uses as UsesMade}
-use Rattle.trace_check.specs.Verdicts.{Uses, IsReach, Ends, HasCome, IsVerdict}
+use Rattle.trace_check.specs.Runs.{IsWhole, GoesThrough, Strays}
+use Rattle.trace_check.specs.Verdicts.{HasCome, IsVerdict}
 use Rattle.trace_check.specs.declared.checking.Verdict.TheVariants as verdict
 use Rattle.trace_check.proofs.Agreeing.{Kept, kept}
 use Rattle.trace_check.specs.declared.turn.Turn.TheVariants as turn
@@ -107,6 +109,7 @@ ask_same (Close child) = eq-eqb child child refl
 ask_same (Kill child) = eq-eqb child child refl
 
 module _ (program : Program) (from : Config) (journal : List Exchange) where
+
   pub begins : (known : State) (work : List Item) (used : ℕ) (written : List ℕ) → from ≡ working new_state work → known ≡ new_state → used ≡ 0 → written ≡ [] → HasCome program from journal (record { state = known; work = work; used = used }) written
   begins known work used written is fresh unused nothing = record {
     state = new_state;
@@ -140,8 +143,9 @@ module _ (program : Program) (from : Config) (journal : List Exchange) where
         more.claimed,
       )
 
-  -- WHERE IT STOPS
-  module _ (now : Seen) (given : List ℕ) (come : HasCome program from journal now given) where
+-- WHERE IT STOPS
+module _ (program : Program) (script : Script) (journal : List Exchange) where
+  module _ (now : Seen) (given : List ℕ) (come : HasCome program (start script) journal now given) where
     abbrev there : Config
     there = working come.state now.work
 
@@ -149,53 +153,59 @@ module _ (program : Program) (from : Config) (journal : List Exchange) where
     abbrev Stuck : Type 0
     Stuck = (y : Exchange) (others : List Exchange) (further : List Said) (d : Config) → slice_get journal now.used ≡ Some y → Reaches program deepest there (y ∷ others) further d → ⊥
 
-    no_more : Stuck → (j : ℕ) → Uses program from journal j → j ≤ now.used
-    no_more stuck j uses = by (nat_le j now.used) refl
+    no_more : Stuck → (k : ℕ) → k ≤ length journal → GoesThrough program script (take k journal) → k ≤ now.used
+    no_more stuck k within goes = by (nat_le k now.used) refl
       where
-        past : Longer journal now.used j → ⊥
-        past more = side (one_run program deepest from (take now.used journal) (more.next ∷ more.others) come.said uses.said there uses.last come.run (subst (λ l. Reaches program deepest from l uses.said uses.last) more.is uses.run))
+        past : Longer journal now.used k → ⊥
+        past more = side (one_run program deepest (start script) (take now.used journal) (more.next ∷ more.others) come.said goes.said there goes.last come.run (subst (λ l. Reaches program deepest (start script) l goes.said goes.last) more.is goes.run))
           where
-            side : GoesOn program deepest come.said uses.said there uses.last (more.next ∷ more.others) ⊎ ((more.next ∷ more.others ≡ []) × GoesOn program deepest uses.said come.said uses.last there []) → ⊥
-            side (inl on) = stuck more.next more.others on.further uses.last more.there on.way
+            side : GoesOn program deepest come.said goes.said there goes.last (more.next ∷ more.others) ⊎ ((more.next ∷ more.others ≡ []) × GoesOn program deepest goes.said come.said goes.last there []) → ⊥
+            side (inl on) = stuck more.next more.others on.further goes.last more.there on.way
             side (inr (none, on)) = let never : more.next ∷ more.others ≡ [] = none in cc
 
-        by : (b : Bool) → nat_le j now.used ≡ b → j ≤ now.used
-        by true e = leb-true j now.used e
-        by false e = absurd (past (longer journal now.used j (leb-false j now.used e) uses.within))
+        by : (b : Bool) → nat_le k now.used ≡ b → k ≤ now.used
+        by true e = leb-true k now.used e
+        by false e = absurd (past (longer journal now.used k (leb-false k now.used e) within))
 
-    abbrev uses_now : Uses program from journal now.used
-    uses_now = record { within = come.within; said = come.said; last = there; run = come.run }
+    abbrev goes_now : GoesThrough program script (take now.used journal)
+    goes_now = record { said = come.said; last = there; run = come.run }
 
-    whole : (written : List ℕ) → Ends program from journal written → Uses program from journal (length journal)
-    whole written ends = record {
-      within = omega arith;
-      said = ends.said;
-      last = ends.last;
-      run = subst (λ l. Reaches program deepest from l ends.said ends.last) (sym (take_all (length journal) journal (omega arith))) ends.run;
+    all_of : IsWhole program script journal → GoesThrough program script (take (length journal) journal)
+    all_of whole = record {
+      said = whole.ran.said;
+      last = whole.ran.last;
+      run = subst (λ l. Reaches program deepest (start script) l whole.ran.said whole.ran.last) (sym (take_all (length journal) journal (omega arith))) whole.ran.run;
     }
 
     -- with exchanges left
-    pub strays : (claimed : List ℕ) → Stuck → now.used < length journal → IsVerdict program from journal claimed (verdict.Strayed now.used)
-    strays claimed stuck left = (
-      record { uses = uses_now; most = no_more stuck },
-      λ written ends. omega (arith, left, no_more stuck (length journal) (whole written ends)),
-    )
+    pub strays : (claimed : List ℕ) → Stuck → now.used < length journal → IsVerdict program script journal claimed (verdict.Strayed now.used)
+    strays claimed stuck left = record {
+      unended = λ whole. let most : length journal ≤ now.used = no_more stuck (length journal) (omega arith) (all_of whole) in omega (arith, left, most);
+      within = come.within;
+      goes = goes_now;
+      no_more = no_more stuck;
+    }
 
     -- the journal is used up, and the machine asks
-    pub waits : (claimed : List ℕ) → length journal ≤ now.used → ((s : State) → Stands now.state s → IsAsking program s now.work) → IsVerdict program from journal claimed (verdict.Strayed now.used)
-    waits claimed over asking = (record { uses = uses_now; most = λ j uses. omega (arith, over, uses.within) }, λ written ends. unended written ends (asking come.state come.stands))
+    pub waits : (claimed : List ℕ) → length journal ≤ now.used → ((s : State) → Stands now.state s → IsAsking program s now.work) → IsVerdict program script journal claimed (verdict.Strayed now.used)
+    waits claimed over asking = record {
+      unended = λ whole. unended whole (asking come.state come.stands);
+      within = come.within;
+      goes = goes_now;
+      no_more = λ k within goes. omega (arith, over, within);
+    }
       where
-        unended : (written : List ℕ) → Ends program from journal written → IsAsking program come.state now.work → ⊥
-        unended written ends (ask, next, is) =
-            side (one_run program deepest from (take now.used journal) [] come.said ends.said there ends.last come.run
-            (subst (λ l. Reaches program deepest from l ends.said ends.last) (sym (append-nil (take now.used journal) ∙ take_all now.used journal over)) ends.run))
+        unended : IsWhole program script journal → IsAsking program come.state now.work → ⊥
+        unended whole (ask, next, is) =
+            side (one_run program deepest (start script) (take now.used journal) [] come.said whole.ran.said there whole.ran.last come.run
+            (subst (λ l. Reaches program deepest (start script) l whole.ran.said whole.ran.last) (sym (append-nil (take now.used journal) ∙ take_all now.used journal over)) whole.ran.run))
           where
-            side : GoesOn program deepest come.said ends.said there ends.last [] ⊎ (◌≡◌ {A = List Exchange} [] [] × GoesOn program deepest ends.said come.said ends.last there []) → ⊥
-            side (inl on) = asked_last program on.way is refl ends.ended
-            side (inr (none, on)) = ended_is_last program on.way ends.ended is
+            side : GoesOn program deepest come.said whole.ran.said there whole.ran.last [] ⊎ (◌≡◌ {A = List Exchange} [] [] × GoesOn program deepest whole.ran.said come.said whole.ran.last there []) → ⊥
+            side (inl on) = asked_last program on.way is refl whole.ran.ended
+            side (inr (none, on)) = ended_is_last program on.way whole.ran.ended is
 
     -- the next exchange isn't the one that the machine makes
-    pub is_off : (claimed : List ℕ) (x : Exchange) → slice_get journal now.used ≡ Some x → ((s : State) → Stands now.state s → IsOff program s now.work x) → IsVerdict program from journal claimed (verdict.Strayed now.used)
+    pub is_off : (claimed : List ℕ) (x : Exchange) → slice_get journal now.used ≡ Some x → ((s : State) → Stands now.state s → IsOff program s now.work x) → IsVerdict program script journal claimed (verdict.Strayed now.used)
     is_off claimed x is off = strays claimed (stuck (off come.state come.stands)) (take_one journal now.used x is).0
       where
         stuck : IsOff program come.state now.work x → Stuck
@@ -215,21 +225,24 @@ module _ (program : Program) (from : Config) (journal : List Exchange) where
       has_ended : step program deepest there ≡ Ended
       has_ended = ap (λ w. step program deepest (working come.state w)) over
 
-      pub ended_early : (claimed : List ℕ) → now.used < length journal → IsVerdict program from journal claimed (verdict.Strayed now.used)
+      pub ended_early : (claimed : List ℕ) → now.used < length journal → IsVerdict program script journal claimed (verdict.Strayed now.used)
       ended_early claimed left = strays claimed (λ y others further d found run. ended_first program run has_ended y others refl) left
 
       module _ (used_up : length journal ≤ now.used) where
-        ends_so : (written : List ℕ) → written ≡ lines come.said → Ends program from journal written
-        ends_so written is = record {
-          said = come.said;
-          last = there;
-          run = subst (λ l. Reaches program deepest from l come.said there) (take_all now.used journal used_up) come.run;
-          ended = has_ended;
-          bytes = is;
+        whole : IsWhole program script journal
+        whole = record {
+          lines = given;
+          ran = record {
+            said = come.said;
+            last = there;
+            run = subst (λ l. Reaches program deepest (start script) l come.said there) (take_all now.used journal used_up) come.run;
+            ended = has_ended;
+            bytes = come.bytes;
+          };
         }
 
-        pub are_claimed : (claimed : List ℕ) → claimed ≡ given → IsVerdict program from journal claimed verdict.Yes
-        are_claimed claimed same = ends_so claimed (same ∙ come.bytes)
+        pub are_claimed : (claimed : List ℕ) → claimed ≡ given → IsVerdict program script journal claimed verdict.Yes
+        are_claimed claimed same = record { whole = whole; same = same }
 
-        pub differ : (claimed : List ℕ) (line : ℕ) → DiffersAt line claimed given → IsVerdict program from journal claimed (verdict.Differs line)
-        differ claimed line differs = (given, ends_so given come.bytes, differs)
+        pub differ : (claimed : List ℕ) (line : ℕ) → DiffersAt line claimed given → IsVerdict program script journal claimed (verdict.Differs line)
+        differ claimed line differs = record { whole = whole; first = differs }

@@ -6,4 +6,5 @@ pub mod Steps
 pub mod Replies
 pub mod Turns
 pub mod Comparing
+pub mod Runs
 pub mod Verdicts

@@ -1,38 +1,36 @@
--- The verdict on claimed lines, by a journal and the run on it.
-use Rattle.std.specs.Prelude.{◌≡◌, ℕ, ◌+◌, ◌≤◌, List, length, take}
+-- The verdict on claimed lines, by a journal and the run of a script on it.
+use Rattle.std.specs.Prelude.{◌≡◌, ℕ, ◌≤◌, List, length, take}
+use Rattle.editor_model.specs.Values.{Script}
 use Rattle.plain_machine.specs.Exchanges.{Exchange}
 use Rattle.plain_machine.specs.State.{State, Program}
-use Rattle.plain_machine.specs.Items.{Said, Config, Ended}
-use Rattle.plain_machine.specs.Step.{step}
+use Rattle.plain_machine.specs.Items.{Said, Config}
 use Rattle.plain_machine.specs.Run.{Reaches, lines}
 use Rattle.kernel_steps.specs.Outside.{deepest}
 use Rattle.kernel_steps.specs.Work.{working}
 use Rattle.kernel_steps.specs.Worlds.{Stands}
 use Rattle.trace_check.specs.Comparing.{DiffersAt}
+use Rattle.trace_check.specs.Runs.{IsWhole, Strays}
 use Rattle.trace_check.specs.Turns.{Seen}
 use Rattle.trace_check.specs.declared.checking.Verdict.{Verdict}
 use Rattle.trace_check.specs.declared.checking.Verdict.TheVariants as verdict
 
--- the run on the first exchanges of a journal uses them all, and isn't off
-pub record Uses (program : Program) (from : Config) (journal : List Exchange) (i : ℕ) : Type 0 where
-  pub within : i ≤ length journal
-  pub said : List Said
-  pub last : Config
-  pub run : Reaches program deepest from (take i journal) said last
+-- VERDICTS
+-- the run has ended with the journal used up, and these are its lines and its dump
+pub record IsClaimed (program : Program) (script : Script) (journal : List Exchange) (claimed : List ℕ) : Type 0 where
+  pub whole : IsWhole program script journal
+  pub same : claimed ≡ whole.lines
 
--- how many exchanges of a journal the run uses, as far as it goes on with it
-pub record IsReach (program : Program) (from : Config) (journal : List Exchange) (i : ℕ) : Type 0 where
-  pub uses : Uses program from journal i
-  pub most : (j : ℕ) → Uses program from journal j → j ≤ i
+-- it has, and they are others, first in this line
+pub record DiffersIn (program : Program) (script : Script) (journal : List Exchange) (claimed : List ℕ) (line : ℕ) : Type 0 where
+  pub whole : IsWhole program script journal
+  pub first : DiffersAt line claimed whole.lines
 
--- the run on a journal has ended with it used up, and wrote this
-pub record Ends (program : Program) (from : Config) (journal : List Exchange) (written : List ℕ) : Type 0 where
-  pub said : List Said
-  pub last : Config
-  pub run : Reaches program deepest from journal said last
-  pub ended : step program deepest last ≡ Ended
-  pub bytes : written ≡ lines said
+abbrev pub IsVerdict : Program → Script → (journal : List Exchange) → (claimed : List ℕ) → Verdict → Type 0
+IsVerdict program script journal claimed verdict.Yes = IsClaimed program script journal claimed
+IsVerdict program script journal claimed (verdict.Strayed most) = Strays program script journal most
+IsVerdict program script journal claimed (verdict.Differs line) = DiffersIn program script journal claimed line
 
+-- ON THE WAY
 -- the run has come so far on a journal: the exchanges that are used are those at its front, and these bytes were written
 pub record HasCome (program : Program) (from : Config) (journal : List Exchange) (now : Seen) (written : List ℕ) : Type 0 where
   pub state : State
@@ -41,10 +39,3 @@ pub record HasCome (program : Program) (from : Config) (journal : List Exchange)
   pub within : now.used ≤ length journal
   pub run : Reaches program deepest from (take now.used journal) said (working state now.work)
   pub bytes : written ≡ lines said
-
--- Yes: the claimed lines are those of the run. Strayed: the run hasn't ended with the journal used up. Differs: it has, and the
--- claimed lines are others; the line is the one behind the line feeds of the longest common front.
-abbrev pub IsVerdict : Program → (from : Config) → (journal : List Exchange) → (claimed : List ℕ) → Verdict → Type 0
-IsVerdict program from journal claimed verdict.Yes = Ends program from journal claimed
-IsVerdict program from journal claimed (verdict.Strayed i) = IsReach program from journal i × ((written : List ℕ) → Ends program from journal written → ⊥)
-IsVerdict program from journal claimed (verdict.Differs n) = (written : List ℕ) × Ends program from journal written × DiffersAt n claimed written

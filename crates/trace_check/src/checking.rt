@@ -1,9 +1,9 @@
 //! Whether claimed lines are those of a run on a journal.
 ghost use Rattle.std.specs.Prelude.{◌≡◌, ◌-◌, ◌<◌, ◌^◌, [], IfOk, length};
-ghost use Rattle.plain_machine.specs.Items.{Config};
+ghost use Rattle.editor_model.specs.Values.{Script};
+ghost use Rattle.plain_machine.specs.Run.{start};
 ghost use Rattle.plain_machine.specs.State.{Program as Plain, new_state};
 ghost use Rattle.host_link.specs.Meaning.{exchanges_of};
-ghost use Rattle.kernel_steps.specs.Work.{working};
 ghost use Rattle.trace_check.specs.Meaning.{list_of};
 ghost use Rattle.trace_check.specs.Turns.{Seen};
 ghost use Rattle.trace_check.specs.Verdicts.{HasCome, IsVerdict};
@@ -29,7 +29,7 @@ pub enum Verdict {
 
 /// Runs a machine that is new on a journal, and compares its lines and its dump with those claimed, as they come. A run of 2^64
 /// steps counts as want of memory.
-pub fn check<M: Stepped, P: Program>(
+pub(crate) fn compare<M: Stepped, P: Program>(
     machine: &mut Machine<M>,
     program: &P,
     journal: &Exchanges,
@@ -39,8 +39,8 @@ pub fn check<M: Stepped, P: Program>(
     requires unused { machine.old.used ≡ 0 }
     requires few { length (exchanges_of journal.now) < 2 ^ 32 }
     requires short { length claimed.now < 2 ^ 32 - 1 }
-    ensures { IfOk result (IsVerdict (P.meant program.now) (working new_state (list_of machine.old.work))
-        (exchanges_of journal.now) claimed.now) }
+    ensures { (script : Script) → list_of machine.old.work ≡ (start script).work → IfOk result (IsVerdict
+        (P.meant program.now) script (exchanges_of journal.now) claimed.now) }
 {
     let mut sink = ComparingSink::new(claimed);
     'steps: for _ in 0..u64::MAX {
@@ -58,9 +58,9 @@ pub fn check<M: Stepped, P: Program>(
 /// The verdict on a run that has ended with so many exchanges used.
 fn judge(used: usize, journal: &Exchanges, sink: &ComparingSink) -> Verdict
     requires few { length (exchanges_of journal.now) < 2 ^ 32 }
-    ensures { (program : Plain) (from : Config) (now : Seen) → now.used ≡ used → now.work ≡ [] →
-        HasCome program from (exchanges_of journal.now) now sink.now.given → IsVerdict program from
-        (exchanges_of journal.now) sink.now.claimed result }
+    ensures { (program : Plain) (script : Script) (now : Seen) → now.used ≡ used → now.work ≡ [] →
+        HasCome program (start script) (exchanges_of journal.now) now sink.now.given → IsVerdict program
+        script (exchanges_of journal.now) sink.now.claimed result }
 {
     if used < journal.len() {
         return Verdict::Strayed(used as u32);

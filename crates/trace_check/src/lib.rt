@@ -22,7 +22,7 @@ mod waiting;
 mod waits;
 mod work;
 
-pub use checking::{Verdict, check};
+pub use checking::Verdict;
 pub use item::{Item, Target};
 pub use machine::Machine;
 pub use stepped::Stepped;

@@ -8,8 +8,8 @@ use Rattle.trace_check.proofs.Judging.{ended_early}
 use Rattle.trace_check.proofs.checking.judge.Goals as goal
 
 pub returns-then-used-len : goal.returns-then-used-len
-returns-then-used-len c = λ program from now used_is work_is come.
+returns-then-used-len c = λ program script now used_is work_is come.
     let journal = exchanges_of c.args.journal.now in
     let claimed = c.args.sink.now.claimed in
     let left : now.used < length journal = omega (arith, used_is, c.len.ensures, length-map (items_of c.args.journal.now) exchange_of, c.if-used-len.true) in
-    subst (λ n. IsVerdict program from journal claimed (verdict.Strayed n)) used_is (ended_early program from journal now c.args.sink.now.given come work_is claimed left)
+    subst (λ n. IsVerdict program script journal claimed (verdict.Strayed n)) used_is (ended_early program script journal now c.args.sink.now.given come work_is claimed left)

@@ -5,7 +5,7 @@ use Rattle.kernel_steps.specs.Work.{working}
 use Rattle.trace_check.specs.Meaning.{list_of}
 use Rattle.trace_check.specs.Turns.{seen}
 use Rattle.trace_check.specs.Verdicts.{HasCome}
-use Rattle.trace_check.proofs.checking.check.Given as goal
+use Rattle.trace_check.proofs.checking.compare.Given as goal
 
 abbrev pub invariant-steps : goal.invariant-steps
 invariant-steps g l = record {

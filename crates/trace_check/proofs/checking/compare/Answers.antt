@@ -1,14 +1,16 @@
-use Rattle.std.proofs.Common.{◌≡◌, ◌-◌, ◌<◌, ◌≤◌, ◌^◌, length, refl, sym, ap, subst, ◌∙◌, arith}
+use Rattle.std.proofs.Common.{◌≡◌, ◌-◌, ◌<◌, ◌≤◌, ◌^◌, [], length, append-nil, refl, sym, ap, subst, ◌∙◌, arith}
 use Rattle.plain_machine.specs.State.{new_state}
+use Rattle.plain_machine.specs.Run.{start}
 use Rattle.host_link.specs.Meaning.{exchanges_of}
 use Rattle.kernel_steps.specs.Work.{working}
 use Rattle.trace_check.specs.Comparing.{Compared}
 use Rattle.trace_check.specs.Meaning.{list_of}
 use Rattle.trace_check.specs.Turns.{Seen, seen}
-use Rattle.trace_check.specs.Verdicts.{IsVerdict}
+use Rattle.trace_check.specs.Verdicts.{HasCome, IsVerdict}
 use Rattle.trace_check.specs.declared.checking.Verdict.TheVariants as verdict
+use Rattle.trace_check.proofs.Agreeing.{kept, same_held}
 use Rattle.trace_check.proofs.Judging.{begins, goes_on, waits, is_off}
-use Rattle.trace_check.proofs.checking.check.Goals as goal
+use Rattle.trace_check.proofs.checking.compare.Goals as goal
 
 pub steps-init : goal.steps-init
 steps-init g c = record {
@@ -27,14 +29,16 @@ steps-preserved g c =
     record { come = on.0; claimed = on.1 ∙ c.steps.invariant.claimed }
 
 pub returns-in-Ok-Ended : goal.returns-in-Ok-Ended
-returns-in-Ok-Ended g c =
+returns-in-Ok-Ended g c = λ script is.
     let program = g.P.Program.meant c.args.program.now in
-    let from = working new_state (list_of c.args.machine.now.work) in
     let journal = exchanges_of c.args.journal.now in
     let old = seen (g.M.Kernel.state c.steps.machine.kernel) (list_of c.steps.machine.work) c.steps.machine.used in
+    let come = subst (λ f. HasCome program f journal old c.steps.sink.given) (ap (working new_state) is) c.steps.invariant.come in
     let turned = rw (c.in-Ok-Ended.is, c.in-Ok-Ended.field-0-is) at c.step.ensures.turn in
-    subst (λ l. IsVerdict program from journal l c.judge.result) c.steps.invariant.claimed
-    (c.judge.ensures program from old (sym (c.used.ensures ∙ ap (λ (s : Seen). s.used) turned.1)) turned.0 c.steps.invariant.come)
+    let same : c.step.new.sink.given ≡ c.steps.sink.given = (kept c.steps.sink c.step.new.sink [] (same_held c.steps.sink c.step.new.sink turned.2)).given ∙ append-nil c.steps.sink.given in
+    let claimed : c.step.new.sink.claimed ≡ c.args.claimed.now = (kept c.steps.sink c.step.new.sink [] (same_held c.steps.sink c.step.new.sink turned.2)).claimed ∙ c.steps.invariant.claimed in
+    subst (λ l. IsVerdict program script journal l c.judge.result) claimed
+    (c.judge.ensures program script old (sym (c.used.ensures ∙ ap (λ (s : Seen). s.used) turned.1)) turned.0 (subst (HasCome program (start script) journal old) (sym same) come))
 
 pub overflow_cast-result : goal.overflow_cast-result
 overflow_cast-result g c =
@@ -44,15 +48,15 @@ overflow_cast-result g c =
     omega (arith, same, within, c.requires.few)
 
 pub returns-in-Ok-Waits : goal.returns-in-Ok-Waits
-returns-in-Ok-Waits g c =
+returns-in-Ok-Waits g c = λ script is.
     let program = g.P.Program.meant c.args.program.now in
-    let from = working new_state (list_of c.args.machine.now.work) in
     let journal = exchanges_of c.args.journal.now in
     let claimed = c.args.claimed.now in
     let old = seen (g.M.Kernel.state c.steps.machine.kernel) (list_of c.steps.machine.work) c.steps.machine.used in
+    let come = subst (λ f. HasCome program f journal old c.steps.sink.given) (ap (working new_state) is) c.steps.invariant.come in
     let turned = rw (c.in-Ok-Waits.is, c.in-Ok-Waits.field-0-is) at c.step.ensures.turn in
     let same : c.used-in-Ok-Waits.result ≡ c.steps.machine.used = c.used-in-Ok-Waits.ensures ∙ ap (λ (s : Seen). s.used) turned.1 in
-    subst (λ n. IsVerdict program from journal claimed (verdict.Strayed n)) (sym same) (waits program from journal old c.steps.sink.given c.steps.invariant.come claimed turned.0 turned.3)
+    subst (λ n. IsVerdict program script journal claimed (verdict.Strayed n)) (sym same) (waits program script journal old c.steps.sink.given come claimed turned.0 turned.3)
 
 pub overflow_cast-result-in-Ok-Off : goal.overflow_cast-result-in-Ok-Off
 overflow_cast-result-in-Ok-Off g c =
@@ -62,12 +66,12 @@ overflow_cast-result-in-Ok-Off g c =
     omega (arith, same, within, c.requires.few)
 
 pub returns-in-Ok-Off : goal.returns-in-Ok-Off
-returns-in-Ok-Off g c =
+returns-in-Ok-Off g c = λ script is.
     let program = g.P.Program.meant c.args.program.now in
-    let from = working new_state (list_of c.args.machine.now.work) in
     let journal = exchanges_of c.args.journal.now in
     let claimed = c.args.claimed.now in
     let old = seen (g.M.Kernel.state c.steps.machine.kernel) (list_of c.steps.machine.work) c.steps.machine.used in
+    let come = subst (λ f. HasCome program f journal old c.steps.sink.given) (ap (working new_state) is) c.steps.invariant.come in
     let turned = rw (c.in-Ok-Off.is, c.in-Ok-Off.field-0-is) at c.step.ensures.turn in
     let same : c.used-in-Ok-Off.result ≡ c.steps.machine.used = c.used-in-Ok-Off.ensures ∙ ap (λ (s : Seen). s.used) turned.2 in
-    subst (λ n. IsVerdict program from journal claimed (verdict.Strayed n)) (sym same) (is_off program from journal old c.steps.sink.given c.steps.invariant.come claimed turned.0 turned.1 turned.4)
+    subst (λ n. IsVerdict program script journal claimed (verdict.Strayed n)) (sym same) (is_off program script journal old c.steps.sink.given come claimed turned.0 turned.1 turned.4)
