@@ -1,3 +1,4 @@
+pub mod Answering
 pub mod Questions
 pub mod Taking
 pub mod Telling

@@ -1,17 +1,16 @@
 //! Asking a child: the question, its answer, and what is entered for it.
-ghost use Rattle.std.specs.Prelude.{◌≡◌, ◌<◌, ◌≤◌, ℕ, List, length, false, Some, IfOk, OnErr};
-ghost use Rattle.std.specs.Prelude.{slice_get};
+ghost use Rattle.std.specs.Prelude.{◌≡◌, ◌<◌, ◌≤◌, length, false, Some, IfOk, OnErr, slice_get};
 ghost use Rattle.plain_machine.specs.Arguments.{child_of};
 ghost use Rattle.process_table.specs.Table.{with_table};
 ghost use Rattle.host_link.specs.Hosts.{Fits, got_answer};
-ghost use Rattle.handler_run.specs.Answers.{IsRead, gave_bytes};
+ghost use Rattle.handler_run.specs.Answers.{IsRead};
 ghost use Rattle.handler_run.specs.Asking.{Hears, HearsEnd, HearsOutput, Kills};
 
-use crate::answers::{ended, enter};
 use crate::entry::Entry;
 use crate::slot::{MOST_READ, Slot, ready};
+use crate::taken::{take_end, take_output, take_signal};
 use ek_types::Mem;
-use host_link::{Ended, Got, Host};
+use host_link::{Got, Host};
 use process_table::Processes;
 use std::alloc::Global;
 
@@ -53,15 +52,6 @@ fn given<'a>(got: &Got, room: &'a [u8]) -> &'a [u8]
     }
 }
 
-fn is_bytes(got: &Got) -> bool
-    ensures { (room : List ℕ) → result ≡ gave_bytes (got_answer room got.now) }
-{
-    match got {
-        Got::Bytes(_) => true,
-        Got::End | Got::Failed | Got::Nothing => false,
-    }
-}
-
 /// Asks a process for its output.
 fn hear_output<H: Host>(table: &mut Processes, host: &mut H, p: u32, slot: Slot) -> Mem<Heard>
     requires made { p < length table.old }
@@ -74,11 +64,7 @@ fn hear_output<H: Host>(table: &mut Processes, host: &mut H, p: u32, slot: Slot)
     let child = table.get(p).child();
     let mut room = [0u8; MOST_READ];
     let got = host.read(child, &mut room)?;
-    let bytes = given(&got, &room);
-    Ok(Heard {
-        bytes: is_bytes(&got),
-        entry: enter(table, p, slot, &got, bytes),
-    })
+    Ok(take_output(table, p, slot, &got, given(&got, &room)))
 }
 
 /// Asks a process how it has ended.
@@ -92,10 +78,7 @@ fn hear_end<H: Host>(table: &mut Processes, host: &mut H, p: u32, slot: Slot) ->
 {
     let child = table.get(p).child();
     let how = host.end(child)?;
-    Ok(Heard {
-        bytes: false,
-        entry: ended(table, p, slot, &how),
-    })
+    Ok(take_end(table, p, slot, &how))
 }
 
 /// Kills the child of process `p`, whatever the host answers, and says what is entered then. All memory is taken before:
@@ -111,5 +94,5 @@ pub fn kill<H: Host>(alloc: Global, table: &mut Processes, host: &mut H, p: u32)
     let process = table.get(p);
     let slot = ready(alloc, process)?;
     host.kill(process.child());
-    Ok(ended(table, p, slot, &Ended::Signal))
+    Ok(take_signal(table, p, slot))
 }

@@ -6,9 +6,11 @@ mod answers;
 mod asking;
 mod entry;
 mod slot;
+mod taken;
 mod told;
 
 pub use answers::{ended, enter};
 pub use asking::{Heard, hear, kill};
 pub use entry::Entry;
 pub use slot::{Slot, ready};
+pub use taken::{take_answer, take_kill};

@@ -95,12 +95,12 @@ touched_hosted p old new kills (inr t) h = subst (λ l. Hosted l kills) (sym t.s
 
 -- ONE PROCESS
 -- the machine's process of a number, where the kernel has one
-record Stood (known s : State) (p : ℕ) (one : Process) : Type 0 where
+pub record Stood (known s : State) (p : ℕ) (one : Process) : Type 0 where
   pub x : Process
   pub found : process s p ≡ Some x
   pub same : one ≡ kept x
 
-stood : (known s : State) (p : ℕ) (one : Process) → Stands known s → slice_get known.processes p ≡ Some one → Stood known s p one
+pub stood : (known s : State) (p : ℕ) (one : Process) → Stands known s → slice_get known.processes p ≡ Some one → Stood known s p one
 stood known s p one stands e = let (x, found, same) = one_stands known.processes s p one (ap (λ (t : State). t.processes) stands) e in record { x = x; found = found; same = same }
 
 may_alike : (known s : State) → Stands known s → may_ask known ≡ true → may_ask s ≡ true
@@ -110,7 +110,7 @@ may_alike known s stands may = ap (λ (t : State). may_ask t) (sym stands) ∙ m
 abbrev pub heard_state : State → List Process → State
 heard_state s table = record s { processes = table; asked = s.asked + 1 }
 
-heard_stands : (known s t : State) (table : List Process) → Stands known s → StandsFor table t.processes → t ≡ heard_state s t.processes → Stands (heard_state known table) t
+pub heard_stands : (known s t : State) (table : List Process) → Stands known s → StandsFor table t.processes → t ≡ heard_state s t.processes → Stands (heard_state known table) t
 heard_stands known s t table stands same apart = ap (λ (u : State). heard_state u table) stands ∙ ap (heard_state (kept_state s)) same ∙ ap kept_state (sym apart)
 
 -- one process is asked, at once or as a round begins
@@ -144,8 +144,8 @@ module _ {H : Type 0} (state : H → HostState) (made : H → H → Ask → ℕ 
     hears_keeps h hosted = by h.answered
       where
         by : ((h.one.drained ≡ false) × HearsOutput state made host host2 known.processes table p heard) ⊎ ((h.one.drained ≡ true) × HearsEnd state made host host2 known.processes table p heard) → Keeps before now
-        by (inl (drained, k)) = heard_keeps k.touches k.exchanged.kills hosted
-        by (inr (drained, k)) = heard_keeps k.touches k.exchanged.kills hosted
+        by (inl (drained, k)) = heard_keeps k.takes.touches k.exchanged.kills hosted
+        by (inr (drained, k)) = heard_keeps k.takes.touches k.exchanged.kills hosted
 
     module _ (s : State) (w v : Waiting) (target : Target) (rest : List Item) (may : may_ask known ≡ true) (stands : Stands known s) (leads : Leads s w (turn.Ask p) v) where
       abbrev going : Type 0
@@ -161,13 +161,13 @@ module _ {H : Type 0} (state : H → HostState) (made : H → H → Ask → ℕ 
       output_goes one found drained k =
           let y = stood known s p one stands found in
           let undrained : y.x.drained ≡ false = ap (λ (z : Process). z.drained) (sym y.same) ∙ drained in
-          let r = k.machine s y.x (ap (λ (t : State). t.processes) stands) y.found undrained in
+          let r = k.takes.machine s y.x (ap (λ (t : State). t.processes) stands) y.found undrained in
           record {
             state = r.now;
             stands = heard_stands known s r.now table stands r.stands r.apart;
             goes = asked_goes program sink (CallsSince state made start host) (CallsSince state made start host2) s r.now w v target rest (entering p heard.entry (Wait (noted p heard.bytes v) target ∷ rest)) p (Read (child_of (with_table known.processes) p)) k.answer (read_answer s v target rest p y.x) leads
                 (ask_step y.x false y.found undrained ∙ ap (λ c. Asks (Read c) (read_answer s v target rest p y.x)) (child_is one y found))
-                (r.goes v target rest ∙ ap (λ b. Some (silent r.now (entering p heard.entry (Wait (noted p b v) target ∷ rest)))) (sym k.bytes))
+                (r.goes v target rest ∙ ap (λ b. Some (silent r.now (entering p heard.entry (Wait (noted p b v) target ∷ rest)))) (sym k.takes.bytes))
                 (adds_call state made start host host2 (state host).kills (Read (child_of (with_table known.processes) p)) k.answer refl tt k.exchanged k.called);
           }
 
@@ -175,13 +175,13 @@ module _ {H : Type 0} (state : H → HostState) (made : H → H → Ask → ℕ 
       end_goes one found drained k =
           let y = stood known s p one stands found in
           let all_read : y.x.drained ≡ true = ap (λ (z : Process). z.drained) (sym y.same) ∙ drained in
-          let r = k.machine s y.x (ap (λ (t : State). t.processes) stands) y.found in
+          let r = k.takes.machine s y.x (ap (λ (t : State). t.processes) stands) y.found in
           record {
             state = r.now;
             stands = heard_stands known s r.now table stands r.stands r.apart;
             goes = asked_goes program sink (CallsSince state made start host) (CallsSince state made start host2) s r.now w v target rest (entering p heard.entry (Wait (noted p heard.bytes v) target ∷ rest)) p (AskEnd (child_of (with_table known.processes) p)) (ended_answer k.how) (end_answer s v target rest p y.x) leads
                 (ask_step y.x true y.found all_read ∙ ap (λ c. Asks (AskEnd c) (end_answer s v target rest p y.x)) (child_is one y found))
-                (r.goes v target rest ∙ ap (λ b. Some (silent r.now (entering p heard.entry (Wait (noted p b v) target ∷ rest)))) (sym k.bytes))
+                (r.goes v target rest ∙ ap (λ b. Some (silent r.now (entering p heard.entry (Wait (noted p b v) target ∷ rest)))) (sym k.takes.bytes))
                 (adds_call state made start host host2 (state host).kills (AskEnd (child_of (with_table known.processes) p)) (ended_answer k.how) refl tt k.exchanged k.called);
           }
 
@@ -199,7 +199,7 @@ module _ {H : Type 0} (state : H → HostState) (made : H → H → Ask → ℕ 
 abbrev pub killed_state : State → List Process → State
 killed_state s table = record s { processes = table }
 
-killed_stands : (known s t : State) (table : List Process) → Stands known s → StandsFor table t.processes → t ≡ killed_state s t.processes → Stands (killed_state known table) t
+pub killed_stands : (known s t : State) (table : List Process) → Stands known s → StandsFor table t.processes → t ≡ killed_state s t.processes → Stands (killed_state known table) t
 killed_stands known s t table stands same apart = ap (λ (u : State). killed_state u table) stands ∙ ap (killed_state (kept_state s)) same ∙ ap kept_state (sym apart)
 
 resting : (status : Status) (s : State) (p : ℕ) (x : Process) (rest : List Item) → runs status ≡ false → delete_running status s p x rest ≡ on s rest
@@ -294,7 +294,7 @@ module _ {H : Type 0} (state : H → HostState) (made : H → H → Ask → ℕ 
     called = subst (λ c. made host host2 (Kill c) 0 (told_kill how)) is_child k.called
 
     same : table ≡ changed p (with_status Signalled) known.processes
-    same = k.table
+    same = k.takes.table
 
     pub kill_keeps : Hosted known.processes (state host).kills → Keeps alive dead
     kill_keeps hosted = record {
@@ -316,7 +316,7 @@ module _ {H : Type 0} (state : H → HostState) (made : H → H → Ask → ℕ 
     kill_went more is = record {
       comes = λ s rest stands behind.
           let y = stood known s p one stands found in
-          let d = k.machine s y.x (ap (λ (t : State). t.processes) stands) y.found in
+          let d = k.takes.machine s y.x (ap (λ (t : State). t.processes) stands) y.found in
           let runs_so : runs y.x.status ≡ true = ap (λ (z : Process). runs z.status) (sym y.same) ∙ which.runs in
           record {
             state = d.now;

@@ -10,4 +10,5 @@ pub mod Coding
 pub mod Spoken
 pub mod Refusing
 pub mod Exchanges
+pub mod Answering
 pub mod Lives

@@ -69,7 +69,7 @@ fn commit_there(kernel: &mut KernelState, change: &Change) -> Mem<Committed>
 }
 
 /// Keeps the last kept place no longer.
-fn drop_kept(kernel: &mut KernelState)
+pub(crate) fn drop_kept(kernel: &mut KernelState)
     ensures { state_of kernel.new ≡ popped (state_of kernel.old) }
 {
     let _kept = kernel.editor.pop_saved();

@@ -16,7 +16,7 @@ use kernel_steps::{Entry, Heard, Kind, Program, Stop};
 use process_table::Status;
 
 /// What is entered at process `p`.
-fn entry_of(p: u32, entered: Entered) -> Option<Entry>
+pub(crate) fn entry_of(p: u32, entered: Entered) -> Option<Entry>
     ensures heard { IsHeardIf result }
     ensures entering { (rest : List Item) → entering result rest ≡ entering_one p entered rest }
 {

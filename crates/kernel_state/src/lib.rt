@@ -19,6 +19,7 @@ mod setting;
 mod starting;
 mod steps;
 mod telling;
+mod told;
 mod words;
 
 pub use kernel::KernelState;

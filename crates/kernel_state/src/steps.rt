@@ -2,13 +2,13 @@
 use crate::kernel::KernelState;
 use crate::{
     blocks, buffers, changes, equal, handlers, hearing, manner, questions, refusals, setting,
-    starting, telling, words,
+    starting, telling, told, words,
 };
 use editor_prims::{Change, Committed, Prepared, arg, nil};
 use ek_call::{Fault, Primitive, Reply, Value, Values};
 use ek_types::{ListOf, Mem, Sink, SinkFault, Sym, SymList, Symbols};
 use handler_code::NativeCall;
-use host_link::Host;
+use host_link::{Answer, Host};
 use kernel_steps::{Block, Command, Entry, Heard, Kept, Kind, Manner, Program, Stop};
 use process_table::Processes;
 use std::alloc::Global;
@@ -263,5 +263,19 @@ impl kernel_steps::Kernel for KernelState {
 
     fn start<P: Program>(&mut self, program: &P, args: &Values, child: u32) -> u32 {
         starting::start(self, program, args, child)
+    }
+}
+
+impl kernel_steps::Stepped for KernelState {
+    fn forget_kept(&mut self) {
+        changes::drop_kept(self);
+    }
+
+    fn take_answer(&mut self, p: u32, answer: &Answer) -> Mem<Heard> {
+        told::take_answer(self, p, answer)
+    }
+
+    fn take_kill(&mut self, p: u32) -> Mem<Entry> {
+        told::take_kill(self, p)
     }
 }

@@ -14,6 +14,7 @@ mod processes;
 mod program;
 mod reply;
 mod script;
+mod stepped;
 mod stop;
 mod waits;
 
@@ -22,4 +23,5 @@ pub use forms::{run_forms, run_top};
 pub use kernel::{Block, Command, Entry, Heard, Kept, Kernel, Kind, Manner};
 pub use program::Program;
 pub use script::run_script;
+pub use stepped::Stepped;
 pub use stop::{Halt, Stop};

@@ -1,5 +1,6 @@
 pub mod Cuttings
 pub mod Fronts
+pub mod Lines
 pub mod Readings
 pub mod Returns
 pub mod Steps

@@ -1,4 +1,4 @@
--- Steps of decoding with the line ends of DOS, and how many characters come of so many bytes.
+-- How many characters come of so many bytes, and what is held.
 use Rattle.std.proofs.Common.{◌≡◌, ℕ, zero, suc, ◌+◌, ◌-◌, ◌<◌, ◌≤◌, ◌⊎◌, inl, inr, Bool, true, false, ◌&&◌, ◌==◌, map, List, [], ◌∷◌, ◌++◌, length, take, drop, slice_index, refl, ap, sym, ◌∙◌, subst, arith, length-append}
 use Rattle.std.proofs.lemmas.Bool.Decides.{nat_tests}
 use Rattle.std.proofs.lemmas.List.{length-map}
@@ -8,9 +8,8 @@ use Rattle.text_model.specs.Codings.{Coding, Utf8, Utf8Dos, Latin1, is_return, b
 use Rattle.text_model.proofs.Decodings.{characters-whole, characters-part, characters-neither, tail-whole, tail-part, tail-neither}
 use Rattle.text_model.proofs.Ascii.{front_whole, front_part}
 use Rattle.text_model.proofs.Codings.{kept_if, left_of, with_return, settled_append, ends_more, no_feed_first, no_feed_settled}
-use Rattle.utf8_stream.specs.Returns.{is_lone_return, begins_by_feed, before_feed}
+use Rattle.utf8_stream.specs.Returns.{begins_by}
 use Rattle.utf8_stream.proofs.Tails.{append_none, tail_room, none_of, all_of_tail}
-use Rattle.utf8_stream.proofs.Steps.{cut, cut_length, whole_first, whole_rest}
 
 -- HOW MANY
 feeds_length : (a : List Ch) → length (with_feeds a) ≤ length a
@@ -42,8 +41,8 @@ pub none_more : (c : Coding) (h x : List ℕ) → length x ≡ 0 → undecoded c
 none_more c h [] e t = ap (decoded c) (append_none h) ∙ decoded_closed c h t
 none_more c h (b ∷ x) e t = absurd (omega arith)
 
--- A CHARACTER AND WHAT FOLLOWS IT
-begins_at : (y : List ℕ) → begins_with_feed (settled (ends_in_return y) (characters y)) ≡ begins_by_feed y
+-- WHAT FOLLOWS A CARRIAGE RETURN
+pub begins_at : (y : List ℕ) → begins_with_feed (settled (ends_in_return y) (characters y)) ≡ begins_by 10 y
 begins_at [] = refl
 begins_at (b ∷ y) = by (b == 10) refl
   where
@@ -69,120 +68,6 @@ begins_at (b ∷ y) = by (b == 10) refl
         subst (λ n. begins_with_feed (settled (ends_in_return (n ∷ y)) (characters (n ∷ y))) ≡ (n == 10)) (sym same) (feed y)
     by false k = no_feed_settled (ends_in_return (b ∷ y)) (characters (b ∷ y)) (other k) ∙ sym k
 
-abbrev put_if : Bool → Ch → List Ch
-put_if t c = elim t [ true ↦ [] | false ↦ c ∷ [] ]
-
-kept_put : (t : Bool) (c : Ch) (text : List Ch) → kept_if t c text ≡ put_if t c ++ text
-kept_put true c text = refl
-kept_put false c text = refl
-
-pub before_length : (c : Ch) (next : List ℕ) → length (before_feed c next) ≤ 1
-before_length c next = by (is_return c && begins_by_feed next)
-  where
-    by : (t : Bool) → length (put_if t c) ≤ 1
-    by true = omega arith
-    by false = omega arith
-
-next_character : (x y : List ℕ) (c : Ch) → characters x ≡ c ∷ characters y → ends_in_return x ≡ ends_in_return y → decoded Utf8Dos x ≡ before_feed c y ++ decoded Utf8Dos y
-next_character x y c first ends =
-    let rest : List Ch = settled (ends_in_return y) (characters y) in
-    let whole : settled (ends_in_return x) (characters x) ≡ c ∷ rest = (λ i. settled (ends i) (first i)) ∙ settled_append y (c ∷ []) in
-    ap with_feeds whole ∙ kept_put (is_return c && begins_with_feed rest) c (with_feeds rest) ∙ ap (λ t. put_if (is_return c && t) c ++ with_feeds rest) (begins_at y)
-
-next_left : (x y : List ℕ) → tail x ≡ tail y → ends_in_return x ≡ ends_in_return y → undecoded Utf8Dos x ≡ undecoded Utf8Dos y
-next_left x y same ends = λ i. left_of (ends i) (same i)
-
--- the end of the bytes, from a place on
-ends_from : (n : ℕ) (x : List ℕ) → 0 < length (drop n x) → ends_in_return x ≡ ends_in_return (drop n x)
-ends_from zero x h = refl
-ends_from (suc n) [] h = refl
-ends_from (suc n) (b ∷ x) h = by x (ends_from n x h) h
-  where
-    by : (y : List ℕ) → ends_in_return y ≡ ends_in_return (drop n y) → 0 < length (drop n y) → ends_in_return (b ∷ y) ≡ ends_in_return (drop n y)
-    by [] e h = absurd (nothing n h)
-      where
-        nothing : (n : ℕ) → 0 < length (drop n (let none : List ℕ = [] in none)) → ⊥
-        nothing zero h = omega arith
-        nothing (suc n) h = omega arith
-    by (d ∷ y) e h = e
-
-all_dropped : (n : ℕ) (x : List ℕ) → length (drop n x) ≡ 0 → drop n x ≡ []
-all_dropped n x e = none_of (drop n x) e
-
-some_behind : (a : List Ch) → [] ≡ a ++ Scalar 13 ∷ [] → ⊥
-some_behind [] e = cc
-some_behind (c ∷ a) e = cc
-
--- one whole sequence that is all there is ends in no carriage return, where it isn't one
-lone_end : (x s : List ℕ) (c : ℕ) → front x ≡ Whole s → scalar_of s ≡ c → characters x ≡ Scalar c ∷ [] → is_lone_return x ≡ false → ends_in_return x ≡ false
-lone_end [] s c f v w l = refl
-lone_end (b ∷ []) s c f v w l = l
-lone_end (b ∷ d ∷ x) s c f v w l = by (ends_in_return (b ∷ d ∷ x)) refl
-  where
-    by : (e : Bool) → ends_in_return (b ∷ d ∷ x) ≡ e → ends_in_return (b ∷ d ∷ x) ≡ false
-    by false k = k
-    by true k = absurd (wrong (front_whole b (d ∷ x) s f))
-      where
-        last : c ≡ 13
-        last = only (without_last (characters (b ∷ d ∷ x))) (sym w ∙ (with_return (b ∷ d ∷ x) k).0)
-          where
-            only : (a : List Ch) → Scalar c ∷ [] ≡ a ++ Scalar 13 ∷ [] → c ≡ 13
-            only [] e = cc
-            only (a ∷ []) e = cc
-            only (a ∷ b ∷ text) e = cc
-
-        wrong : ((s ≡ b ∷ []) × (b ≤ 0x7F)) ⊎ ((0x80 ≤ scalar_of s) × (0x80 ≤ b)) → ⊥
-        wrong (inr h) = omega (arith, h.0, v, last)
-        wrong (inl h) =
-            let more : characters (b ∷ d ∷ x) ≡ Scalar (scalar_of s) ∷ characters (d ∷ x) = characters-whole b (d ∷ x) s f ∙ ap (λ s. Scalar (scalar_of s) ∷ characters_after (Rattle.text_model.specs.Decoding.following s) (d ∷ x)) h.0 ∙ ap (λ s. Scalar (scalar_of s) ∷ characters (d ∷ x)) (sym h.0) in
-            let none : characters (d ∷ x) ≡ [] = cc in
-            some_behind (without_last (characters (d ∷ x))) (sym none ∙ (with_return (d ∷ x) k).0)
-
-module _ (x : List ℕ) where
-  abbrev from : ℕ → List ℕ
-  from n = take (length x - n) (drop n x)
-
-  pub dos_whole : (n c : ℕ) → front x ≡ Whole (take n x) → scalar_of (take n x) ≡ c → 0 < n → n ≤ length x → is_lone_return x ≡ false →
-      (decoded Utf8Dos x ≡ before_feed (Scalar c) (from n) ++ decoded Utf8Dos (from n)) × (undecoded Utf8Dos x ≡ undecoded Utf8Dos (from n))
-  dos_whole n c f v some within lone =
-      let first : characters x ≡ Scalar c ∷ characters (from n) = whole_first x n c f v some within in
-      let rest : tail x ≡ tail (from n) = whole_rest x n f some within in
-      let ends : ends_in_return x ≡ ends_in_return (from n) = by (from n) refl first in
-      (next_character x (from n) (Scalar c) first ends, next_left x (from n) rest ends)
-    where
-      by : (y : List ℕ) → from n ≡ y → characters x ≡ Scalar c ∷ characters (from n) → ends_in_return x ≡ ends_in_return (from n)
-      by [] e first = lone_end x (take n x) c f v (first ∙ ap (λ y. Scalar c ∷ characters y) e) lone ∙ sym (ap ends_in_return e)
-      by (b ∷ y) e first =
-          let dropped : drop n x ≡ b ∷ y = sym (cut n x) ∙ e in
-          ends_from n x (omega (arith, ap length dropped)) ∙ ap ends_in_return (sym (cut n x))
-
-pub dos_neither : (x : List ℕ) → 0 < length x → front x ≡ Neither → 0x80 ≤ slice_index x 0 →
-    (decoded Utf8Dos x ≡ Raw (slice_index x 0) ∷ decoded Utf8Dos (from x 1)) × (undecoded Utf8Dos x ≡ undecoded Utf8Dos (from x 1))
-dos_neither [] h f k = absurd (omega arith)
-dos_neither (b ∷ x) h f k =
-    let ends : ends_in_return (b ∷ x) ≡ ends_in_return x = by x in
-    let same : from (b ∷ x) 1 ≡ x = cut 1 (b ∷ x) in (
-      next_character (b ∷ x) x (Raw b) (characters-neither b x f) ends ∙ ap (λ y. Raw b ∷ decoded Utf8Dos y) (sym same),
-      next_left (b ∷ x) x (tail-neither b x f) ends ∙ ap (undecoded Utf8Dos) (sym same),
-    )
-  where
-    by : (y : List ℕ) → ends_in_return (b ∷ y) ≡ ends_in_return y
-    by [] = grind (arith, nat_tests)
-    by (d ∷ y) = refl
-
-pub dos_part : (x : List ℕ) → front x ≡ Part → (decoded Utf8Dos x ≡ []) × (undecoded Utf8Dos x ≡ x)
-dos_part [] f = (refl, refl)
-dos_part (b ∷ x) f = by (ends_in_return (b ∷ x)) refl
-  where
-    by : (e : Bool) → ends_in_return (b ∷ x) ≡ e → (decoded Utf8Dos (b ∷ x) ≡ []) × (undecoded Utf8Dos (b ∷ x) ≡ b ∷ x)
-    by false k = ((λ i. with_feeds (settled (k i) (characters-part b x f i))), (λ i. left_of (k i) (tail-part b x f i)))
-    by true k = let none : b ∷ x ≡ [] = sym (tail-part b x f) ∙ (with_return (b ∷ x) k).1 in cc
-
-pub dos_lone : (x : List ℕ) → is_lone_return x ≡ true → (decoded Utf8Dos x ≡ []) × (undecoded Utf8Dos x ≡ x)
-dos_lone [] h = cc
-dos_lone (b ∷ []) h = let same : b ≡ 13 = grind (arith, nat_tests) in subst (λ n. (decoded Utf8Dos (n ∷ []) ≡ []) × (undecoded Utf8Dos (n ∷ []) ≡ n ∷ [])) (sym same) (refl, refl)
-dos_lone (b ∷ d ∷ x) h = cc
-
 -- WHAT IS HELD
 -- a carriage return that is held is all that is held
 pub held_return : (c : Coding) (h : List ℕ) → undecoded c h ≡ h → ends_in_return h ≡ true → h ≡ 13 ∷ []
@@ -198,7 +83,7 @@ no_return c h e other = by (ends_in_return h) refl
     by true k = absurd (other (ap length (held_return c h e k)))
 
 -- of anything else that is held all characters are raw
-raw_feeds : (x : List ℕ) → with_feeds (map Raw x) ≡ map Raw x
+pub raw_feeds : (x : List ℕ) → with_feeds (map Raw x) ≡ map Raw x
 raw_feeds [] = refl
 raw_feeds (b ∷ x) = ap (λ cs. Raw b ∷ cs) (raw_feeds x)
 

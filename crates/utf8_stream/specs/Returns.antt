@@ -1,16 +1,21 @@
 -- What the code does at a carriage return.
-use Rattle.std.specs.Prelude.{ℕ, Bool, true, false, ◌&&◌, ◌==◌, List, [], ◌∷◌}
-use Rattle.text_model.specs.Characters.{Ch}
-use Rattle.text_model.specs.Codings.{is_return}
+use Rattle.std.specs.Prelude.{◌≡◌, ℕ, Bool, true, false, ◌||◌, ◌==◌, List, [], ◌∷◌, ◌++◌}
+use Rattle.text_model.specs.Characters.{Ch, Scalar}
 
-abbrev pub is_lone_return : List ℕ → Bool
-is_lone_return (b ∷ []) = b == 13
-is_lone_return _ = false
+abbrev pub has_return : List ℕ → Bool
+has_return [] = false
+has_return (b ∷ bytes) = b == 13 || has_return bytes
 
-abbrev pub begins_by_feed : List ℕ → Bool
-begins_by_feed [] = false
-begins_by_feed (b ∷ bytes) = b == 10
+abbrev pub begins_by : (first : ℕ) → List ℕ → Bool
+begins_by first [] = false
+begins_by first (b ∷ bytes) = b == first
 
--- a character, unless it is a carriage return and a line feed is the next byte
-abbrev pub before_feed : Ch → (next : List ℕ) → List Ch
-before_feed c next = elim (is_return c && begins_by_feed next) [ true ↦ [] | false ↦ c ∷ [] ]
+-- bytes in two parts, of which the second begins with the first carriage return
+pub record IsSplit (bytes line end : List ℕ) : Type 0 where
+  pub whole : line ++ end ≡ bytes
+  pub before : has_return line ≡ false
+  pub here : begins_by 13 end ≡ true
+
+-- a carriage return, unless a line feed is the next byte
+abbrev pub return_before : (next : List ℕ) → List Ch
+return_before next = elim (begins_by 10 next) [ true ↦ [] | false ↦ Scalar 13 ∷ [] ]

@@ -4,7 +4,7 @@ ghost use Rattle.text_model.specs.Codings.{Utf8, decoded, undecoded, all_decoded
 ghost use Rattle.utf8_stream.specs.Codings.{coding_of};
 
 use crate::coding::Coding;
-use crate::decoding::open;
+use crate::decoding::{open, put_raw};
 use ek_types::{Ch, Chars};
 use std::marker::Model;
 
@@ -132,9 +132,7 @@ impl Decoder {
         ensures spare { out.new.spare + length (all_decoded self.now.coding self.now.bytes) ≡
             out.old.spare }
     {
-        for byte in self.held() {
-            out.push_spare(Ch::Raw(*byte));
-        }
+        put_raw(self.held(), out);
     }
 
     /// Appends the characters that are complete with one byte more.

@@ -1,13 +1,14 @@
 //! Decoding of bytes that lie at hand, up to what the next bytes may still change.
-ghost use Rattle.std.specs.Prelude.{◌≡◌, ◌+◌, ◌<◌, ◌≤◌, ◌++◌, length};
-ghost use Rattle.text_model.specs.Codings.{Utf8, Utf8Dos, Latin1, decoded, undecoded};
-ghost use Rattle.text_model.specs.Characters.{Scalar};
+ghost use Rattle.std.specs.Prelude.{◌≡◌, ◌+◌, ◌≤◌, ◌++◌, None, IfSome, false, length, map};
+ghost use Rattle.text_model.specs.Codings.{Utf8, Utf8Dos, Latin1, decoded, undecoded, all_decoded};
+ghost use Rattle.text_model.specs.Characters.{Raw};
 ghost use Rattle.utf8_stream.specs.Codings.{coding_of};
-ghost use Rattle.utf8_stream.specs.Returns.{before_feed, is_lone_return};
+ghost use Rattle.utf8_stream.specs.Returns.{IsSplit, has_return, return_before};
 
 use crate::coding::Coding;
 use crate::sequence::{First, read_first};
 use ek_types::{Ch, Chars};
+use memchr::memchr;
 
 /// Appends the characters of the bytes without those that the next bytes may still change, and gives the bytes left out.
 pub(crate) fn open<'a>(coding: Coding, bytes: &'a [u8], out: &mut Chars) -> &'a [u8]
@@ -59,40 +60,56 @@ fn open_dos<'a>(bytes: &'a [u8], out: &mut Chars) -> &'a [u8]
     ensures short { length result.now ≤ 3 }
 {
     let mut rest = bytes;
-    while !rest.is_empty() && !is_return(rest) {
-        match read_first(rest) {
-            First::Whole(c, count) => {
-                let next = &rest[count..];
-                put_unless_return(c, next, out);
-                rest = next;
-            }
-            First::Part => break,
-            First::Neither => {
-                out.push_spare(Ch::Raw(rest[0]));
-                rest = &rest[1..];
-            }
+    while let Some((line, end)) = split_at_return(rest) {
+        put_all(line, out);
+        if end.len() == 1 {
+            return end;
         }
+        put_unless_feed(&end[1..], out);
+        rest = &end[1..];
     }
-    rest
+    open_utf8(rest, out)
 }
 
-/// Whether the bytes are a carriage return alone.
-#[inline]
-fn is_return(bytes: &[u8]) -> bool
-    ensures { result ≡ is_lone_return bytes.now }
+/// The bytes before the first carriage return, and those from it on.
+fn split_at_return(bytes: &[u8]) -> Option<(&[u8], &[u8])>
+    ensures some { IfSome result (λ parts. IsSplit bytes.now parts.0.now parts.1.now) }
+    ensures none { result ≡ None → has_return bytes.now ≡ false }
 {
-    bytes.len() == 1 && bytes[0] == b'\r'
+    let place = memchr(b'\r', bytes)?;
+    Some(bytes.split_at(place))
 }
 
-/// Appends a character, unless it is a carriage return directly before a line feed.
-#[inline]
-fn put_unless_return(c: char, next: &[u8], out: &mut Chars)
+/// Appends all characters of bytes that a carriage return follows.
+fn put_all(line: &[u8], out: &mut Chars)
+    requires { length line.now ≤ out.old.spare }
+    ensures items { out.new.items ≡ out.old.items ++ all_decoded Utf8 line.now }
+    ensures spare { out.new.spare + length (all_decoded Utf8 line.now) ≡ out.old.spare }
+{
+    let part = open_utf8(line, out);
+    put_raw(part, out);
+}
+
+/// Appends the bytes of a sequence that isn't whole as raw bytes.
+pub(crate) fn put_raw(part: &[u8], out: &mut Chars)
+    requires room { length part.now ≤ out.old.spare }
+    requires part { undecoded Utf8 part.now ≡ part.now }
+    ensures items { out.new.items ≡ out.old.items ++ map Raw part.now }
+    ensures spare { out.new.spare + length part.now ≡ out.old.spare }
+{
+    for byte in part {
+        out.push_spare(Ch::Raw(*byte));
+    }
+}
+
+/// Appends a carriage return, unless a line feed is the next byte.
+fn put_unless_feed(next: &[u8], out: &mut Chars)
     requires { 1 ≤ out.old.spare }
-    ensures items { out.new.items ≡ out.old.items ++ before_feed (Scalar c) next.now }
-    ensures spare { out.new.spare + length (before_feed (Scalar c) next.now) ≡ out.old.spare }
+    ensures items { out.new.items ≡ out.old.items ++ return_before next.now }
+    ensures spare { out.new.spare + length (return_before next.now) ≡ out.old.spare }
 {
-    if c != '\r' || next.is_empty() || next[0] != b'\n' {
-        out.push_spare(Ch::Scalar(c));
+    if next.is_empty() || next[0] != b'\n' {
+        out.push_spare(Ch::Scalar('\r'));
     }
 }
 

@@ -1,43 +1,71 @@
-use Rattle.std.proofs.Common.{◌≡◌, suc, ◌+◌, ◌-◌, ◌<◌, ◌≤◌, ◌++◌, ◌∷◌, ◌∙◌, ap, sym, length, take, drop, slice_index, append_assoc, length-append, arith}
-use Rattle.std.proofs.lemmas.Bool.Decides.{nat_tests}
-use Rattle.text_model.specs.Characters.{Scalar, Raw}
-use Rattle.text_model.specs.Codings.{Utf8Dos, decoded}
-use Rattle.std.proofs.Common.{false}
-use Rattle.utf8_stream.specs.Returns.{before_feed, is_lone_return}
-use Rattle.utf8_stream.proofs.Steps.{cut_length, put_first}
-use Rattle.utf8_stream.proofs.Returns.{before_length, dos_whole, dos_neither}
+use Rattle.std.proofs.Common.{◌≡◌, ◌+◌, ◌-◌, ◌<◌, ◌++◌, ◌∙◌, ap, sym, length, take, drop, append_assoc, length-append, refl, arith}
+use Rattle.text_model.specs.Decoding.{all_characters}
+use Rattle.text_model.specs.Codings.{Utf8Dos, decoded, undecoded}
+use Rattle.text_model.proofs.Codings.{undecoded_twice}
+use Rattle.utf8_stream.specs.Returns.{return_before}
+use Rattle.utf8_stream.proofs.Steps.{cut, cut_length}
+use Rattle.utf8_stream.proofs.Lines.{all_room, last_decoded, plain_decoded, plain_undecoded, return_length, some_end, split_decoded, split_length}
 use Rattle.utf8_stream.proofs.decoding.open_dos.Goals as goal
 
-pub loop-c-preserved-in-Whole : goal.loop-c-preserved-in-Whole
-loop-c-preserved-in-Whole c =
-    let x = c.loop-c.rest.now in
-    let n = c.in-Whole.count in
-    let read = c.in-Whole.ensures.encodes in
-    let y = take (length x - n) (drop n x) in
-    let lone : is_lone_return x ≡ false = sym c.is_return.ensures ∙ c.if-not-is_return.true in
-    let step = dos_whole x n c.in-Whole.c c.in-Whole.ensures.front read.0 read.1 read.2 lone in
-    let first = before_feed (Scalar c.in-Whole.c) y in
-    let count : length (decoded Utf8Dos x) ≡ length first + length (decoded Utf8Dos y) = ap length step.0 ∙ length-append first (decoded Utf8Dos y) in
-    let shorter : length y ≡ length x - n = cut_length n x in
+pub returns-then-end-eq1-clause-items : goal.returns-then-end-eq1-clause-items
+returns-then-end-eq1-clause-items c =
+    let last = last_decoded c.loop-line.rest.now c.in-Some.line.now c.in-Some.end.now c.in-Some.ensures.some c.if-end-eq1.true in
+    c.put_all.ensures.items ∙ ap (λ cs. c.loop-line.out.items ++ cs) (sym last.0) ∙ c.loop-line.invariant.items
+
+pub returns-then-end-eq1-clause-spare : goal.returns-then-end-eq1-clause-spare
+returns-then-end-eq1-clause-spare c =
+    let last = last_decoded c.loop-line.rest.now c.in-Some.line.now c.in-Some.end.now c.in-Some.ensures.some c.if-end-eq1.true in
+    omega (arith, c.put_all.ensures.spare, ap length last.0, c.loop-line.invariant.spare)
+
+pub returns-then-end-eq1-clause-tail : goal.returns-then-end-eq1-clause-tail
+returns-then-end-eq1-clause-tail c =
+    let last = last_decoded c.loop-line.rest.now c.in-Some.line.now c.in-Some.end.now c.in-Some.ensures.some c.if-end-eq1.true in
+    sym last.1 ∙ c.loop-line.invariant.tail
+
+pub put_unless_feed-requires : goal.put_unless_feed-requires
+put_unless_feed-requires c =
+    let split = split_length c.loop-line.rest.now c.in-Some.line.now c.in-Some.end.now c.in-Some.ensures.some in
+    let some = some_end c.loop-line.rest.now c.in-Some.line.now c.in-Some.end.now c.in-Some.ensures.some in
+    omega (arith, split, some, all_room c.in-Some.line.now, c.put_all.ensures.spare, c.loop-line.invariant.room)
+
+pub loop-line-preserved : goal.loop-line-preserved
+loop-line-preserved c =
+    let x = c.loop-line.rest.now in
+    let line = c.in-Some.line.now in
+    let end = c.in-Some.end.now in
+    let y = take (length end - 1) (drop 1 end) in
+    let split = split_length x line end c.in-Some.ensures.some in
+    let some = some_end x line end c.in-Some.ensures.some in
+    let shorter : length y ≡ length end - 1 = cut_length 1 end in
+    let more : 0 < length y = omega (arith, shorter, some, c.if-end-eq1.false) in
+    let step = split_decoded x line end c.in-Some.ensures.some y (cut 1 end) more in
+    let count : length (decoded Utf8Dos x) ≡ length (all_characters line) + (length (return_before y) + length (decoded Utf8Dos y)) =
+    ap length step.0 ∙ length-append (all_characters line) (return_before y ++ decoded Utf8Dos y) ∙ ap (λ n. length (all_characters line) + n) (length-append (return_before y) (decoded Utf8Dos y)) in
     record {
-      items = ap (λ cs. cs ++ decoded Utf8Dos y) c.put_unless_return.ensures.items ∙ append_assoc c.loop-c.out.items first (decoded Utf8Dos y) ∙ ap (λ cs. c.loop-c.out.items ++ cs) (sym step.0) ∙ c.loop-c.invariant.items;
-      spare = omega (arith, count, c.put_unless_return.ensures.spare);
-      room = omega (arith, shorter, before_length (Scalar c.in-Whole.c) y, c.put_unless_return.ensures.spare, read.1, read.2);
-      tail = sym step.1 ∙ c.loop-c.invariant.tail;
+      items = ap (λ cs. cs ++ decoded Utf8Dos y) c.put_unless_feed.ensures.items ∙ append_assoc c.put_all.new.out.items (return_before y) (decoded Utf8Dos y)
+          ∙ ap (λ cs. cs ++ (return_before y ++ decoded Utf8Dos y)) c.put_all.ensures.items ∙ append_assoc c.loop-line.out.items (all_characters line) (return_before y ++ decoded Utf8Dos y)
+          ∙ ap (λ cs. c.loop-line.out.items ++ cs) (sym step.0) ∙ c.loop-line.invariant.items;
+      spare = omega (arith, count, c.put_all.ensures.spare, c.put_unless_feed.ensures.spare, c.loop-line.invariant.spare);
+      room = omega (arith, shorter, split, some, all_room line, return_length y, c.put_all.ensures.spare, c.put_unless_feed.ensures.spare, c.loop-line.invariant.room);
+      tail = sym step.1 ∙ c.loop-line.invariant.tail;
     }
 
-pub loop-c-preserved : goal.loop-c-preserved
-loop-c-preserved c =
-    let x = c.loop-c.rest.now in
-    let some : 0 < length x = grind (arith, nat_tests) in
-    let y = take (length x - 1) (drop 1 x) in
-    let b = slice_index x 0 in
-    let step = dos_neither x some c.in-Neither.ensures.front c.in-Neither.ensures.encodes in
-    let count : length (decoded Utf8Dos x) ≡ suc (length (decoded Utf8Dos y)) = ap length step.0 in
-    let shorter : length y ≡ length x - 1 = cut_length 1 x in
-    record {
-      items = put_first c.loop-c.out.items (Raw b) c.push_spare.new.self.items (decoded Utf8Dos y) c.push_spare.ensures.items ∙ ap (λ cs. c.loop-c.out.items ++ cs) (sym step.0) ∙ c.loop-c.invariant.items;
-      spare = omega (arith, count, c.push_spare.ensures.spare);
-      room = omega (arith, shorter, some, c.push_spare.ensures.spare);
-      tail = sym step.1 ∙ c.loop-c.invariant.tail;
-    }
+pub returns-clause-items : goal.returns-clause-items
+returns-clause-items c =
+    let plain = plain_decoded c.loop-line.rest.now (c.in_default.ensures.none refl) in
+    c.open_utf8.ensures.items ∙ ap (λ cs. c.loop-line.out.items ++ cs) (sym plain) ∙ c.loop-line.invariant.items
+
+pub returns-clause-spare : goal.returns-clause-spare
+returns-clause-spare c =
+    let plain = plain_decoded c.loop-line.rest.now (c.in_default.ensures.none refl) in
+    omega (arith, c.open_utf8.ensures.spare, ap length plain, c.loop-line.invariant.spare)
+
+pub returns-clause-tail : goal.returns-clause-tail
+returns-clause-tail c =
+    c.open_utf8.ensures.tail ∙ sym (plain_undecoded c.loop-line.rest.now (c.in_default.ensures.none refl)) ∙ c.loop-line.invariant.tail
+
+pub returns-clause-closed : goal.returns-clause-closed
+returns-clause-closed c =
+    let rest = c.loop-line.rest.now in
+    let same = c.open_utf8.ensures.tail ∙ sym (plain_undecoded rest (c.in_default.ensures.none refl)) in
+    ap (undecoded Utf8Dos) same ∙ undecoded_twice Utf8Dos rest ∙ sym same

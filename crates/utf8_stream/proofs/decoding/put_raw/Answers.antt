@@ -1,0 +1,9 @@
+use Rattle.std.proofs.Common.{ap, ◌∙◌, ◌++◌, map, take_all, arith}
+use Rattle.text_model.specs.Characters.{Raw}
+use Rattle.utf8_stream.proofs.Tails.{tail_high}
+use Rattle.utf8_stream.proofs.decoding.put_raw.Goals as goal
+
+pub push_spare-requires-clause-character : goal.push_spare-requires-clause-character
+push_spare-requires-clause-character c =
+    let i = c.loop-byte.byte-index in
+    (tail_high c.args.part.now i c.requires.part (omega arith), omega (arith, c.type_inv.part i))
