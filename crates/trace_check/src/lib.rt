@@ -14,7 +14,6 @@ mod item;
 mod machine;
 mod processes;
 mod replies;
-mod stepped;
 #[cfg(test)]
 mod tests;
 mod turn;
@@ -22,10 +21,9 @@ mod waiting;
 mod waits;
 mod work;
 
-pub use checking::Verdict;
+pub use checking::{Verdict, check};
 pub use item::{Item, Target};
 pub use machine::Machine;
-pub use stepped::Stepped;
 pub use turn::{StepFault, Turn};
 pub use waiting::Waiting;
 pub use work::Work;

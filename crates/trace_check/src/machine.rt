@@ -20,14 +20,13 @@ use crate::handlers::{enter, exit, go_on};
 use crate::item::{Item, Target};
 use crate::processes::{send_eof, send_string, start_process};
 use crate::replies::{give_answer, refuse};
-use crate::stepped::Stepped;
 use crate::turn::{Done, StepFault, Turn};
 use crate::waits::{delete, wait};
 use crate::work::Work;
 use ek_call::{Primitive, Values};
 use ek_types::{Mem, Sink};
 use host_link::{Exchange, Exchanges};
-use kernel_steps::{Kernel, Manner, Program};
+use kernel_steps::{Kernel, Manner, Program, Stepped};
 
 /// A run of the plain machine that is made one step at a time: what it keeps, what is left to do, and how many exchanges of
 /// the journal are used.

@@ -12,12 +12,11 @@ ghost use Rattle.trace_check.specs.Steps.{Aloud, Drops, DropsBy};
 ghost use Rattle.trace_check.specs.Replies.{HandsOn};
 
 use crate::item::{Item, Target};
-use crate::stepped::Stepped;
 use crate::turn::StepFault;
 use crate::work::Work;
 use ek_call::{Fault, Reply, Value};
 use ek_types::{Mem, Sink, Sym};
-use kernel_steps::{Kernel, Program};
+use kernel_steps::{Kernel, Program, Stepped};
 
 /// Puts the item of a reply in front.
 pub(crate) fn put_reply(work: &mut Work, reply: Reply, target: Target) -> Mem<()>

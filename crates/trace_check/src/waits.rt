@@ -2,6 +2,7 @@
 ghost use Rattle.std.specs.Prelude.{◌≡◌, ◌<◌, ◌∷◌, true, option_map, OnOk};
 ghost use Rattle.plain_machine.specs.Arguments.{is_running};
 ghost use Rattle.plain_machine.specs.Items.{Delete, Wait};
+ghost use Rattle.plain_machine.specs.Refusals.{may_ask};
 ghost use Rattle.plain_machine.specs.State.{Program as Plain};
 ghost use Rattle.process_table.specs.Table.{with_table};
 ghost use Rattle.host_link.specs.Meaning.{answer_of, exchange_of};
@@ -15,14 +16,13 @@ ghost use Rattle.trace_check.specs.Waits.{ahead_of};
 
 use crate::asks::{Met, Question, may_hear, may_kill, meet};
 use crate::item::{Item, Target};
-use crate::stepped::Stepped;
 use crate::turn::Done;
 use crate::waiting::{Ahead, Waiting};
 use crate::work::Work;
 use ek_call::{Fault, Value};
 use ek_types::Mem;
 use host_link::{Answer, Exchange};
-use kernel_steps::{Entry, Kernel};
+use kernel_steps::{Entry, Kernel, Stepped};
 use process_table::Status;
 
 /// What a wait answers.
@@ -122,7 +122,8 @@ fn hear<M: Stepped>(
     p: u32,
     answer: &Answer,
 ) -> Mem<()>
-    requires { IsAllowed (M.state kernel.old) p (answer_of answer.now) }
+    requires asked { may_ask (M.state kernel.old) ≡ true }
+    requires allowed { IsAllowed (M.state kernel.old) p (answer_of answer.now) }
     ensures { OnOk result (Hears (M.state kernel.old) (M.state kernel.new) waiting (target_of target) p
         (answer_of answer.now) (list_of work.old) (list_of work.new)) }
 {

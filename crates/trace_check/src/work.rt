@@ -1,9 +1,12 @@
 //! The list of work.
-ghost use Rattle.std.specs.Prelude.{◌≡◌, ◌<◌, [], ◌∷◌, OnOk, OnErr, IfNone, IfSome};
+ghost use Rattle.std.specs.Prelude.{◌≡◌, ◌<◌, [], ◌∷◌, OnOk, OnErr, IfNone, IfOk, IfSome};
+ghost use Rattle.plain_machine.specs.Run.{start};
+ghost use Rattle.ek_call.specs.Meaning.{script_of};
 ghost use Rattle.trace_check.specs.Meaning.{item_of, list_of, places_of};
 
 use crate::item::Item;
-use ek_types::Mem;
+use ek_call::Script;
+use ek_types::{Copied, Mem};
 use std::alloc::Global;
 
 /// The flat list of what is left to do, the next item first. Its items lie in the opposite order, so that the next one is
@@ -21,6 +24,16 @@ impl Work {
         Work {
             items: Vec::new(alloc),
         }
+    }
+
+    /// The forms of a script.
+    pub(crate) fn of_script(alloc: Global, script: &Script) -> Mem<Work>
+        ensures { IfOk result (λ work. list_of work ≡ (start (script_of script.now)).work) }
+    {
+        let forms = script.forms.copy()?;
+        let mut work = Work::new(alloc);
+        work.put(Item::Top(forms, 0))?;
+        Ok(work)
     }
 
     /// Puts an item in front. A refusal leaves the list as it was.
