@@ -24,28 +24,6 @@ use Rattle.kernel_top.specs.declared.status.Status.TheVariants as status
 use Rattle.kernel_top.proofs.Replays.{few_lines}
 use Rattle.kernel_top.proofs.Outcomes.{no_verdict}
 
--- THE SECOND RUN
-module _ (program : Program) (script : Script) (list : List Exchange) (claimed written : List ℕ) (before now : SinkState) (ran : RanScript program script list written before now) where
-  pub claimed_by : claimed ≡ written → Judged status.Done program script list claimed
-  claimed_by same = record { whole = record { lines = written; ran = ran.ran }; same = same }
-
-  pub differs_by : (line : ℕ) → DiffersAt line claimed written → Judged (status.Differs line) program script list claimed
-  differs_by line first = record { whole = record { lines = written; ran = ran.ran }; first = first }
-
--- the first run refused it
-pub refused_by : (program : Program) (script : Script) (list : List Exchange) (claimed : List ℕ) (answer : Status) → Followed (Err answer) program script list → Judged answer program script list claimed
-refused_by program script list claimed status.NoMemory so = tt
-refused_by program script list claimed (status.Strayed most) so = so
-refused_by program script list claimed status.Done so = absurd so
-refused_by program script list claimed (status.Differs line) so = absurd so
-refused_by program script list claimed status.Usage so = absurd so
-refused_by program script list claimed (status.Script line) so = absurd so
-refused_by program script list claimed status.ReadFault so = absurd so
-refused_by program script list claimed status.WriteFault so = absurd so
-refused_by program script list claimed (status.Journal line) so = absurd so
-refused_by program script list claimed status.JournalFull so = absurd so
-refused_by program script list claimed status.SessionFull so = absurd so
-
 -- THE BYTES
 -- a journal has no more exchanges than bytes
 pub few_in : (bytes : List ℕ) (list : List Exchange) (from to at : ℕ) → IsTranscriptTo bytes list from to at → length bytes ≤ longest_session → length list ≤ longest_session

@@ -12,8 +12,6 @@ pub mod Paths
 pub mod Following
 pub mod Strayed
 pub mod Replays
-pub mod CommonFronts
-pub mod Agreeing
 pub mod Checks
 pub mod Viewed
 pub mod SessionWords

@@ -1,4 +1,5 @@
 -- What a check comes to: claimed lines beside those of the machine's run of a script on the exchanges of a journal.
+pub use Rattle.trace_check.specs.Verdicts.{IsClaimed, DiffersIn}
 use Rattle.std.specs.Prelude.{◌≡◌, ℕ, ◌+◌, ◌≤◌, ◌<◌, ◌⊎◌, ◌==◌, nat_lt, ◌^◌, Bool, true, false, List, [], ◌∷◌, ◌++◌, length, codes, Some}
 use Rattle.editor_model.specs.Values.{Script}
 use Rattle.plain_machine.specs.Exchanges.{Exchange}
@@ -16,43 +17,7 @@ use Rattle.kernel_top.specs.Replaying.{Strays, HasNoScript, IsUnwritten, IsUnrea
 use Rattle.kernel_top.specs.declared.status.Status.{Status}
 use Rattle.kernel_top.specs.declared.status.Status.TheVariants as status
 
--- COMPARING
--- the longest common front
-abbrev pub common : (xs ys : List ℕ) → List ℕ
-common (x ∷ xs) (y ∷ ys) = elim (x == y) [ true ↦ x ∷ common xs ys | false ↦ [] ]
-common _ _ = []
-
--- the claimed bytes are others, and this is the line of the first difference, from 1
-abbrev pub DiffersAt : (line : ℕ) → (claimed written : List ℕ) → Type 0
-DiffersAt line claimed written = (claimed ≡ written → ⊥) × (line ≡ line_feeds (common claimed written) + 1)
-
--- claimed bytes, and those that a sink was given
-pub record Compared : Type 0 where
-  pub claimed : List ℕ
-  pub given : List ℕ
-
--- such a sink holds the claimed bytes, their number in front of them, and what it was given; it has no faults, and its room doesn't shrink
-abbrev pub comparing_state : Compared → SinkState
-comparing_state c = record { held = Some (length c.claimed ∷ (c.claimed ++ c.given)); faults = 0; room = 2 ^ 64 }
-
--- how far they agree: so many bytes, with so many line feeds, and whether the sink was given more than that
-pub record Agrees (c : Compared) (at feeds : ℕ) (differs : Bool) : Type 0 where
-  pub bytes : at ≡ length (common c.claimed c.given)
-  pub lines : feeds ≡ line_feeds (common c.claimed c.given)
-  pub more : differs ≡ nat_lt at (length c.given)
-  pub short : length c.claimed ≤ longest_session
-
--- VERDICTS on claimed lines, by a journal and the run of a script on it
--- the run has ended with the journal used up, and these are its lines and its dump
-pub record IsClaimed (program : Program) (script : Script) (journal : List Exchange) (claimed : List ℕ) : Type 0 where
-  pub whole : IsWhole program script journal
-  pub same : claimed ≡ whole.lines
-
--- it has, and they are others, first in this line
-pub record DiffersIn (program : Program) (script : Script) (journal : List Exchange) (claimed : List ℕ) (line : ℕ) : Type 0 where
-  pub whole : IsWhole program script journal
-  pub first : DiffersAt line claimed whole.lines
-
+-- VERDICTS on claimed lines, as statuses
 abbrev pub Judged : Status → Program → Script → (journal : List Exchange) → (claimed : List ℕ) → Type 0
 Judged status.Done program script journal claimed = IsClaimed program script journal claimed
 Judged (status.Differs line) program script journal claimed = DiffersIn program script journal claimed line

@@ -1,4 +1,5 @@
 -- What a replay comes to: the machine's run of a script on the exchanges of a journal.
+pub use Rattle.trace_check.specs.Runs.{GoesThrough, Strays}
 use Rattle.std.specs.Prelude.{◌≡◌, ℕ, ◌+◌, ◌≤◌, ◌<◌, ◌⊎◌, List, [], length, take, Result, Ok, Err}
 use Rattle.editor_model.specs.Values.{Script}
 use Rattle.plain_machine.specs.Exchanges.{Exchange}
@@ -20,19 +21,6 @@ use Rattle.kernel_top.specs.declared.status.Status.{Status}
 use Rattle.kernel_top.specs.declared.status.Status.TheVariants as status
 
 -- RUNS ON A JOURNAL
--- the machine goes through just these exchanges
-pub record GoesThrough (program : Program) (script : Script) (exchanges : List Exchange) : Type 0 where
-  pub said : List Said
-  pub last : Config
-  pub run : Reaches program deepest (start script) exchanges said last
-
--- the run on a journal hasn't ended with all of it used up, and the machine goes through so many of its exchanges at most
-pub record Strays (program : Program) (script : Script) (journal : List Exchange) (most : ℕ) : Type 0 where
-  pub unended : IsWhole program script journal → ⊥
-  pub within : most ≤ length journal
-  pub goes : GoesThrough program script (take most journal)
-  pub no_more : (k : ℕ) → k ≤ length journal → GoesThrough program script (take k journal) → k ≤ most
-
 -- a front of the lines of the whole run was written, and the sink hasn't failed where it had room for them all
 pub record CutsLines (program : Program) (script : Script) (journal : List Exchange) (written : List ℕ) (before now : SinkState) : Type 0 where
   pub whole : IsWhole program script journal

@@ -1,16 +1,12 @@
 -- The run of a script whose lines are thrown away.
+pub use Rattle.trace_check.specs.Runs.{IsWhole}
 use Rattle.std.specs.Prelude.{◌≡◌, ℕ, ◌⊎◌, All, List, [], Result, Ok, Err}
 use Rattle.editor_model.specs.Values.{Script}
 use Rattle.plain_machine.specs.Exchanges.{Exchange}
 use Rattle.plain_machine.specs.State.{Program}
-use Rattle.plain_machine.specs.WholeRuns.{Ran, BrokenOff}
+use Rattle.plain_machine.specs.WholeRuns.{BrokenOff}
 use Rattle.kernel_steps.specs.Outside.{deepest}
 use Rattle.kernel_steps.specs.Ending.{IsAnsweredKill}
-
--- the machine's run on the script has ended with just these exchanges used up
-pub record IsWhole (program : Program) (script : Script) (exchanges : List Exchange) : Type 0 where
-  pub lines : List ℕ
-  pub ran : Ran program deepest script exchanges lines
 
 -- the run of the script was broken off, and these exchanges are those that it made and the kills
 pub record IsBrokenOff (program : Program) (script : Script) (exchanges : List Exchange) : Type 0 where

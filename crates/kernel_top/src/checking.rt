@@ -1,83 +1,43 @@
-//! The word `check`: a transcript is read, and its claimed lines compared with those of its script's run on its journal.
+//! The word `check`: a transcript is read, and its claimed lines compared with those of its script's run on its journal, by a
+//! second machine.
 ghost use Rattle.std.specs.Prelude.{◌≡◌, ◌<◌, ◌≤◌, ◌^◌, ℕ, List, length, IsTrue};
 ghost use Rattle.std.specs.Io.KnownBytes.{Appends};
 ghost use Rattle.ek_types.specs.Io.{HasCause};
 ghost use Rattle.ek_call.specs.Meaning.{script_of};
 ghost use Rattle.host_link.specs.Meaning.{exchanges_of};
-ghost use Rattle.journal_text.specs.Allowed.{AreAnswered};
-ghost use Rattle.journal_text.specs.Replayed.{new_replay};
 ghost use Rattle.kernel_state.specs.Whole.{program_with};
 ghost use Rattle.kernel_top.specs.Sessions.{longest_session};
-ghost use Rattle.kernel_top.specs.Unseen.{IsWhole};
 ghost use Rattle.kernel_top.specs.Checking.{Judged, Checked, Told, SourceChecked};
 
-use crate::comparing::ComparingSink;
 use crate::reading::{Refused, read_all};
-use crate::replaying::follow;
 use crate::status::{Status, written_status};
 use ek_call::Script;
 use ek_types::{Sink, Source, write_all};
 use handler_code::Natives;
 use host_link::Exchanges;
-use journal_text::{JournalFault, LONGEST_SESSION, Replay, Transcript, read_transcript};
-use kernel_run::Kernel;
+use journal_text::{JournalFault, LONGEST_SESSION, Transcript, read_transcript};
 use script_read::{ScriptFault, read};
 use std::alloc::Global;
+use trace_check::{Verdict, check};
 
-/// Runs the script over a journal that its run follows to the end, and compares what this writes with the bytes claimed.
-fn compare_run<N: Natives>(
-    alloc: Global,
-    script: &Script,
-    host: &mut Replay,
-    claimed: &[u8],
-    natives: &N,
-) -> Status
-    requires fresh { host.old ≡ new_replay host.old.list }
-    requires answered { AreAnswered 0 host.old.list }
-    requires whole { IsWhole (program_with N.names N.does (script_of script.now) natives.now)
-        (script_of script.now) host.old.list }
-    requires short { length claimed.now ≤ longest_session }
-    ensures { Judged result (program_with N.names N.does (script_of script.now) natives.now)
-        (script_of script.now) host.old.list claimed.now }
-{
-    let Ok(mut kernel) = Kernel::new(alloc) else {
-        return Status::NoMemory;
-    };
-    let mut sink = ComparingSink::new(claimed);
-    let ended = kernel.run_script(script, natives, host, &mut sink);
-    kernel.close();
-    let Ok(()) = ended else {
-        return Status::NoMemory;
-    };
-    match sink.difference() {
-        None => Status::Done,
-        Some(line) => Status::Differs(line),
-    }
-}
-
-/// The verdict on claimed lines. The script is run over the journal twice: to see whether it follows it to its end, and then for
-/// its lines.
+/// The verdict on claimed lines.
 fn judge<N: Natives>(
     alloc: Global,
     script: &Script,
-    journal: Exchanges,
+    journal: &Exchanges,
     claimed: &[u8],
     natives: &N,
 ) -> Status
-    requires few { length (exchanges_of journal) < 2 ^ 32 }
-    requires answered { AreAnswered 0 (exchanges_of journal) }
+    requires few { length (exchanges_of journal.now) < 2 ^ 32 }
     requires short { length claimed.now ≤ longest_session }
     ensures { Judged result (program_with N.names N.does (script_of script.now) natives.now)
-        (script_of script.now) (exchanges_of journal) claimed.now }
+        (script_of script.now) (exchanges_of journal.now) claimed.now }
 {
-    let count = journal.len();
-    let mut host = Replay::new(journal);
-    match follow(alloc, script, &mut host, count, natives) {
-        Ok(()) => {
-            host.restart();
-            compare_run(alloc, script, &mut host, claimed, natives)
-        }
-        Err(status) => status,
+    match check(alloc, script, natives, journal, claimed) {
+        Ok(Verdict::Yes) => Status::Done,
+        Ok(Verdict::Strayed(most)) => Status::Strayed(most),
+        Ok(Verdict::Differs(line)) => Status::Differs(line),
+        Err(_) => Status::NoMemory,
     }
 }
 
@@ -101,7 +61,7 @@ fn check_bytes<N: Natives>(alloc: Global, bytes: &[u8], natives: &N) -> Status
         Err(ScriptFault::Line(line)) => return Status::Script(line),
         Err(ScriptFault::NoMemory) => return Status::NoMemory,
     };
-    judge(alloc, &script, journal, &bytes[from..to], natives)
+    judge(alloc, &script, &journal, &bytes[from..to], natives)
 }
 
 /// Reads the transcript that some bytes are, judges its claimed lines, and writes one line where they are those of the run.

@@ -3,7 +3,6 @@
 #![tactic(auto)]
 
 mod checking;
-mod comparing;
 mod counting;
 mod drill_child;
 mod drill_script;

@@ -32,7 +32,7 @@ fn is_followed(host: &Replay, count: usize) -> bool
 }
 
 /// Runs the script over a journal of so many exchanges, with its lines thrown away: whether it follows all of it.
-pub(crate) fn follow<N: Natives>(
+fn follow<N: Natives>(
     alloc: Global,
     script: &Script,
     host: &mut Replay,

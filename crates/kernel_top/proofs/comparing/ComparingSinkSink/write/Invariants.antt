@@ -1,5 +1,0 @@
-use Rattle.std.proofs.Common.{◌≡◌, ◌++◌, take}
-use Rattle.kernel_top.proofs.comparing.ComparingSinkSink.write.Given as goal
-
-abbrev pub invariant-loop-byte : goal.invariant-loop-byte
-invariant-loop-byte l = l.self ≡ record l.fn.self { given = l.fn.self.given ++ take l.byte-index l.from }
