@@ -16,3 +16,4 @@ pub mod Words
 pub mod WaitItems
 pub mod Deletions
 pub mod CommonFronts
+pub mod Judging

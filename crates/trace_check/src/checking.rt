@@ -1,10 +1,12 @@
 //! Whether claimed lines are those of a run on a journal.
-ghost use Rattle.std.specs.Prelude.{◌≡◌, ◌-◌, ◌<◌, ◌^◌, IfOk, length};
-ghost use Rattle.plain_machine.specs.State.{new_state};
+ghost use Rattle.std.specs.Prelude.{◌≡◌, ◌-◌, ◌<◌, ◌^◌, [], IfOk, length};
+ghost use Rattle.plain_machine.specs.Items.{Config};
+ghost use Rattle.plain_machine.specs.State.{Program as Plain, new_state};
 ghost use Rattle.host_link.specs.Meaning.{exchanges_of};
 ghost use Rattle.kernel_steps.specs.Work.{working};
 ghost use Rattle.trace_check.specs.Meaning.{list_of};
-ghost use Rattle.trace_check.specs.Verdicts.{IsVerdict};
+ghost use Rattle.trace_check.specs.Turns.{Seen};
+ghost use Rattle.trace_check.specs.Verdicts.{HasCome, IsVerdict};
 
 use crate::comparer::Comparer;
 use crate::line_sink::LineSink;
@@ -45,12 +47,13 @@ pub fn check<M: Stepped, P: Program>(
 {
     let mut sink = LineSink::new(alloc);
     let mut comparer = Comparer::new(claimed);
-    for _ in 0..u64::MAX {
+    'steps: for _ in 0..u64::MAX {
         sink.clear();
         match machine.step(program, journal, &mut sink) {
             Ok(Turn::Went) => comparer.take(sink.bytes()),
             Ok(Turn::Ended) => return Ok(judge(machine.used(), journal, &comparer)),
-            Ok(Turn::Waits) | Ok(Turn::Off) => return Ok(Verdict::Strayed(machine.used() as u32)),
+            Ok(Turn::Waits) => return Ok(Verdict::Strayed(machine.used() as u32)),
+            Ok(Turn::Off) => return Ok(Verdict::Strayed(machine.used() as u32)),
             Err(StepFault::Sink) | Err(StepFault::NoMemory) => return Err(NoMemory),
         }
     }
@@ -58,7 +61,13 @@ pub fn check<M: Stepped, P: Program>(
 }
 
 /// The verdict on a run that has ended with so many exchanges used.
-fn judge(used: usize, journal: &Exchanges, comparer: &Comparer) -> Verdict {
+fn judge(used: usize, journal: &Exchanges, comparer: &Comparer) -> Verdict
+    requires few { length (exchanges_of journal.now) < 2 ^ 32 }
+    requires short { length comparer.now.claimed.now < 2 ^ 32 - 1 }
+    ensures { (program : Plain) (from : Config) (now : Seen) → now.used ≡ used → now.work ≡ [] →
+        HasCome program from (exchanges_of journal.now) now comparer.now → IsVerdict program from
+        (exchanges_of journal.now) comparer.now.claimed.now result }
+{
     if used < journal.len() {
         return Verdict::Strayed(used as u32);
     }

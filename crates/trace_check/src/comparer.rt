@@ -17,7 +17,7 @@ pub(crate) struct Comparer<'a> {
 }
 
 impl<'a> Comparer<'a> {
-    ghost use Rattle.std.specs.Prelude.{◌≡◌, ◌∷◌, ◌++◌, [], List, ℕ};
+    ghost use Rattle.std.specs.Prelude.{◌≡◌, ◌+◌, ◌∷◌, ◌++◌, [], IfSome, List, ℕ};
     ghost use Rattle.trace_check.specs.Comparers.{Compares, DiffersAt};
 
     /// Before the first byte of the run.
@@ -69,8 +69,9 @@ impl<'a> Comparer<'a> {
 
     /// The line of the first difference from all bytes of the run, from 1, if there is one.
     pub(crate) fn difference(&self) -> Option<usize>
-        ensures { (written : List ℕ) → Compares self.now written →
+        ensures first { (written : List ℕ) → Compares self.now written →
             DiffersAt result self.now.claimed.now written }
+        ensures few { IfSome result (λ line. line ≤ length self.now.claimed.now + 1) }
     {
         if self.differs {
             return Some(self.feeds + 1);

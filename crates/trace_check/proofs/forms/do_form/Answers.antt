@@ -1,8 +1,9 @@
-use Rattle.std.proofs.Common.{◌≡◌, map, ap, ◌∙◌, refl}
+use Rattle.std.proofs.Common.{◌≡◌, map, ap, sym, ◌∙◌, refl}
 use Rattle.std.specs.Prelude.{Some, None}
 use Rattle.editor_model.specs.Values.{Do, Setq, In, WhenEq, SaveExcursion, SaveRestriction, SaveCurrentBuffer, InhibitHooks, InhibitReadOnly}
 use Rattle.ek_types.specs.Listing.{items_of}
 use Rattle.ek_call.specs.Meaning.{arg_of, call_of, form_of, joined}
+use Rattle.ek_call.specs.declared.call.Arg.{Arg}
 use Rattle.kernel_steps.proofs.Shapes.{do_is, setq_is, excursion_is, restriction_is, keep_buffer_is, no_hooks_is, read_only_off_is, when_is}
 use Rattle.trace_check.proofs.forms.do_form.Goals as goal
 
@@ -43,5 +44,10 @@ returns-in-ReadOnlyOff g c = λ program.
 
 pub returns-in-WhenEq : goal.returns-in-WhenEq
 returns-in-WhenEq g c = λ program.
-    let form : form_of c.args.form ≡ WhenEq (arg_of c.in-WhenEq.pair.value.0) (arg_of c.in-WhenEq.pair.value.1) (joined (map form_of (items_of c.in-WhenEq.forms))) = ap form_of c.in-WhenEq.is ∙ when_is c.in-WhenEq.pair c.in-WhenEq.forms in
+    let forms = joined (map form_of (items_of c.in-WhenEq.forms)) in
+    let second = c.in-WhenEq.pair.value.1 in
+    let form : form_of c.args.form ≡ WhenEq (arg_of c.deref.result.now.0) (arg_of c.deref-in-WhenEq.result.now.1) forms =
+    ap form_of c.in-WhenEq.is ∙ when_is c.in-WhenEq.pair c.in-WhenEq.forms
+    ∙ ap (λ (pair : Arg × Arg). WhenEq (arg_of pair.0) (arg_of second) forms) (sym c.deref.ensures)
+    ∙ ap (λ (pair : Arg × Arg). WhenEq (arg_of c.deref.result.now.0) (arg_of pair.1) forms) (sym c.deref-in-WhenEq.ensures) in
     rw form (c.do_when.ensures program)

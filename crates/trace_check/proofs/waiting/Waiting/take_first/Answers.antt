@@ -29,5 +29,7 @@ returns-in-None c =
     let items = c.self.inside.asking.items in
     let seen = λ (xs : List ℕ). position (is_eligible s (waiting_for c.self.inside.aim)) (take (length xs - c.self.inside.at) (drop c.self.inside.at xs)) in
     let found : None ≡ seen items = sym c.in-None.is ∙ c.first_in.ensures ∙ ap seen c.deref.ensures.value in
-    subst (λ (w : Waiting). record old { asking = drop (length items) items } ≡ without_first s w) c.self.view_is
-    (ap (λ l. record old { asking = l }) (drop_all (length items) items (omega arith)) ∙ nobody_taken s old (none_left s old items c.self.inside.at refl found))
+    let left : Waiting = record old { asking = drop c.len-self-inside.result items } in
+    let none : drop c.len-self-inside.result items ≡ [] = drop_all c.len-self-inside.result items (omega (arith, c.len-self-inside.ensures)) in
+    subst (λ (w : Waiting). left ≡ without_first s w) c.self.view_is
+    (ap (λ l. record old { asking = l }) none ∙ nobody_taken s old (none_left s old items c.self.inside.at refl found))
