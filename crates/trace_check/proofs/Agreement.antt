@@ -42,15 +42,15 @@ module _ (program : Program) (next : Option Exchange) (known : State) (work : Li
   abbrev pub AsksThis : ((s : State) → Answer → Option Next) → Type 0
   AsksThis go = (s : State) → Stands known s → step program deepest (working s work) ≡ Asks ask (go s)
 
-  pub comes_waiting : {E : Type 0} (known2 : State) (left : List Item) (go : (s : State) → Answer → Option Next) → AsksThis go → next ≡ None → known2 ≡ known → left ≡ work → Unheard {E = E} (Ok done.Waits) program next known known2 work left
+  pub comes_waiting : (E : Type 0) (known2 : State) (left : List Item) (go : (s : State) → Answer → Option Next) → AsksThis go → next ≡ None → known2 ≡ known → left ≡ work → Unheard {E = E} (Ok done.Waits) program next known known2 work left
   comes_waiting E known2 left go asks none same work_is = λ sink. (none, record { state = same; work_is = work_is; sink = refl }, λ s h. (ask, go s, asks s h))
 
-  pub comes_astray : {E : Type 0} (known2 : State) (left : List Item) (go : (s : State) → Answer → Option Next) → AsksThis go → (x : Exchange) → next ≡ Some x →
+  pub comes_astray : (E : Type 0) (known2 : State) (left : List Item) (go : (s : State) → Answer → Option Next) → AsksThis go → (x : Exchange) → next ≡ Some x →
       ((s : State) → Stands known s → (same_ask ask x.ask ≡ false) ⊎ (go s x.answer ≡ None)) → known2 ≡ known → left ≡ work → Unheard {E = E} (Ok done.Off) program next known known2 work left
   comes_astray E known2 left go asks x is off same work_is = λ sink. (x, is, record { state = same; work_is = work_is; sink = refl }, λ s h. (ask, go s, asks s h, off s h))
 
   -- by an answer, wherever it leads
-  pub comes_heard : {E : Type 0} (known2 : State) (left : List Item) (go : (s : State) → Answer → Option Next) → AsksThis go → (x : Exchange) → next ≡ Some x → same_ask ask x.ask ≡ true →
+  pub comes_heard : (E : Type 0) (known2 : State) (left : List Item) (go : (s : State) → Answer → Option Next) → AsksThis go → (x : Exchange) → next ≡ Some x → same_ask ask x.ask ≡ true →
       ((s : State) → Stands known s → (t : State) × Stands known2 t × (go s x.answer ≡ Some (silent t left))) → Unheard {E = E} (Ok done.Answered) program next known known2 work left
   comes_heard E known2 left go asks x is same goes = λ sink. (
     x,
@@ -67,7 +67,7 @@ module _ (program : Program) (next : Option Exchange) (known : State) (work : Li
         ),
   )
 
-  pub comes_answered : {E : Type 0} (known2 : State) (left : List Item) (go : (s : State) → Answer → Option Next) → AsksThis go → (x : Exchange) → next ≡ Some x → same_ask ask x.ask ≡ true →
+  pub comes_answered : (E : Type 0) (known2 : State) (left : List Item) (go : (s : State) → Answer → Option Next) → AsksThis go → (x : Exchange) → next ≡ Some x → same_ask ask x.ask ≡ true →
       (change : State → State) → ((s : State) → Stands known s → Stands known2 (change s)) → ((s : State) → Stands known s → go s x.answer ≡ Some (silent (change s) left)) → Unheard {E = E} (Ok done.Answered) program next known known2 work left
   comes_answered E known2 left go asks x is same change stands goes = comes_heard E known2 left go asks x is same (λ s h. (change s, stands s h, goes s h))
 

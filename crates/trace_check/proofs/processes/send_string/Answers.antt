@@ -63,8 +63,8 @@ returns-in-Another g c =
     let (x, is, other) = rw c.in-Another.is at met in
     rw c.unmade-in-Another.ensures.result (comes_astray program next known work (Send (child_of known p) bytes) (Unit {0}) known (list_of c.unmade-in-Another.new.work) go asks x is (λ s h. inl other) refl c.unmade-in-Another.ensures.work)
 
-pub returns-in-Answer : goal.returns-in-Answer
-returns-in-Answer g c =
+pub returns : goal.returns
+returns g c =
     let program = g.P.Program.meant c.args.program.now in
     let known = g.M.Kernel.state c.args.kernel.now in
     let args = map view (items_of c.args.args) in
@@ -115,7 +115,7 @@ take_sent-requires g c =
     let args = map view (items_of c.args.args) in
     let bytes = c.in_ok-bytes.bytes.items in
     let some = something_there args bytes c.in_ok-bytes.ensures (sym (ap (λ l. nat_eq (length l) 0) c.as_slice.ensures.value) ∙ sym c.is_empty.ensures ∙ c.if-is_empty.false) in
-    let some_given = λ e. some (c.in_ok-bytes.ensures ∙ e) in
+    let some_given : bytes_of (arg args 1) ≡ [] → ⊥ = λ e. some (c.in_ok-bytes.ensures ∙ e) in
     record {
       place = c.requires.place;
       asked = sends_may program known args c.requires.passes some_given;
