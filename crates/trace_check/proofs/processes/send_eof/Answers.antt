@@ -60,8 +60,8 @@ returns-in-Another g c =
     let (x, is, other) = rw c.in-Another.is at met in
     rw c.unmade-in-Another.ensures.result (comes_astray program next known work (Close (child_of known p)) (Unit {0}) known (list_of c.unmade-in-Another.new.work) go asks x is (λ s h. inl other) refl c.unmade-in-Another.ensures.work)
 
-pub returns : goal.returns
-returns g c =
+pub returns-in-Answer : goal.returns-in-Answer
+returns-in-Answer g c =
     let program = g.P.Program.meant c.args.program.now in
     let known = g.M.Kernel.state c.args.kernel.now in
     let args = map view (items_of c.args.args) in

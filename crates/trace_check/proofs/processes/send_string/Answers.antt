@@ -84,7 +84,8 @@ returns g c =
     let (x, is, same, answer) = rw c.in-Answer.is at met in
     let known2 = g.M.Kernel.state c.take_sent.new.kernel in
     let left = list_of c.take_sent.new.work in
-    let taken : TakesUp c.take_sent.result (λ s. go s x.answer) known known2 work left = subst (λ a. TakesUp c.take_sent.result (λ s. go s a) known known2 work left) (sym answer) c.take_sent.ensures in
+    let sized : TakesUp c.take_sent.result (λ s. go s (answer_of c.in-Answer.answer.now)) known known2 work left = subst (λ n. TakesUp c.take_sent.result (λ s. sent_answer s target rest n (answer_of c.in-Answer.answer.now)) known known2 work left) (c.len.ensures ∙ sym c.as_slice.ensures.len ∙ ap length c.as_slice.ensures.value) c.take_sent.ensures in
+    let taken : TakesUp c.take_sent.result (λ s. go s x.answer) known known2 work left = subst (λ a. TakesUp c.take_sent.result (λ s. go s a) known known2 work left) (sym answer) sized in
     comes_taken program next known work (Send (child_of known p) bytes) c.take_sent.result known2 left go asks x is same taken
 
 pub returns-then-is_empty : goal.returns-then-is_empty
