@@ -154,13 +154,13 @@ module _ (program : Program) (script : Script) (journal : List Exchange) where
     Stuck = (y : Exchange) (others : List Exchange) (further : List Said) (d : Config) → slice_get journal now.used ≡ Some y → Reaches program deepest there (y ∷ others) further d → ⊥
 
     no_more : Stuck → (k : ℕ) → k ≤ length journal → GoesThrough program script (take k journal) → k ≤ now.used
-    no_more stuck k within goes = by (nat_le k now.used) refl
+    no_more stuck k within way = by (nat_le k now.used) refl
       where
         past : Longer journal now.used k → ⊥
-        past more = side (one_run program deepest (start script) (take now.used journal) (more.next ∷ more.others) come.said goes.said there goes.last come.run (subst (λ l. Reaches program deepest (start script) l goes.said goes.last) more.is goes.run))
+        past more = side (one_run program deepest (start script) (take now.used journal) (more.next ∷ more.others) come.said way.said there way.last come.run (subst (λ l. Reaches program deepest (start script) l way.said way.last) more.is way.run))
           where
-            side : GoesOn program deepest come.said goes.said there goes.last (more.next ∷ more.others) ⊎ ((more.next ∷ more.others ≡ []) × GoesOn program deepest goes.said come.said goes.last there []) → ⊥
-            side (inl on) = stuck more.next more.others on.further goes.last more.there on.way
+            side : GoesOn program deepest come.said way.said there way.last (more.next ∷ more.others) ⊎ ((more.next ∷ more.others ≡ []) × GoesOn program deepest way.said come.said way.last there []) → ⊥
+            side (inl on) = stuck more.next more.others on.further way.last more.there on.way
             side (inr (none, on)) = let never : more.next ∷ more.others ≡ [] = none in cc
 
         by : (b : Bool) → nat_le k now.used ≡ b → k ≤ now.used
@@ -192,7 +192,7 @@ module _ (program : Program) (script : Script) (journal : List Exchange) where
       unended = λ whole. unended whole (asking come.state come.stands);
       within = come.within;
       goes = goes_now;
-      no_more = λ k within goes. omega (arith, over, within);
+      no_more = λ k within way. omega (arith, over, within);
     }
       where
         unended : IsWhole program script journal → IsAsking program come.state now.work → ⊥
@@ -229,7 +229,7 @@ module _ (program : Program) (script : Script) (journal : List Exchange) where
       ended_early claimed left = strays claimed (λ y others further d found run. ended_first program run has_ended y others refl) left
 
       module _ (used_up : length journal ≤ now.used) where
-        whole : IsWhole program script journal
+        abbrev whole : IsWhole program script journal
         whole = record {
           lines = given;
           ran = record {
