@@ -196,7 +196,7 @@ fn a_sink_that_is_full_holds_a_front_of_the_answer(rt: HostRuntime) {
 }
 
 /// A run is recorded from its host in memory, and its lines are claimed of its journal.
-fn is_claimed(rt: &impl Abort, alloc: Global, run: &Run) {
+pub fn is_claimed(rt: &impl Abort, alloc: Global, run: &Run) {
     let children = plays(rt, alloc, run.children);
     let recorded = run_words(rt, alloc, &["record"], run.script.as_str(), children, PLAIN);
     let session = String::from_utf8_lossy(alloc, recorded.written.as_slice()).expect(rt, "memory");

@@ -16,6 +16,8 @@ mod edits;
 #[cfg(test)]
 mod filters;
 #[cfg(test)]
+mod generated;
+#[cfg(test)]
 mod hooks;
 #[cfg(test)]
 mod hostile;
