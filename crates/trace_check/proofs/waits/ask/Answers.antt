@@ -68,8 +68,8 @@ returns-then-not-may_hear g c = λ program.
     let met : Meets (asked_about k.drained k.child) next c.meet.result = subst (λ a. Meets a next c.meet.result) about c.meet.ensures in
     let (x, is, same, answer) = rw c.in-Answer.is at met in
     let barred : may_hear k.drained x.answer ≡ false = ap (may_hear k.drained) answer ∙ ap (λ d. may_hear d (answer_of c.in-Answer.answer.now)) (sym c.drained-drained.ensures) ∙ sym c.may_hear.ensures ∙ c.if-not-may_hear.true in
-    comes_astray program next known (Wait w target ∷ rest) (asked_about k.drained k.child) (Unit {0}) known (list_of c.put_back-in-Answer.new.self) go asks x is
-    (λ s h. inr (goes_nowhere program known w target rest c.args.p c.requires.ahead k x.answer made barred s h)) refl c.put_back-in-Answer.ensures
+    comes_astray program next known (Wait w target ∷ rest) (asked_about k.drained k.child) (Unit {0}) known (list_of c.put_back-then-not-may_hear.new.self) go asks x is
+    (λ s h. inr (goes_nowhere program known w target rest c.args.p c.requires.ahead k x.answer made barred s h)) refl c.put_back-then-not-may_hear.ensures
 
 pub returns-in_ok-hear-in-Answer : goal.returns-in_ok-hear-in-Answer
 returns-in_ok-hear-in-Answer g c = λ program.

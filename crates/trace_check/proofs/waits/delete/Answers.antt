@@ -63,7 +63,7 @@ returns-then-not-may_kill g c = λ program.
     let met : Meets (Kill k.child) next c.meet.result = subst (λ n. Meets (Kill n) next c.meet.result) c.child-child.ensures c.meet.ensures in
     let (x, is, same, answer) = rw c.in-Answer.is at met in
     let barred : may_kill x.answer ≡ false = ap may_kill answer ∙ sym c.may_kill.ensures ∙ c.if-not-may_kill.true in
-    comes_astray program next known (Delete p ∷ rest) (Kill k.child) (Unit {0}) known (list_of c.put_back-in-Answer.new.self) go asks x is (λ s h. inr (kill_goes_nowhere program known p rest k x.answer made runs barred s h)) refl c.put_back-in-Answer.ensures
+    comes_astray program next known (Delete p ∷ rest) (Kill k.child) (Unit {0}) known (list_of c.put_back-then-not-may_kill.new.self) go asks x is (λ s h. inr (kill_goes_nowhere program known p rest k x.answer made runs barred s h)) refl c.put_back-then-not-may_kill.ensures
 
 pub returns-in_ok-kill-in-Answer : goal.returns-in_ok-kill-in-Answer
 returns-in_ok-kill-in-Answer g c = λ program.
