@@ -9,7 +9,7 @@ use std::process::Abort;
 /// Handlers, a text and three processes.
 const HEAD: &str = r#"(defhandler f (p s) (insert s) (accept-process-output p))
 (defhandler g (p s) (set-buffer "out") (insert s "!") (delete-process q))
-(defhandler h (b e) (put-text-property 1 2 'face 'bold) (setq n b))
+(defhandler h (b e) (put-text-property 1 2 'face 'bold) (setq n (point)))
 (defhandler k (b e n) (goto-char b) (undo-boundary))
 (insert "abcdefghij")(setq m (copy-marker 4))
 (setq p (start-process "p" "out" "a"))(setq q (start-process "q" nil "b"))(setq r (start-process "r" "out" "c"))
@@ -97,7 +97,8 @@ fn script(rt: &impl Abort, alloc: Global, number: u32) -> String {
     for _ in 0..16 {
         chosen = behind(chosen);
         let form = FORMS.get((chosen >> 16) as usize % FORMS.len());
-        text.push_str(form.expect(rt, "a form")).expect(rt, "memory");
+        text.push_str(form.expect(rt, "a form"))
+            .expect(rt, "memory");
         text.push('\n').expect(rt, "memory");
     }
     text

@@ -109,7 +109,6 @@ ask_same (Close child) = eq-eqb child child refl
 ask_same (Kill child) = eq-eqb child child refl
 
 module _ (program : Program) (from : Config) (journal : List Exchange) where
-
   pub begins : (known : State) (work : List Item) (used : ℕ) (written : List ℕ) → from ≡ working new_state work → known ≡ new_state → used ≡ 0 → written ≡ [] → HasCome program from journal (record { state = known; work = work; used = used }) written
   begins known work used written is fresh unused nothing = record {
     state = new_state;
