@@ -1,9 +1,11 @@
 #!/bin/sh
 # The processor time in which a journal of COUNT reads of 4,096 bytes is read, and written to a sink that counts, in
-# microseconds and megabytes a second. Then a script whose child writes 16 MiB, run, recorded, and replayed from its session,
-# each with its time, where the program is built.
+# microseconds and megabytes a second. Then a script whose child writes 16 MiB, run, recorded, replayed from its session, and
+# checked: the lines of the run are claimed of the journal. Each has its processor time and its peak of memory. Then the same
+# of a script of 80,000 short calls, which asks nothing. A check should take less than three times as long as a replay.
 #
 #     bench/journal.sh [COUNT ..]        (2048 4096 8192 if none is given)
+#     PROGRAM=FILE bench/journal.sh      (what `rt run` leaves in crates/kernel_cli/out if none is given)
 set -eu
 
 . "$(dirname "$0")/common.sh"
@@ -85,17 +87,42 @@ PROGRAM
 # shellcheck disable=SC2086
 proved $counts
 
-program="$top/crates/kernel_cli/out/kernel_cli"
+# timed NAME FILE WORD: runs the word on the file, and says how long it took
+timed() {
+    /usr/bin/time -f "$1, $3: %U s, %M KiB" "$program" "$3" < "$2" > "$work/$3"
+}
+
+# transcript SCRIPT: the session of $work/record, with the lines of $work/run claimed
+transcript() {
+    journal=$(($(wc -c < "$work/record") - $(wc -c < "$1") - 7))
+    head -c "$journal" "$work/record"
+    echo "lines $(wc -c < "$work/run")"
+    cat "$work/run"
+    echo script
+    cat "$1"
+}
+
+# words NAME SCRIPT: all four words
+words() {
+    timed "$1" "$2" run
+    timed "$1" "$2" record
+    timed "$1" "$work/record" replay
+    transcript "$2" > "$work/transcript"
+    timed "$1" "$work/transcript" check
+    cat "$work/check"
+}
+
+program=${PROGRAM:-$top/crates/kernel_cli/out/kernel_cli}
 if [ -x "$program" ]; then
     {
         echo '(setq p (start-process "c" nil "head" "-c" "16777216" "/dev/zero"))'
         for _ in $(seq 5000); do
             echo '(accept-process-output p)'
         done
-    } > "$work/script"
-    for word in run record; do
-        /usr/bin/time -f "16 MiB $word: %U s" "$program" "$word" < "$work/script" > "$work/$word"
-    done
-    /usr/bin/time -f "16 MiB replay: %U s" "$program" replay < "$work/record" > "$work/replay"
-    wc -c "$work/run" "$work/record" "$work/replay"
+    } > "$work/reads"
+    words "16 MiB read" "$work/reads"
+    for _ in $(seq 20000); do
+        echo '(insert "a")(goto-char 1)(put-text-property 1 2 (quote k) 3)(point)'
+    done | sed "s/(quote k)/'k/" > "$work/calls"
+    words "80,000 calls" "$work/calls"
 fi
