@@ -15,7 +15,7 @@ use Rattle.kernel_steps.specs.Outcomes.{RanScript}
 use Rattle.kernel_top.specs.Reading.{HasEnded, IsAll, IsGivenUp}
 use Rattle.kernel_top.specs.Sessions.{longest_session}
 use Rattle.kernel_top.specs.Replaying.{Followed, Strays, HasNoScript, IsUnread}
-use Rattle.kernel_top.specs.Checking.{Judged, Checked, IsClaimed, DiffersIn, DiffersAt, yes, Told, SourceChecked}
+use Rattle.kernel_top.specs.Checking.{Judged, Checked, yes, Told}
 use Rattle.kernel_top.specs.Outcomes.{written_status}
 use Rattle.kernel_top.specs.declared.reading.Refused.{Refused}
 use Rattle.kernel_top.specs.declared.reading.Refused.TheVariants as refused
@@ -89,26 +89,3 @@ told_no_fault program answer read written before now so e = by (subst (λ a. Tol
   where
     by : Told program status.ReadFault read written before now → ⊥
     by told = no_verdict told.1
-
--- THE SOURCE
-pub source_checked : (program : Script → Program) (answer : Status) (bytes written : List ℕ) (source source' : SourceState) (sink sink' : SinkState) →
-    IsAll longest_session bytes source source' → Appends sink.held sink'.held written → Told program answer bytes written sink sink' → SourceChecked program answer source source' sink sink'
-source_checked program answer bytes written source source' sink sink' all put so = record {
-  read = bytes;
-  written = written;
-  taken = all.taken;
-  few = omega (arith, all.short);
-  put = put;
-  so = inl (all.ended, all.short, so);
-}
-
-pub check_unread : (program : Script → Program) (answer : Status) (why : Refused) (source source' : SourceState) (sink : SinkState) → IsGivenUp longest_session why source source' → Appends sink.held sink.held [] →
-    ((bytes : List ℕ) → (why ≡ refused.TooLong → longest_session < length bytes) → IsUnread answer bytes) → SourceChecked program answer source source' sink sink
-check_unread program answer why source source' sink given_up nothing row = record {
-  read = given_up.bytes;
-  written = [];
-  taken = given_up.taken;
-  few = given_up.few;
-  put = nothing;
-  so = inr ((refl, refl), row given_up.bytes given_up.long);
-}

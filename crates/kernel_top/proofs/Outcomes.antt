@@ -23,10 +23,10 @@ use Rattle.kernel_top.specs.Reading.{HasEnded, IsAll, IsGivenUp}
 use Rattle.kernel_top.specs.declared.reading.Refused.{Refused}
 use Rattle.kernel_top.specs.declared.reading.Refused.TheVariants as refused
 use Rattle.kernel_top.specs.Drills.{SumsUp}
-use Rattle.kernel_top.specs.Checking.{OfCheck, ReadAndChecked, SourceChecked}
+use Rattle.kernel_top.specs.Checking.{OfCheck, Told}
 use Rattle.kernel_top.specs.Outcomes.{status_of, written_status, Seen, seen, IsQuiet, IsNoScript, OnRun, OnRecord, OnReplay, OnCheck, OnView, OnDrill, OnSession, OnOthers, Outcome, of_run, of_record, of_replay, of_check, of_view, of_drill, of_session, of_others, Came, CameSo, OfBytes, most_read, Completes, CompletesRun, CompletesRecord, CompletesReplay, CompletesCheck, CompletesView, CompletesDrill, CompletesSession}
 use Rattle.kernel_top.specs.Sessions.{longest_session}
-use Rattle.kernel_top.specs.Replaying.{ReadAndReplayed, SourceReplayed}
+use Rattle.kernel_top.specs.Replaying.{ReadAnd, Replayed, SourceSettled}
 use Rattle.kernel_top.specs.declared.status.Status.{Status}
 use Rattle.kernel_top.specs.declared.status.Status.TheVariants as status
 use Rattle.kernel_steps.proofs.HostCalls.{calls_told}
@@ -149,7 +149,7 @@ module _ {H : Type 0} (hosted : H → HostState) (made : H → H → Ask → ℕ
   }
 
   -- so it is of a replay, which asks the host nothing
-  pub came_replayed : IsReplay words → SourceReplayed program answer source source' sink sink' → Came hosted made program words answer start start source source' sink sink'
+  pub came_replayed : IsReplay words → SourceSettled (Replayed program) answer source source' sink sink' → Came hosted made program words answer start start source source' sink sink'
   came_replayed replays so = record {
     read = so.read;
     written = so.written;
@@ -163,7 +163,7 @@ module _ {H : Type 0} (hosted : H → HostState) (made : H → H → Ask → ℕ
   }
 
   -- nor does a check
-  pub came_checked : IsCheck words → SourceChecked program answer source source' sink sink' → Came hosted made program words answer start start source source' sink sink'
+  pub came_checked : IsCheck words → SourceSettled (Told program) answer source source' sink sink' → Came hosted made program words answer start start source source' sink sink'
   came_checked checks so = record {
     read = so.read;
     written = so.written;
@@ -191,18 +191,18 @@ module _ {H : Type 0} (hosted : H → HostState) (made : H → H → Ask → ℕ
   }
 
 -- a replay knows its words
-pub replay_is_known : (program : Script → Program) (answer : Status) (source source' : SourceState) (sink sink' : SinkState) → SourceReplayed program answer source source' sink sink' → answer ≡ status.Usage → ⊥
-replay_is_known program answer source source' sink sink' so e = by (subst (λ a. ReadAndReplayed program a so.read so.written (HasEnded source.left source'.left) sink sink') e so.so)
+pub replay_is_known : (program : Script → Program) (answer : Status) (source source' : SourceState) (sink sink' : SinkState) → SourceSettled (Replayed program) answer source source' sink sink' → answer ≡ status.Usage → ⊥
+replay_is_known program answer source source' sink sink' so e = by (subst (λ a. ReadAnd (Replayed program) a so.read so.written (HasEnded source.left source'.left) sink sink') e so.so)
   where
-    by : ReadAndReplayed program status.Usage so.read so.written (HasEnded source.left source'.left) sink sink' → ⊥
+    by : ReadAnd (Replayed program) status.Usage so.read so.written (HasEnded source.left source'.left) sink sink' → ⊥
     by (inl (ended, short, row)) = row
     by (inr (nothing, row)) = row
 
 -- a check does, too
-pub check_is_known : (program : Script → Program) (answer : Status) (source source' : SourceState) (sink sink' : SinkState) → SourceChecked program answer source source' sink sink' → answer ≡ status.Usage → ⊥
-check_is_known program answer source source' sink sink' so e = by (subst (λ a. ReadAndChecked program a so.read so.written (HasEnded source.left source'.left) sink sink') e so.so)
+pub check_is_known : (program : Script → Program) (answer : Status) (source source' : SourceState) (sink sink' : SinkState) → SourceSettled (Told program) answer source source' sink sink' → answer ≡ status.Usage → ⊥
+check_is_known program answer source source' sink sink' so e = by (subst (λ a. ReadAnd (Told program) a so.read so.written (HasEnded source.left source'.left) sink sink') e so.so)
   where
-    by : ReadAndChecked program status.Usage so.read so.written (HasEnded source.left source'.left) sink sink' → ⊥
+    by : ReadAnd (Told program) status.Usage so.read so.written (HasEnded source.left source'.left) sink sink' → ⊥
     by (inl (ended, short, told)) = no_verdict told.1
     by (inr (nothing, row)) = row
 

@@ -18,7 +18,7 @@ use Rattle.kernel_steps.specs.declared.stop.Stop.TheVariants as stop
 use Rattle.kernel_top.specs.Reading.{HasEnded, IsAll, IsGivenUp}
 use Rattle.kernel_top.specs.Sessions.{longest_session}
 use Rattle.kernel_top.specs.Unseen.{IsWhole}
-use Rattle.kernel_top.specs.Replaying.{Followed, IsUnwritten, IsUnread, ReplayedOn, Replayed, SourceReplayed}
+use Rattle.kernel_top.specs.Replaying.{Followed, IsUnwritten, IsUnread, ReplayedOn, Replayed, SourceSettled, HasNoSession}
 use Rattle.kernel_top.specs.Outcomes.{status_of}
 use Rattle.kernel_top.specs.declared.reading.Refused.{Refused}
 use Rattle.kernel_top.specs.declared.reading.Refused.TheVariants as refused
@@ -91,24 +91,33 @@ replayed_bytes program script status.JournalFull read journal at written before 
 replayed_bytes program script status.SessionFull read journal at written before now to is so = absurd so
 
 -- THE SOURCE
-pub source_replayed : (program : Script → Program) (answer : Status) (bytes written : List ℕ) (source source' : SourceState) (sink sink' : SinkState) →
-    IsAll longest_session bytes source source' → Appends sink.held sink'.held written → Replayed program answer bytes written sink sink' → SourceReplayed program answer source source' sink sink'
-source_replayed program answer bytes written source source' sink sink' all put so = record {
-  read = bytes;
-  written = written;
-  taken = all.taken;
-  few = omega (arith, all.short);
-  put = put;
-  so = inl (all.ended, all.short, so);
-}
+module _ (So : Status → (read written : List ℕ) → (before now : SinkState) → Type 0) (answer : Status) (source source' : SourceState) where
+  pub source_settled : (bytes written : List ℕ) (sink sink' : SinkState) → IsAll longest_session bytes source source' → Appends sink.held sink'.held written → So answer bytes written sink sink' → SourceSettled So answer source source' sink sink'
+  source_settled bytes written sink sink' all put so = record {
+    read = bytes;
+    written = written;
+    taken = all.taken;
+    few = omega (arith, all.short);
+    put = put;
+    so = inl (all.ended, all.short, so);
+  }
 
-pub source_unread : (program : Script → Program) (answer : Status) (why : Refused) (source source' : SourceState) (sink : SinkState) → IsGivenUp longest_session why source source' → Appends sink.held sink.held [] →
-    ((bytes : List ℕ) → (why ≡ refused.TooLong → longest_session < length bytes) → IsUnread answer bytes) → SourceReplayed program answer source source' sink sink
-source_unread program answer why source source' sink given_up nothing row = record {
-  read = given_up.bytes;
-  written = [];
-  taken = given_up.taken;
-  few = given_up.few;
-  put = nothing;
-  so = inr ((refl, refl), row given_up.bytes given_up.long);
-}
+  pub source_unread : (sink : SinkState) → HasNoSession answer source source' → Appends sink.held sink.held [] → SourceSettled So answer source source' sink sink
+  source_unread sink none nothing = record {
+    read = none.read;
+    written = [];
+    taken = none.taken;
+    few = none.few;
+    put = nothing;
+    so = inr ((refl, refl), none.unread);
+  }
+
+-- why they weren't had, as a status
+pub no_session : (answer : Status) (why : Refused) (source source' : SourceState) → IsGivenUp longest_session why source source' → ((bytes : List ℕ) → (why ≡ refused.TooLong → longest_session < length bytes) → IsUnread answer bytes) → HasNoSession answer source source'
+no_session answer why source source' given_up row = record { read = given_up.bytes; taken = given_up.taken; few = given_up.few; unread = row given_up.bytes given_up.long }
+
+pub unread_no_fault : (answer : Status) (read : List ℕ) → IsUnread answer read → answer ≡ status.WriteFault → ⊥
+unread_no_fault answer read so e = by (subst (λ a. IsUnread a read) e so)
+  where
+    by : IsUnread status.WriteFault read → ⊥
+    by never = never

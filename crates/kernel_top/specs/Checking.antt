@@ -59,17 +59,3 @@ abbrev pub Told : (Script → Program) → Status → (read written : List ℕ) 
 Told program status.Done read written before now = Checked program status.Done read × (written ≡ yes) × (length yes ≤ before.room → now.faults ≡ before.faults)
 Told program status.WriteFault read written before now = Checked program status.Done read × IsPrefixOf written yes × (before.room < length yes)
 Told program answer read written before now = IsUnwritten written before now × Checked program answer read
-
--- what became of the bytes read from a source, which has ended or was given up
-abbrev pub ReadAndChecked : (Script → Program) → Status → (read written : List ℕ) → (Ended : Type 0) → (before now : SinkState) → Type 0
-ReadAndChecked program answer read written Ended before now =
-    (Ended × (length read ≤ longest_session) × Told program answer read written before now) ⊎ (IsUnwritten written before now × IsUnread answer read)
-
--- what the check of a transcript that a source holds came to
-pub record SourceChecked (program : Script → Program) (answer : Status) (source source' : SourceState) (sink sink' : SinkState) : Type 0 where
-  pub read : List ℕ
-  pub written : List ℕ
-  pub taken : Consumes source.left source'.left read
-  pub few : length read ≤ longest_session + 1
-  pub put : Appends sink.held sink'.held written
-  pub so : ReadAndChecked program answer read written (HasEnded source.left source'.left) sink sink'

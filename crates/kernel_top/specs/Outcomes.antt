@@ -18,8 +18,8 @@ use Rattle.kernel_top.specs.SessionWords.{Wanted, IsSession}
 use Rattle.kernel_top.specs.Reading.{HasEnded}
 use Rattle.kernel_top.specs.Drills.{SumsUp, BreaksOff}
 use Rattle.kernel_top.specs.Sessions.{longest_session, Records, BreaksOffUnseen}
-use Rattle.kernel_top.specs.Replaying.{ReadAndReplayed}
-use Rattle.kernel_top.specs.Checking.{ReadAndChecked}
+use Rattle.kernel_top.specs.Replaying.{ReadAnd, Replayed}
+use Rattle.kernel_top.specs.Checking.{Told}
 use Rattle.kernel_top.specs.Viewing.{Viewed}
 use Rattle.kernel_top.specs.Gathering.{script_wanted, program_wanted, Gathers, Lined}
 use Rattle.kernel_top.specs.declared.status.Status.{Status}
@@ -94,12 +94,12 @@ OnRecord program answer read written exchanges before now =
 -- the word `replay`: the host is asked nothing
 abbrev pub OnReplay : (Script → Program) → Status → (read written : List ℕ) → List Exchange → (before now : Seen) → Type 0
 OnReplay program answer read written exchanges before now =
-    (exchanges ≡ []) × (now.host ≡ before.host) × ReadAndReplayed program answer read written (HasEnded before.source.left now.source.left) before.sink now.sink
+    (exchanges ≡ []) × (now.host ≡ before.host) × ReadAnd (Replayed program) answer read written (HasEnded before.source.left now.source.left) before.sink now.sink
 
 -- the word `check`: the host is asked nothing
 abbrev pub OnCheck : (Script → Program) → Status → (read written : List ℕ) → List Exchange → (before now : Seen) → Type 0
 OnCheck program answer read written exchanges before now =
-    (exchanges ≡ []) × (now.host ≡ before.host) × ReadAndChecked program answer read written (HasEnded before.source.left now.source.left) before.sink now.sink
+    (exchanges ≡ []) × (now.host ≡ before.host) × ReadAnd (Told program) answer read written (HasEnded before.source.left now.source.left) before.sink now.sink
 
 -- the word `view`
 abbrev pub OnView : (Script → Program) → Status → (read written : List ℕ) → List Exchange → (before now : Seen) → Type 0

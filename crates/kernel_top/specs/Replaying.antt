@@ -81,19 +81,27 @@ IsUnread status.NoMemory read = Unit {0}
 IsUnread (status.Journal line) read = (line ≡ 0) × (longest_session < length read)
 IsUnread _ read = ⊥
 
--- what became of the bytes read from a source, which has ended or was given up
-abbrev pub ReadAndReplayed : (Script → Program) → Status → (read written : List ℕ) → (Ended : Type 0) → (before now : SinkState) → Type 0
-ReadAndReplayed program answer read written Ended before now =
-    (Ended × (length read ≤ longest_session) × Replayed program answer read written before now) ⊎ (IsUnwritten written before now × IsUnread answer read)
+-- SOURCES
+-- what became of the bytes read from a source, which has ended or was given up: this is so of them, or they weren't had
+abbrev pub ReadAnd : (So : Status → (read written : List ℕ) → (before now : SinkState) → Type 0) → Status → (read written : List ℕ) → (Ended : Type 0) → (before now : SinkState) → Type 0
+ReadAnd So answer read written Ended before now =
+    (Ended × (length read ≤ longest_session) × So answer read written before now) ⊎ (IsUnwritten written before now × IsUnread answer read)
 
--- what a replay of the session that a source holds came to
-pub record SourceReplayed (program : Script → Program) (answer : Status) (source source' : SourceState) (sink sink' : SinkState) : Type 0 where
+-- what the session or the transcript that a source holds came to
+pub record SourceSettled (So : Status → (read written : List ℕ) → (before now : SinkState) → Type 0) (answer : Status) (source source' : SourceState) (sink sink' : SinkState) : Type 0 where
   pub read : List ℕ
   pub written : List ℕ
   pub taken : Consumes source.left source'.left read
   pub few : length read ≤ longest_session + 1
   pub put : Appends sink.held sink'.held written
-  pub so : ReadAndReplayed program answer read written (HasEnded source.left source'.left) sink sink'
+  pub so : ReadAnd So answer read written (HasEnded source.left source'.left) sink sink'
+
+-- bytes were read that aren't those of a session or a transcript, or not all of them
+pub record HasNoSession (answer : Status) (source source' : SourceState) : Type 0 where
+  pub read : List ℕ
+  pub taken : Consumes source.left source'.left read
+  pub few : length read ≤ longest_session + 1
+  pub unread : IsUnread answer read
 
 -- how the first run over a journal ended, whose lines are thrown away
 abbrev pub Followed : Result (Unit {0}) Status → Program → Script → (journal : List Exchange) → Type 0

@@ -7,15 +7,16 @@ ghost use Rattle.ek_call.specs.Meaning.{script_of};
 ghost use Rattle.host_link.specs.Meaning.{exchanges_of};
 ghost use Rattle.kernel_state.specs.Whole.{program_with};
 ghost use Rattle.kernel_top.specs.Sessions.{longest_session};
-ghost use Rattle.kernel_top.specs.Checking.{Judged, Checked, Told, SourceChecked};
+ghost use Rattle.kernel_top.specs.Checking.{Judged, Checked, Told};
+ghost use Rattle.kernel_top.specs.Replaying.{SourceSettled};
 
-use crate::reading::{Refused, read_all};
+use crate::reading::read_session;
 use crate::status::{Status, written_status};
 use ek_call::Script;
 use ek_types::{Sink, Source, write_all};
 use handler_code::Natives;
 use host_link::Exchanges;
-use journal_text::{JournalFault, LONGEST_SESSION, Transcript, read_transcript};
+use journal_text::{JournalFault, Transcript, read_transcript};
 use script_read::{ScriptFault, read};
 use std::alloc::Global;
 use trace_check::{Verdict, check};
@@ -91,7 +92,7 @@ pub(crate) fn check_source<S: Source, K: Sink, N: Natives>(
     sink: &mut K,
     natives: &N,
 ) -> Status
-    ensures outcome { SourceChecked (λ script. program_with N.names N.does script natives.now) result
+    ensures outcome { SourceSettled (Told (λ script. program_with N.names N.does script natives.now)) result
         (S.state source.old) (S.state source.new) (K.state sink.old) (K.state sink.new) }
     ensures read_fault { HasCause (S.state source.old).faults (S.state source.new).faults
         (result ≡ Status.ReadFault) }
@@ -100,10 +101,8 @@ pub(crate) fn check_source<S: Source, K: Sink, N: Natives>(
     ensures unfailing { IsTrue (S.state source.old).unfailing →
         (S.state source.new).faults ≡ (S.state source.old).faults }
 {
-    match read_all(alloc, source, LONGEST_SESSION) {
+    match read_session(alloc, source) {
         Ok(bytes) => answer_bytes(alloc, bytes.as_slice(), sink, natives),
-        Err(Refused::Failed) => Status::ReadFault,
-        Err(Refused::TooLong) => Status::Journal(0),
-        Err(Refused::NoMemory) => Status::NoMemory,
+        Err(status) => status,
     }
 }

@@ -2,8 +2,12 @@
 ghost use Rattle.std.specs.Prelude.{◌≡◌, ◌<◌, ◌^◌, IfOk, IfErr, IsTrue, Err};
 ghost use Rattle.ek_types.specs.Io.{HasCause};
 ghost use Rattle.kernel_top.specs.Reading.{IsAll, IsGivenUp};
+ghost use Rattle.kernel_top.specs.Replaying.{HasNoSession};
+ghost use Rattle.kernel_top.specs.Sessions.{longest_session};
 
+use crate::status::Status;
 use ek_types::{Source, Took};
+use journal_text::LONGEST_SESSION;
 use std::alloc::{AllocError, Global};
 
 /// Why the bytes of a source weren't had.
@@ -54,4 +58,21 @@ pub(crate) fn read_all<S: Source>(
         }
     }
     Err(Refused::TooLong)
+}
+
+/// All the bytes of a session or a transcript, which has at most 268,435,456; or the status where they weren't had.
+pub(crate) fn read_session<S: Source>(alloc: Global, source: &mut S) -> Result<Vec<u8>, Status>
+    ensures all { IfOk result (λ all. IsAll longest_session all.items (S.state source.old) (S.state source.new)) }
+    ensures none { IfErr result (λ status. HasNoSession status (S.state source.old) (S.state source.new)) }
+    ensures cause { HasCause (S.state source.old).faults (S.state source.new).faults
+        (result ≡ Err Status.ReadFault) }
+    ensures unfailing { IsTrue (S.state source.old).unfailing →
+        (S.state source.new).faults ≡ (S.state source.old).faults }
+{
+    match read_all(alloc, source, LONGEST_SESSION) {
+        Ok(bytes) => Ok(bytes),
+        Err(Refused::Failed) => Err(Status::ReadFault),
+        Err(Refused::TooLong) => Err(Status::Journal(0)),
+        Err(Refused::NoMemory) => Err(Status::NoMemory),
+    }
 }

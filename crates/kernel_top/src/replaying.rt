@@ -10,16 +10,16 @@ ghost use Rattle.journal_text.specs.Replayed.{new_replay};
 ghost use Rattle.kernel_state.specs.Whole.{program_with};
 ghost use Rattle.kernel_top.specs.Sessions.{longest_session};
 ghost use Rattle.kernel_top.specs.Unseen.{IsWhole};
-ghost use Rattle.kernel_top.specs.Replaying.{Followed, ReplayedOn, Replayed, SourceReplayed};
+ghost use Rattle.kernel_top.specs.Replaying.{Followed, ReplayedOn, Replayed, SourceSettled};
 
-use crate::reading::{Refused, read_all};
+use crate::reading::read_session;
 use crate::status::{Status, status_of};
 use crate::unseen::run_unseen;
 use ek_call::Script;
 use ek_types::{Sink, Source};
 use handler_code::Natives;
 use host_link::Exchanges;
-use journal_text::{JournalFault, LONGEST_SESSION, Replay, read_journal};
+use journal_text::{JournalFault, Replay, read_journal};
 use kernel_run::Kernel;
 use script_read::{ScriptFault, read};
 use std::alloc::Global;
@@ -145,7 +145,7 @@ pub(crate) fn replay_source<S: Source, K: Sink, N: Natives>(
     sink: &mut K,
     natives: &N,
 ) -> Status
-    ensures outcome { SourceReplayed (λ script. program_with N.names N.does script natives.now) result
+    ensures outcome { SourceSettled (Replayed (λ script. program_with N.names N.does script natives.now)) result
         (S.state source.old) (S.state source.new) (K.state sink.old) (K.state sink.new) }
     ensures read_fault { HasCause (S.state source.old).faults (S.state source.new).faults
         (result ≡ Status.ReadFault) }
@@ -154,10 +154,8 @@ pub(crate) fn replay_source<S: Source, K: Sink, N: Natives>(
     ensures unfailing { IsTrue (S.state source.old).unfailing →
         (S.state source.new).faults ≡ (S.state source.old).faults }
 {
-    match read_all(alloc, source, LONGEST_SESSION) {
+    match read_session(alloc, source) {
         Ok(bytes) => replay_bytes(alloc, bytes.as_slice(), sink, natives),
-        Err(Refused::Failed) => Status::ReadFault,
-        Err(Refused::TooLong) => Status::Journal(0),
-        Err(Refused::NoMemory) => Status::NoMemory,
+        Err(status) => status,
     }
 }
