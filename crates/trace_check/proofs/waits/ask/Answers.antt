@@ -91,8 +91,8 @@ returns-in_ok-hear-in-Answer g c = λ program.
     let heard : Hears known known2 w target c.args.p x.answer rest left = subst (λ a. Hears known known2 w target c.args.p a rest left) (sym answer) c.in_ok-hear-in-Answer.ensures in
     comes_heard program next known (Wait w target ∷ rest) (asked_about k.drained k.child) (Unit {0}) known2 left go asks x is same (goes_heard program known w target rest c.args.p c.requires.ahead known2 left k x.answer made heard)
 
-pub hear-requires : goal.hear-requires
-hear-requires g c =
+pub hear-requires-clause-allowed : goal.hear-requires-clause-allowed
+hear-requires-clause-allowed g c =
     let known = g.M.Kernel.state c.args.kernel.now in
     let k = c.get-process.result.now in
     let made : slice_get known.processes c.args.p ≡ Some k = subst (λ l. slice_get l c.args.p ≡ Some k) c.processes.ensures c.get-process.ensures in
