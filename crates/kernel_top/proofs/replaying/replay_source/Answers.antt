@@ -24,7 +24,7 @@ returns-in-Ok-clause-read_fault g c =
 
 pub returns-clause-outcome : goal.returns-clause-outcome
 returns-clause-outcome g c =
-    source_unread (Replayed (λ script. program_with g.N.Natives.names g.N.Natives.does script c.args.natives.now)) c.in-Err.status (g.S.Source.state c.args.source.now) (g.S.Source.state c.read_session.new.source) (g.K.Sink.state c.args.sink.now) c.in-Err.ensures.none (Appends-nil _)
+    source_unread (Replayed (λ script. program_with g.N.Natives.names g.N.Natives.does script c.args.natives.now)) c.in-Err.answer (g.S.Source.state c.args.source.now) (g.S.Source.state c.read_session.new.source) (g.K.Sink.state c.args.sink.now) c.in-Err.ensures.none (Appends-nil _)
 
 pub returns-clause-read_fault : goal.returns-clause-read_fault
 returns-clause-read_fault g c = record { later = c.in-Err.ensures.cause.later; rose = λ e. c.in-Err.ensures.cause.rose (ap Err e) }
@@ -32,5 +32,5 @@ returns-clause-read_fault g c = record { later = c.in-Err.ensures.cause.later; r
 pub returns-clause-write_fault : goal.returns-clause-write_fault
 returns-clause-write_fault g c = record {
   later = omega arith;
-  rose = λ e. absurd (unread_no_fault c.in-Err.status c.in-Err.ensures.none.read c.in-Err.ensures.none.unread e);
+  rose = λ e. absurd (unread_no_fault c.in-Err.answer c.in-Err.ensures.none.read c.in-Err.ensures.none.unread e);
 }
