@@ -55,7 +55,7 @@ const FORMS: [&str; 48] = [
     "(accept-process-output)",
     "(accept-process-output p)",
     "(accept-process-output q 1)",
-    "(accept-process-output r 0 nil t)",
+    "(accept-process-output r 0 t)",
     "(process-send-string p \"in\")",
     "(process-send-eof p)",
     "(delete-process q)",
