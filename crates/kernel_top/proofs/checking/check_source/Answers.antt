@@ -23,15 +23,13 @@ returns-in-Ok-clause-read_fault g c =
     let (written, put, so) = c.answer_bytes.ensures.written in
     record { later = c.read_session.ensures.cause.later; rose = λ e. absurd (told_no_fault (λ script. program_with g.N.Natives.names g.N.Natives.does script c.args.natives.now) c.answer_bytes.result c.as_slice.result.now written (g.K.Sink.state c.args.sink.now) (g.K.Sink.state c.answer_bytes.new.sink) so e) }
 
-pub returns-clause-outcome : goal.returns-clause-outcome
-returns-clause-outcome g c =
-    source_unread (Told (λ script. program_with g.N.Natives.names g.N.Natives.does script c.args.natives.now)) c.in-Err.answer (g.S.Source.state c.args.source.now) (g.S.Source.state c.read_session.new.source) (g.K.Sink.state c.args.sink.now) c.in-Err.ensures.none (Appends-nil _)
-
-pub returns-clause-read_fault : goal.returns-clause-read_fault
-returns-clause-read_fault g c = record { later = c.in-Err.ensures.cause.later; rose = λ e. c.in-Err.ensures.cause.rose (ap Err e) }
-
-pub returns-clause-write_fault : goal.returns-clause-write_fault
-returns-clause-write_fault g c = record {
-  later = omega arith;
-  rose = λ e. absurd (unread_no_fault c.in-Err.answer c.in-Err.ensures.none.read c.in-Err.ensures.none.unread e);
+pub returns : goal.returns
+returns g c = record {
+  outcome = source_unread (Told (λ script. program_with g.N.Natives.names g.N.Natives.does script c.args.natives.now)) c.in-Err.answer (g.S.Source.state c.args.source.now) (g.S.Source.state c.read_session.new.source) (g.K.Sink.state c.args.sink.now) c.in-Err.ensures.none (Appends-nil _);
+  read_fault = record { later = c.in-Err.ensures.cause.later; rose = λ e. c.in-Err.ensures.cause.rose (ap Err e) };
+  write_fault = record {
+    later = omega arith;
+    rose = λ e. absurd (unread_no_fault c.in-Err.answer c.in-Err.ensures.none.read c.in-Err.ensures.none.unread e);
+  };
+  unfailing = c.in-Err.ensures.unfailing;
 }
