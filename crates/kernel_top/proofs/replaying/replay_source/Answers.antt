@@ -1,10 +1,9 @@
-use Rattle.std.proofs.Common.{Err, ap, sym, subst, arith}
-use Rattle.std.proofs.KnownBytes.{Appends-nil}
+use Rattle.std.proofs.Common.{sym, subst}
 use Rattle.kernel_state.specs.Whole.{program_with}
 use Rattle.kernel_top.specs.Reading.{IsAll}
 use Rattle.kernel_top.specs.Sessions.{longest_session}
 use Rattle.kernel_top.specs.Replaying.{Replayed}
-use Rattle.kernel_top.proofs.Replays.{source_settled, source_unread, unread_no_fault, no_read_fault}
+use Rattle.kernel_top.proofs.Replays.{source_settled, no_read_fault}
 use Rattle.kernel_top.proofs.replaying.replay_source.Goals as goal
 
 pub replay_bytes-requires : goal.replay_bytes-requires
@@ -21,14 +20,3 @@ pub returns-in-Ok-clause-read_fault : goal.returns-in-Ok-clause-read_fault
 returns-in-Ok-clause-read_fault g c =
     let (written, put, so) = c.replay_bytes.ensures.written in
     record { later = c.read_session.ensures.cause.later; rose = λ e. absurd (no_read_fault (λ script. program_with g.N.Natives.names g.N.Natives.does script c.args.natives.now) c.replay_bytes.result c.as_slice.result.now written (g.K.Sink.state c.args.sink.now) (g.K.Sink.state c.replay_bytes.new.sink) so e) }
-
-pub returns : goal.returns
-returns g c = record {
-  outcome = source_unread (Replayed (λ script. program_with g.N.Natives.names g.N.Natives.does script c.args.natives.now)) c.in-Err.answer (g.S.Source.state c.args.source.now) (g.S.Source.state c.read_session.new.source) (g.K.Sink.state c.args.sink.now) c.in-Err.ensures.none (Appends-nil _);
-  read_fault = record { later = c.in-Err.ensures.cause.later; rose = λ e. c.in-Err.ensures.cause.rose (ap Err e) };
-  write_fault = record {
-    later = omega arith;
-    rose = λ e. absurd (unread_no_fault c.in-Err.answer c.in-Err.ensures.none.read c.in-Err.ensures.none.unread e);
-  };
-  unfailing = c.in-Err.ensures.unfailing;
-}
