@@ -2,7 +2,7 @@
 # The processor time in which a journal of COUNT reads of 4,096 bytes is read, and written to a sink that counts, in
 # microseconds and megabytes a second. Then a script whose child writes 16 MiB, run, recorded, replayed from its session, and
 # checked: the lines of the run are claimed of the journal. Each has its processor time and its peak of memory. Then the same
-# of a script of 80,000 short calls, which asks nothing. A check should take less than three times as long as a replay.
+# of a script of 48,000 short calls, which asks nothing. A check should take less than three times as long as a replay.
 #
 #     bench/journal.sh [COUNT ..]        (2048 4096 8192 if none is given)
 #     PROGRAM=FILE bench/journal.sh      (what `rt run` leaves in crates/kernel_cli/out if none is given)
@@ -121,8 +121,8 @@ if [ -x "$program" ]; then
         done
     } > "$work/reads"
     words "16 MiB read" "$work/reads"
-    for _ in $(seq 20000); do
+    for _ in $(seq 12000); do
         echo '(insert "a")(goto-char 1)(put-text-property 1 2 (quote k) 3)(point)'
     done | sed "s/(quote k)/'k/" > "$work/calls"
-    words "80,000 calls" "$work/calls"
+    words "48,000 calls" "$work/calls"
 fi
