@@ -14,8 +14,6 @@ mod item;
 mod machine;
 mod processes;
 mod replies;
-#[cfg(test)]
-mod tests;
 mod turn;
 mod waiting;
 mod waits;
