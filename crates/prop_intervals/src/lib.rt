@@ -16,4 +16,5 @@ mod tree;
 pub use edit::PropEdit;
 pub use laws::same_sets_have_the_same_pairs;
 pub use lent::{Parted, Runs};
+pub use pieces::{length_of, run_end_in};
 pub use props::Props;

@@ -1,9 +1,10 @@
-//! The runs of a piece.
-ghost use Rattle.std.specs.Prelude.{◌≡◌, ◌+◌, ◌-◌, ◌<◌, ◌≤◌, IfOk, length, replicate, take, ◌++◌};
-ghost use Rattle.std.specs.Prelude.{◌^◌, true, slice_get, Some};
+//! The runs of pieces.
+ghost use Rattle.std.specs.Prelude.{◌≡◌, ◌+◌, ◌-◌, ◌<◌, ◌≤◌, ◌^◌, IfOk, length, replicate, take, ◌++◌};
+ghost use Rattle.std.specs.Prelude.{true, slice_get, Some, None, IfSome};
+ghost use Rattle.std.specs.List.{concat};
 ghost use Rattle.text_model.specs.Properties.{PropSet as Pairs};
 ghost use Rattle.prop_intervals.specs.Runs.{size, sets_of, AreApart};
-ghost use Rattle.prop_intervals.specs.Sets.{sets_in};
+ghost use Rattle.prop_intervals.specs.Sets.{sets_in, run_end};
 
 use crate::balance::join;
 use crate::cut::glue;
@@ -11,34 +12,60 @@ use crate::tree::{Tree, alone};
 use ek_types::{Mem, Piece, PropSet};
 use std::alloc::Global;
 
-/// Whether all characters have one set.
-pub(crate) fn is_all(piece: &Piece, set: &PropSet) -> bool
+/// Whether all characters of a piece have one set.
+fn is_all(piece: &Piece, set: &PropSet) -> bool
     ensures { result ≡ true → sets_in piece.now ≡ replicate (length piece.now) set.now }
 {
-    for i in 0..piece.len() {
+    let mut i = 0;
+    while i < piece.len() {
         if !set.same(piece.props(i)) {
+            return false;
+        }
+        i = piece.run_end(i);
+    }
+    true
+}
+
+/// Whether all characters of some pieces have one set.
+pub(crate) fn are_all(pieces: &[Piece], set: &PropSet) -> bool
+    ensures { result ≡ true → sets_in (concat pieces.now) ≡
+        replicate (length (concat pieces.now)) set.now }
+{
+    for piece in pieces {
+        if !is_all(piece, set) {
             return false;
         }
     }
     true
 }
 
-/// The first place behind another whose set differs from that there, or the end.
-fn end_of_run(piece: &Piece, i: usize) -> usize
+/// How many characters some pieces have together, unless that is more than can be counted.
+pub fn length_of(pieces: &[Piece]) -> Option<usize>
+    ensures some { IfSome result (λ n. n ≡ length (concat pieces.now)) }
+    ensures none { result ≡ None → usize.MAX < length (concat pieces.now) }
+{
+    let mut total = 0usize;
+    for piece in pieces {
+        total = total.checked_add(piece.len())?;
+    }
+    Some(total)
+}
+
+/// The first place of a piece behind another whose set differs from that there, or the length.
+pub fn run_end_in(piece: &Piece, i: usize) -> usize
     requires { i < length piece.now }
+    ensures exact { result ≡ run_end i (sets_in piece.now) }
     ensures behind { i < result }
     ensures within { result ≤ length piece.now }
     ensures all { (set : Pairs) → slice_get (sets_in piece.now) i ≡ Some set →
         take result (sets_in piece.now) ≡ take i (sets_in piece.now) ++ replicate (result - i) set }
 {
-    let n = piece.len();
     let set = piece.props(i);
-    for j in i + 1..n {
-        if !set.same(piece.props(j)) {
-            return j;
-        }
+    let mut end = piece.run_end(i);
+    while end < piece.len() && set.same(piece.props(end)) {
+        end = piece.run_end(end);
     }
-    n
+    end
 }
 
 /// A tree with a run behind it.
@@ -53,18 +80,33 @@ pub(crate) fn pushed(alloc: Global, tree: Tree, set: PropSet, len: usize) -> Mem
     Ok(glue(tree, join(Tree::new(), node, Tree::new())))
 }
 
-/// The runs of a piece.
-pub(crate) fn runs_of(alloc: Global, piece: &Piece) -> Mem<Tree>
-    ensures sets { IfOk result (λ t. sets_of t ≡ sets_in piece.now) }
+/// A tree with the runs of a piece behind it.
+fn with_piece(alloc: Global, tree: Tree, piece: &Piece) -> Mem<Tree>
+    requires apart { AreApart tree }
+    requires fits { size tree + length piece.now < 2 ^ 64 }
+    ensures sets { IfOk result (λ t. sets_of t ≡ sets_of tree ++ sets_in piece.now) }
     ensures apart { IfOk result AreApart }
 {
-    let mut tree = Tree::new();
+    let mut tree = tree;
     let mut i = 0;
     while i < piece.len() {
-        let end = end_of_run(piece, i);
+        let end = run_end_in(piece, i);
         let set = piece.props(i).copy()?;
         tree = pushed(alloc, tree, set, end - i)?;
         i = end;
+    }
+    Ok(tree)
+}
+
+/// The runs of some pieces, one behind the other.
+pub(crate) fn runs_of(alloc: Global, pieces: &[Piece]) -> Mem<Tree>
+    requires fits { length (concat pieces.now) < 2 ^ 64 }
+    ensures sets { IfOk result (λ t. sets_of t ≡ sets_in (concat pieces.now)) }
+    ensures apart { IfOk result AreApart }
+{
+    let mut tree = Tree::new();
+    for piece in pieces {
+        tree = with_piece(alloc, tree, piece)?;
     }
     Ok(tree)
 }

@@ -2,6 +2,7 @@
 ghost use Rattle.std.specs.Prelude.{ℕ, ◌≡◌, ◌≢◌, ◌↔◌, ◌+◌, ◌-◌, ◌<◌, ◌≤◌, [], ◌++◌, IfOk, OnOk};
 ghost use Rattle.std.specs.Prelude.{OnErr, MatchBool, false, length, map, take, drop, slice_get};
 ghost use Rattle.std.specs.Prelude.{Some, option_map, not};
+ghost use Rattle.std.specs.List.{concat};
 ghost use Rattle.text_model.specs.Properties.{edited, same_list, same_set};
 ghost use Rattle.text_model.specs.Ordered.{IsProper};
 ghost use Rattle.text_model.specs.PropertyQuestions.{next_change, previous_change};
@@ -13,11 +14,11 @@ ghost use Rattle.prop_intervals.specs.Sets.{sets_in, run_end, changes_of};
 use crate::change::edited_runs;
 use crate::edit::PropEdit;
 use crate::lent::Runs;
-use crate::pieces::{is_all, runs_of};
+use crate::pieces::{are_all, length_of, runs_of};
 use crate::questions;
 use crate::splice::replace;
 use crate::tree::Tree;
-use ek_types::{Mem, Piece, PropSet, Sym};
+use ek_types::{Mem, NoMemory, Piece, PropSet, Sym};
 use std::alloc::Global;
 use std::marker::Model;
 
@@ -97,30 +98,34 @@ impl Props {
         })
     }
 
-    /// The sets of the characters from one place to another replaced by those of a piece. Want of memory leaves all
-    /// as it was.
-    pub fn splice(&mut self, from: usize, to: usize, with: &Piece) -> Mem<()>
+    /// The sets of the characters from one place to another replaced by those of some pieces, one behind the other. Want
+    /// of memory leaves all as it was.
+    pub fn splice(&mut self, from: usize, to: usize, with: &[Piece]) -> Mem<()>
         requires order { from ≤ to }
         requires within { to ≤ length self.old }
         ensures ok { OnOk result (self.new ≡ take from self.old ++
-            (sets_in with.now ++ drop to self.old)) }
+            (sets_in (concat with.now) ++ drop to self.old)) }
         ensures err { OnErr result (self.new ≡ self.old) }
     {
-        if from == to && self.grow(from, with) {
+        let Some(n) = length_of(with) else {
+            return Err(NoMemory);
+        };
+        if from == to && self.grow(from, with, n) {
             return Ok(());
         }
-        if with.is_empty() && self.shrink(from, to) {
+        if n == 0 && self.shrink(from, to) {
             return Ok(());
         }
         self.put(from, to, with)
     }
 
-    /// The same for any piece.
-    fn put(&mut self, from: usize, to: usize, with: &Piece) -> Mem<()>
+    /// The same for any pieces.
+    fn put(&mut self, from: usize, to: usize, with: &[Piece]) -> Mem<()>
         requires order { from ≤ to }
         requires within { to ≤ length self.old }
+        requires fits { length (concat with.now) ≤ usize.MAX }
         ensures ok { OnOk result (self.new ≡ take from self.old ++
-            (sets_in with.now ++ drop to self.old)) }
+            (sets_in (concat with.now) ++ drop to self.old)) }
         ensures err { OnErr result (self.new ≡ self.old) }
     {
         let middle = runs_of(self.alloc, with)?;
@@ -166,22 +171,22 @@ impl Props {
         questions::previous_change(&self.tree, i, name)
     }
 
-    /// Puts a piece in by making a run longer, if all its characters have the set of a run that is there.
-    fn grow(&mut self, at: usize, with: &Piece) -> bool
-        requires { at ≤ length self.old }
+    /// Puts `n` characters in by making a run longer, if all of them have the set of a run that is there.
+    fn grow(&mut self, at: usize, with: &[Piece], n: usize) -> bool
+        requires place { at ≤ length self.old }
+        requires count { n ≡ length (concat with.now) }
         ensures { MatchBool result (self.new ≡ take at self.old ++
-            (sets_in with.now ++ drop at self.old)) (self.new ≡ self.old) }
+            (sets_in (concat with.now) ++ drop at self.old)) (self.new ≡ self.old) }
     {
-        let n = with.len();
         let size = self.tree.len();
         if n > usize::MAX - size {
             return false;
         }
-        if at < size && is_all(with, self.tree.find(at).set) {
+        if at < size && are_all(with, self.tree.find(at).set) {
             self.tree.grow(at, n);
             return true;
         }
-        if at > 0 && is_all(with, self.tree.find(at - 1).set) {
+        if at > 0 && are_all(with, self.tree.find(at - 1).set) {
             self.tree.grow(at - 1, n);
             return true;
         }
