@@ -69,7 +69,7 @@ fn put_in_run(piece: &mut Piece, i: usize, end: usize, set: &PropSet) -> Mem<()>
     requires run { (i < end) × (end ≤ length piece.old) }
     requires one { (j : ℕ) → i ≤ j → j < end → option_map (λ c. c.1) (slice_get piece.old j) ≡
         option_map (λ c. c.1) (slice_get piece.old i) }
-    ensures ok { OnOk result (piece.new ≡ with_sets i end (edited (Replace set.now)) piece.old) }
+    ensures { OnOk result (piece.new ≡ with_sets i end (edited (Replace set.now)) piece.old) }
 {
     if set.same(piece.props(i)) {
         return Ok(());
