@@ -1,5 +1,5 @@
 -- A run is passed in steps.
-use Rattle.std.proofs.Common.{◌≡◌, ℕ, zero, suc, ◌+◌, ◌-◌, ◌<◌, ◌≤◌, Bool, true, false, List, [], ◌∷◌, ◌++◌, length, take, drop, map, refl, sym, ap, ◌∙◌, arith}
+use Rattle.std.proofs.Common.{◌≡◌, ℕ, zero, suc, ◌+◌, ◌-◌, ◌<◌, ◌≤◌, Bool, true, false, List, [], ◌∷◌, ◌++◌, length, take, drop, map, ap, ◌∙◌, subst, arith}
 use Rattle.std.specs.Prelude.{not, slice_get, Option, Some, option_map, unwrap_or, replicate}
 use Rattle.std.proofs.lemmas.List.{drop_all}
 use Rattle.std.proofs.lemmas.Option.{slice_get-map}
@@ -7,6 +7,7 @@ use Rattle.text_model.specs.Properties.{PropSet, Cell, same_set}
 use Rattle.text_model.specs.PropertyQuestions.{first_where}
 use Rattle.text_model.proofs.Lists.{drop_at}
 use Rattle.prop_intervals.specs.Sets.{run_end, other_from}
+use Rattle.prop_intervals.proofs.SetLemmas.{run_more}
 
 -- the first place whose set differs, by the first set
 abbrev first_by : Bool → (place : ℕ) → Option ℕ → Option ℕ
@@ -45,3 +46,26 @@ pub passed_to : (cells : List Cell) (set here : PropSet) (n place from to : ℕ)
 passed_to cells set here n place from to same found behind order equal =
     let e : from + (to - from) ≡ to = omega arith in
     stepped (map set_of cells) set n (to - from) from (λ j a b. (here, slice_get-map set_of cells j ∙ equal j (omega arith) (omega arith) ∙ found, same)) ∙ ap (λ k. other_from set k (drop k (map set_of cells)) n) e
+
+-- the characters up to a place have one set from another place on
+abbrev pub OneSet : (sets : List PropSet) (i j : ℕ) (set : PropSet) → Type 0
+OneSet sets i j set = take j sets ≡ take i sets ++ replicate (j - i) set
+
+-- and so up to a later place, as the sets between are the same
+pub one_set_on : (cells : List Cell) (set here : PropSet) (i steps from : ℕ) → i ≤ from → same_set set here ≡ true
+    → ((j : ℕ) → from ≤ j → j < from + steps → option_map set_of (slice_get cells j) ≡ Some here)
+    → OneSet (map set_of cells) i from set → OneSet (map set_of cells) i (from + steps) set
+one_set_on cells set here i zero from order same all h = let e : from ≡ from + 0 = omega arith in subst (λ k. OneSet (map set_of cells) i k set) e h
+one_set_on cells set here i (suc steps) from order same all h =
+    let found = slice_get-map set_of cells from ∙ all from (omega arith) (omega arith) in
+    let e : from + 1 + steps ≡ from + suc steps = omega arith in
+    subst (λ k. OneSet (map set_of cells) i k set) e
+    (one_set_on cells set here i steps (from + 1) (omega arith) same (λ j a b. all j (omega arith) (omega arith)) (run_more set here (map set_of cells) i from order found same h))
+
+pub one_set_to : (cells : List Cell) (set here : PropSet) (i place from to : ℕ) → i ≤ from → same_set set here ≡ true → option_map set_of (slice_get cells place) ≡ Some here → place ≤ from → from ≤ to
+    → ((j : ℕ) → place ≤ j → j < to → option_map set_of (slice_get cells j) ≡ option_map set_of (slice_get cells place))
+    → OneSet (map set_of cells) i from set → OneSet (map set_of cells) i to set
+one_set_to cells set here i place from to order same found behind ahead equal h =
+    let e : from + (to - from) ≡ to = omega arith in
+    subst (λ k. OneSet (map set_of cells) i k set) e
+    (one_set_on cells set here i (to - from) from order same (λ j a b. equal j (omega arith) (omega arith) ∙ found) h)
