@@ -1,6 +1,6 @@
 -- Pieces put into a text one after the other.
-use Rattle.std.proofs.Common.{◌≡◌, ℕ, zero, suc, false, ◌+◌, ◌≤◌, List, [], ◌∷◌, ◌++◌, length, take, drop, refl, sym, ap, ◌∙◌, arith, length-append, append_assoc}
-use Rattle.std.specs.Prelude.{slice_get, Some, ◌==◌}
+use Rattle.std.proofs.Common.{◌≡◌, ℕ, ◌+◌, ◌≤◌, List, [], ◌∷◌, ◌++◌, length, take, drop, refl, sym, ap, ◌∙◌, arith, length-append, append_assoc}
+use Rattle.std.specs.Prelude.{slice_get, Some}
 use Rattle.std.proofs.lemmas.List.{length-take-le, map-append}
 use Rattle.text_model.specs.Properties.{Cell}
 use Rattle.prop_intervals.specs.Sets.{together}
@@ -23,7 +23,3 @@ put_behind at place old front more now within is_now is_place =
 
 pub letters_more : (pieces : List (List Cell)) (i : ℕ) (piece : List Cell) → slice_get pieces i ≡ Some piece → letters (together (take (i + 1) pieces)) ≡ letters (together (take i pieces)) ++ letters piece
 letters_more pieces i piece h = ap letters (together_more pieces i piece h) ∙ map-append (λ (c : Cell). c.0) (together (take i pieces)) piece
-
-pub not_zero : (n : ℕ) → 1 ≤ n → false ≡ (n == 0)
-not_zero zero h = absurd (omega (arith, h))
-not_zero (suc n) h = refl
