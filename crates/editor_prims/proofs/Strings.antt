@@ -10,6 +10,10 @@ use Rattle.editor_model.specs.Values.{Value, Nil, Fault}
 use Rattle.editor_model.specs.Answers as answers
 use Rattle.editor_model.specs.Answers.{Test, first_fault}
 use Rattle.editor_model.specs.Arguments.{must_be_string, string_of}
+use Rattle.ek_call.specs.Meaning.{view}
+use Rattle.ek_call.specs.declared.value.Value.{fold-roll-Value}
+use Rattle.ek_call.specs.declared.value.Value.TheOpen.{Value-F}
+use Rattle.ek_call.specs.declared.value.Value.TheVariants as value
 use Rattle.editor_model.specs.TextCalls.{joined, with_inherited, insertion}
 use Rattle.prop_intervals.specs.Sets.{together}
 
@@ -32,14 +36,18 @@ alone_contents set [] piece v one at is = absurd (omega (arith, one))
 alone_contents set (w ∷ []) piece v one at is = is ∙ ap (λ x. with_inherited set (string_of x)) (sym (same_Some w v at)) ∙ ap (with_inherited set) (sym (append-nil (string_of w)))
 alone_contents set (w ∷ x ∷ args) piece v one at is = absurd (omega (arith, one))
 
-pub nothing_inserted : (id at : ℕ) (text : List Cell) (all : Bool) → (length text == 0) ≡ true → answers.Nothing Nil ≡ insertion id at text all
-nothing_inserted id at [] all h = refl
+-- INSERTIONS
+nil_is : view value.Nil ≡ Nil
+nil_is = ap view (sym value.rolls-Nil) ∙ fold-roll-Value _ _ Value-F.Nil
+
+pub nothing_inserted : (id at : ℕ) (text : List Cell) (all : Bool) → (length text == 0) ≡ true → answers.Nothing (view value.Nil) ≡ insertion id at text all
+nothing_inserted id at [] all h = ap answers.Nothing nil_is
 nothing_inserted id at (c ∷ text) all h = cc
 
 pub something_inserted : (id at : ℕ) (text : List Cell) (all : Bool) → (length text == 0) ≡ false
-    → answers.Changes (record { buffer = id; from = at; to = at; what = answers.Put text all true false None; reply = Nil }) ≡ insertion id at text all
+    → answers.Changes (record { buffer = id; from = at; to = at; what = answers.Put text all true false None; reply = view value.Nil }) ≡ insertion id at text all
 something_inserted id at [] all h = cc
-something_inserted id at (c ∷ text) all h = refl
+something_inserted id at (c ∷ text) all h = ap (λ (v : Value). answers.Changes (record { buffer = id; from = at; to = at; what = answers.Put (c ∷ text) all true false None; reply = v })) nil_is
 
 -- TESTS
 pub string_met : (args : List Value) (i : ℕ) (v : Value) (whole : Option Fault) → slice_get args i ≡ Some v → None ≡ must_be_string v → first_fault (map must_be_string (drop i args)) ≡ whole → first_fault (map must_be_string (drop (i + 1) args)) ≡ whole

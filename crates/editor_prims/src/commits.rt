@@ -327,6 +327,7 @@ pub fn commit_at(editor: &mut Editor, change: &Change, from: usize, to: usize) -
                 point_after: *point_after,
                 widen: *widen,
             };
+            let pieces = pieces.as_slice();
             committed(commit_put(editor, id, from, to, pieces, manner, *mark))
         }
         What::Props(edit) => committed(commit_props(editor, id, from, to, edit)),

@@ -34,7 +34,7 @@ pub(crate) fn reply(answer: Result<Value, Failure>) -> Mem<Reply>
 
 /// What a call that changes a text comes to before anything is changed.
 pub(crate) fn prepared(call: Result<Prepared, Failure>) -> Mem<Prepared>
-    ensures { (meant : answers.Prepared) → Prepares call meant →
+    ensures ok { (meant : answers.Prepared) → Prepares call meant →
         IfOk result (λ p. prepared_of p ≡ meant) }
     ensures memory { OnErr result (call ≡ Err failure.NoMemory) }
 {
