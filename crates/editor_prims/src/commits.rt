@@ -82,7 +82,8 @@ fn put_behind(
     requires range { to ≤ length (buffer_at (editor_of editor.old) id).text }
     requires one { (from ≡ to) ⊎ (together pieces.now ≡ []) }
     ensures ok { OnOk result (editor_of editor.new ≡
-        change_site id (put_site id from to (together pieces.now) all true false) (editor_of editor.old)) }
+        change_site id (put_site id from to (together pieces.now) all true false)
+        (editor_of editor.old)) }
     ensures err { OnErr result (editor_of editor.new ≡ editor_of editor.old) }
 {
     let Some(behind) = place_behind(from, pieces) else {
@@ -108,7 +109,8 @@ fn put_around(
     requires range { to ≤ length (buffer_at (editor_of editor.old) id).text }
     requires one { (from ≡ to) ⊎ (together pieces.now ≡ []) }
     ensures ok { OnOk result (editor_of editor.new ≡
-        change_site id (put_site id from to (together pieces.now) all false false) (editor_of editor.old)) }
+        change_site id (put_site id from to (together pieces.now) all false false)
+        (editor_of editor.old)) }
     ensures err { OnErr result (editor_of editor.new ≡ editor_of editor.old) }
 {
     editor.replace(id, from, to, pieces, all)
@@ -158,8 +160,8 @@ fn put(
     requires range { to ≤ length (buffer_at (editor_of editor.old) id).text }
     requires one { (from ≡ to) ⊎ (together pieces.now ≡ []) }
     ensures ok { OnOk result (editor_of editor.new ≡
-        change_site id (put_site id from to (together pieces.now) manner.all manner.point_after manner.widen)
-        (editor_of editor.old)) }
+        change_site id (put_site id from to (together pieces.now) manner.all manner.point_after
+        manner.widen) (editor_of editor.old)) }
     ensures err { OnErr result (editor_of editor.new ≡ editor_of editor.old) }
 {
     if manner.widen {
