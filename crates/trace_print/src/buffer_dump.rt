@@ -12,7 +12,7 @@ use crate::names::Names;
 use crate::number::position;
 use crate::runs::{Sets, has_properties};
 use crate::string::lent_runs;
-use crate::text::{Characters, characters, quoted};
+use crate::text::{Characters, quoted, unquoted};
 use buffer_table::BufferText;
 use ek_types::{Ch, PropSet, Sink, Symbols};
 use sink_printer::Printer;
@@ -103,11 +103,16 @@ fn whole_text<K: Sink>(out: &mut Printer<'_, K>, text: &BufferText<'_>, symbols:
 }
 
 /// Writes both lines of a live buffer.
-fn buffer_lines<K: Sink>(out: &mut Printer<'_, K>, text: &BufferText<'_>, current: bool, symbols: &Symbols)
+fn buffer_lines<K: Sink>(
+    out: &mut Printer<'_, K>,
+    text: &BufferText<'_>,
+    current: bool,
+    symbols: &Symbols,
+)
     ensures { Prints K.state out.old out.new (buffer_lines symbols.now current text.now) }
 {
     out.put(b"buffer ");
-    characters(out, text.name());
+    unquoted(out, text.name());
     out.put(b" point ");
     position(out, text.point());
     out.put(b" min ");

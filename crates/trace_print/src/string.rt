@@ -43,7 +43,12 @@ fn runs<K: Sink, T: Sets>(out: &mut Printer<'_, K>, text: &T, symbols: &Symbols)
 }
 
 /// Writes runs that are lent, the first of which begins at a place. None is looked for: each is met where it is kept.
-pub(crate) fn lent_runs<K: Sink>(out: &mut Printer<'_, K>, runs: &Runs<'_>, start: usize, symbols: &Symbols)
+pub(crate) fn lent_runs<K: Sink>(
+    out: &mut Printer<'_, K>,
+    runs: &Runs<'_>,
+    start: usize,
+    symbols: &Symbols,
+)
     requires { start + size runs.now < 2 ^ 64 }
     ensures { Prints K.state out.old out.new
         (led (run_words symbols.now (placed start runs.now))) }
@@ -58,7 +63,11 @@ pub(crate) fn lent_runs<K: Sink>(out: &mut Printer<'_, K>, runs: &Runs<'_>, star
     lent_runs(out, &parted.behind, to, symbols);
 }
 
-pub(crate) fn string<K: Sink, T: Characters + Sets>(out: &mut Printer<'_, K>, text: &T, symbols: &Symbols)
+pub(crate) fn string<K: Sink, T: Characters + Sets>(
+    out: &mut Printer<'_, K>,
+    text: &T,
+    symbols: &Symbols,
+)
     ensures { Prints K.state out.old out.new
         (string_words symbols.now (T.chars text.now) (T.sets text.now)) }
 {

@@ -167,7 +167,7 @@ fn some_characters<K: Sink, T: Characters>(out: &mut Printer<'_, K>, text: &T, i
 }
 
 /// Writes what stands for the characters of a text.
-pub(crate) fn characters<K: Sink, T: Characters>(out: &mut Printer<'_, K>, text: &T)
+pub(crate) fn unquoted<K: Sink, T: Characters>(out: &mut Printer<'_, K>, text: &T)
     ensures { Prints K.state out.old out.new (flat_map shown_ch (T.chars text.now)) }
 {
     let mut i = 0;
@@ -181,6 +181,6 @@ pub(crate) fn quoted<K: Sink, T: Characters>(out: &mut Printer<'_, K>, text: &T)
     ensures { Prints K.state out.old out.new (quoted (T.chars text.now)) }
 {
     out.put_byte(b'"');
-    characters(out, text);
+    unquoted(out, text);
     out.put_byte(b'"');
 }

@@ -6,7 +6,7 @@ use Rattle.trace_print.proofs.buffer_dump.buffer_lines.Goals as goal
 
 pub returns : goal.returns
 returns g c =
-    let name = prints_same (ap shown_name c.name.ensures) c.characters.ensures in
+    let name = prints_same (ap shown_name c.name.ensures) c.unquoted.ensures in
     let point = prints_same (ap (λ n. decimal (n + 1)) c.point.ensures) c.position.ensures in
     let begin = prints_same (ap (λ n. decimal (n + 1)) c.begin.ensures) c.position-2.ensures in
     let end = prints_same (ap (λ n. decimal (n + 1)) c.end.ensures) c.position-3.ensures in

@@ -1,7 +1,7 @@
 use Rattle.std.proofs.Common.{◌≤◌, ◌-◌, length, take, flat_map}
 use Rattle.plain_machine.specs.Lines.{shown_ch}
 use Rattle.sink_printer.specs.Printing.{Prints}
-use Rattle.trace_print.proofs.text.characters.Given as goal
+use Rattle.trace_print.proofs.text.unquoted.Given as goal
 
 abbrev pub invariant-loop-i : goal.invariant-loop-i
 invariant-loop-i g l = record {

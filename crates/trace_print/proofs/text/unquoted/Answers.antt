@@ -2,7 +2,7 @@ use Rattle.std.proofs.Common.{arith}
 use Rattle.plain_machine.specs.Lines.{shown_ch}
 use Rattle.sink_printer.proofs.Printing.{prints_then, prints_same, prints_nothing}
 use Rattle.trace_print.proofs.Gathering.{some_on, all_of}
-use Rattle.trace_print.proofs.text.characters.Goals as goal
+use Rattle.trace_print.proofs.text.unquoted.Goals as goal
 
 pub loop-i-init : goal.loop-i-init
 loop-i-init g c = record { within = omega arith; prints = prints_nothing }
