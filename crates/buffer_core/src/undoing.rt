@@ -24,8 +24,7 @@ use machine_laws::undoing_keeps_boundaries;
 use narrow_region::Bounds;
 use prop_intervals::PropEdit;
 use std::alloc::Global;
-use std::mem;
-use std::slice;
+use std::{mem, slice};
 use text_pool::Pool;
 use undo_list::{Plan, Rec, Undo};
 

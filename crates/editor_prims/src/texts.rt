@@ -389,12 +389,7 @@ pub(crate) fn insert_buffer_substring(
     must_have_room(editor, editor.current(), (to - from) as u128)?;
     let piece = part(editor, source, from, to)?;
     let point = editor.bounds(editor.current()).point;
-    Ok(insertion(
-        editor.current(),
-        point,
-        Pieces::One(piece),
-        false,
-    ))
+    Ok(insertion(editor.current(), point, Pieces::One(piece), false))
 }
 
 /// The place of a mark in a buffer; one that isn't there counts as the end of the accessible portion.

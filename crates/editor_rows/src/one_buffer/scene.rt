@@ -85,15 +85,9 @@ impl Scene {
         let _bounds = self.buffer.bounds();
         let size = self.buffer.text().len();
         assert!(rt; from <= to && to <= size);
-        let done = self.buffer.replace(
-            0,
-            from,
-            to,
-            &[],
-            false,
-            &mut self.marks,
-            &mut self.pool,
-        );
+        let done = self
+            .buffer
+            .replace(0, from, to, &[], false, &mut self.marks, &mut self.pool);
         assert!(rt; done.is_ok());
     }
 
