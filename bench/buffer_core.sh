@@ -18,7 +18,7 @@ use bench_clock::used;
 use buffer_table::Editor;
 use ek_types::{Ch, Chars, Mem, Piece, PropSet, PropVal, Sym};
 use std::alloc::Global;
-use std::{env, io};
+use std::{env, io, slice};
 
 const BASE: usize = 8_192;
 
@@ -45,17 +45,15 @@ fn put(editor: &mut Editor, at: usize, piece: &Piece) -> bool {
     if !editor.is_live(0) || at > size {
         return false;
     }
-    editor.replace(0, at, at, piece, false).is_ok()
+    editor.replace(0, at, at, slice::from_ref(piece), false).is_ok()
 }
 
 fn take(editor: &mut Editor, at: usize) -> bool {
-    let alloc = editor.allocator();
-    let nothing = Piece::plain(alloc, Chars::new(alloc));
     let size = editor.size(0);
     if !editor.is_live(0) || at >= size {
         return false;
     }
-    editor.replace(0, at, at + 1, &nothing, false).is_ok()
+    editor.replace(0, at, at + 1, &[], false).is_ok()
 }
 
 /// One marker, where there is room.

@@ -19,7 +19,7 @@ use bench_clock::used;
 use ek_types::{Ch, Chars, Mem, Piece, PropSet, PropVal, Sym};
 use prop_intervals::Props;
 use std::alloc::Global;
-use std::{env, io};
+use std::{env, io, slice};
 
 const FACE: Sym = Sym(20);
 
@@ -47,7 +47,7 @@ fn own_faces(alloc: Global, runs: usize) -> Mem<Props>
         text.put(i, i + 1, &face)?;
     }
     let mut props = Props::new(alloc);
-    props.splice(0, 0, &text)?;
+    props.splice(0, 0, slice::from_ref(&text))?;
     Ok(props)
 }
 
@@ -68,7 +68,7 @@ fn put_in_front(props: &mut Props, x: &Piece, size: usize, asked: usize) -> Mem<
     requires fits { size < 2 ^ 40 }
     ensures { IfOk result (λ _. length props.new ≡ size + 1) }
 {
-    props.splice(0, 0, x)?;
+    props.splice(0, 0, slice::from_ref(x))?;
     Ok(face_of(props.at(size + 1 - asked)))
 }
 

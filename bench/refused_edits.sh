@@ -25,6 +25,7 @@ use narrow_region::Saved;
 use prop_intervals::PropEdit;
 use std::alloc::Global;
 use std::io::{self, Read, Write};
+use std::slice;
 use std::test::Fail;
 use undo_list::Rec;
 
@@ -195,7 +196,6 @@ fn sum(editor: &Editor) -> u64 {
 #[derive(Drop)]
 struct Given {
     styled: Piece,
-    nothing: Piece,
     add: PropEdit,
     remove: PropEdit,
     replace: PropEdit,
@@ -223,7 +223,6 @@ fn given(alloc: Global) -> Mem<Given> {
     gone.push(Sym(3))?;
     Ok(Given {
         styled,
-        nothing: Piece::plain(alloc, Chars::new(alloc)),
         add: PropEdit::Add(two.copy()?, names),
         remove: PropEdit::Remove(gone),
         replace: PropEdit::Replace(one),
@@ -242,13 +241,13 @@ fn undo(editor: &mut Editor, groups: u32) -> Mem<()> {
 
 fn step(editor: &mut Editor, given: &Given, i: usize) -> Mem<()> {
     match i {
-        0 => editor.replace(0, 0, 0, &given.styled, false),
+        0 => editor.replace(0, 0, 0, slice::from_ref(&given.styled), false),
         1 | 2 => editor.make_marker().map(|_| ()),
         3 => editor.make_overlay(0, 30, 45, false, true).map(|_| ()),
         4 => editor.put_overlay(0, Sym(2), Some(&PropVal::Truth)),
         5 => editor.undo_boundary(0),
-        6 => editor.replace(0, 150, 150, &given.styled, true),
-        7 => editor.replace(0, 5, 200, &given.nothing, false),
+        6 => editor.replace(0, 150, 150, slice::from_ref(&given.styled), true),
+        7 => editor.replace(0, 5, 200, &[], false),
         8 => editor.reprop(0, 10, 160, &given.add).map(|_| ()),
         9 => editor.reprop(0, 0, 50, &given.remove).map(|_| ()),
         10 => editor.reprop(0, 100, 120, &given.replace).map(|_| ()),
@@ -259,7 +258,7 @@ fn step(editor: &mut Editor, given: &Given, i: usize) -> Mem<()> {
         16 => editor.make(&given.first).map(|_| ()),
         17 => editor.rename(1, &given.second),
         18 => editor.set_register(FACE, Value::Str(given.styled.copy()?)),
-        19 => editor.replace(1, 0, 0, &given.styled, false),
+        19 => editor.replace(1, 0, 0, slice::from_ref(&given.styled), false),
         20 => editor.move_overlay(0, 1, 2, 5),
         21 => editor.push_saved(Saved::Excursion(1, 30)),
         22 => editor.kill(1),

@@ -20,7 +20,7 @@ use ek_types::{Ch, Chars, Mem, Piece, PropSet, PropVal, Sink, Sym, Symbols, Wrot
 use process_table::Processes;
 use bench_clock::used;
 use std::alloc::Global;
-use std::{env, io};
+use std::{env, io, slice};
 use trace_print::{Names, dump, reply};
 
 /// Counts what is written, and keeps nothing.
@@ -64,7 +64,7 @@ fn fill(editor: &mut Editor, alloc: Global, face: Sym, characters: usize) -> Mem
     for _ in 0..characters / 1024 {
         let end = editor.size(0);
         if editor.is_live(0) {
-            editor.replace(0, end, end, &piece, false)?;
+            editor.replace(0, end, end, slice::from_ref(&piece), false)?;
         }
     }
     Ok(())

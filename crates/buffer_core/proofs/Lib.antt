@@ -6,6 +6,7 @@ pub mod Runs
 pub mod BlockLemmas
 pub mod Sites
 pub mod Sizes
+pub mod Putting
 pub mod Moves
 pub mod NameLemmas
 pub mod Stretches

@@ -15,4 +15,5 @@ mod undoing;
 
 pub use buffer::Buffer;
 pub use marks::Marks;
+pub use pieces::are_empty;
 pub use same::same_text;

@@ -1,11 +1,22 @@
 //! Pieces of a text.
 ghost use Rattle.std.specs.Prelude.{◌≡◌, ◌+◌, ◌-◌, ◌≤◌, [], true, length, take, drop};
-ghost use Rattle.std.specs.Prelude.{replicate, IfOk};
+ghost use Rattle.std.specs.Prelude.{replicate, IfOk, ◌==◌};
 ghost use Rattle.std.specs.List.{zip};
+ghost use Rattle.prop_intervals.specs.Sets.{together};
 
 use ek_types::{Chars, Mem, Piece};
-use prop_intervals::Props;
+use prop_intervals::{Props, length_of};
 use std::alloc::Global;
+
+/// Whether pieces have no characters.
+pub fn are_empty(pieces: &[Piece]) -> bool
+    ensures { result ≡ (length (together pieces.now) == 0) }
+{
+    match length_of(pieces) {
+        Some(n) => n == 0,
+        None => false,
+    }
+}
 
 /// Whether the characters from one place to another stand in one run with no properties.
 fn is_plain(props: &Props, from: usize, to: usize) -> bool

@@ -1,25 +1,30 @@
 //! Changes of a buffer's text.
 ghost use Rattle.std.specs.Prelude.{◌≡◌, ◌⊎◌, ◌+◌, ◌<◌, ◌≤◌, true, false, [], length, map, All};
-ghost use Rattle.std.specs.Prelude.{IfOk, OnOk, OnErr};
+ghost use Rattle.std.specs.Prelude.{◌++◌, take, drop, IfOk, OnOk, OnErr};
 ghost use Rattle.text_model.specs.Places.{after_insert};
 ghost use Rattle.text_model.specs.Undo.{Undo, pushed_all};
 ghost use Rattle.text_model.specs.Commit.{inserted, deleted, replaced, deletion_records};
-ghost use Rattle.gap_text.specs.Text.{LiesIn};
+ghost use Rattle.gap_text.specs.Text.{LiesIn, characters};
+ghost use Rattle.gap_text.specs.Blocks.{ChangesCellsOf};
+ghost use Rattle.prop_intervals.specs.Sets.{together};
 ghost use Rattle.buffer_core.specs.Blocks.{ChangesBlocks};
 ghost use Rattle.text_model.specs.Ordered.{AreOrdered};
 ghost use Rattle.machine_laws.specs.Boundaries.{KeepsBoundaries};
 ghost use Rattle.machine_laws.specs.Good.{Good};
 ghost use Rattle.undo_list.specs.Records.{rec_of};
-ghost use Rattle.buffer_core.specs.Meaning.{buffer_of, site_of, CanBeUndone};
+ghost use Rattle.buffer_core.specs.Meaning.{buffer_of, site_of, letters, CanBeUndone};
 ghost use Rattle.buffer_core.specs.Recording.{with_text};
 ghost use Rattle.buffer_core.specs.Standing.{AreWithin};
 
 use crate::buffer::Buffer;
 use crate::marks::Marks;
+use crate::pieces::are_empty;
 use crate::recording::{Deletion, push_deletion, push_first, push_reserved, records_before};
-use ek_types::{Chars, Mem, Piece, place_after_insert};
+use ek_types::{Mem, NoMemory, Piece, place_after_insert};
+use gap_text::Text;
 use machine_laws::replacing_keeps_boundaries;
 use narrow_region::Bounds;
+use prop_intervals::length_of;
 use text_pool::Pool;
 use undo_list::Rec;
 
@@ -37,14 +42,34 @@ fn bounds_after_insert(bounds: Bounds, at: usize, n: usize, advances: bool) -> B
     }
 }
 
+/// Puts the characters of some pieces in before character `at`, or behind all. The gap is behind the piece put in last,
+/// where the next one goes, so that each costs its own characters alone. It takes no memory.
+fn put_characters(text: &mut Text, pool: &mut Pool, at: usize, pieces: &[Piece])
+    requires lies { LiesIn pool.old text.old }
+    requires place { at ≤ length (characters pool.old text.old) }
+    requires room { length (together pieces.now) ≤ text.old.spare }
+    ensures lies { LiesIn pool.new text.new }
+    ensures characters { let old = characters pool.old text.old in characters pool.new text.new ≡
+        take at old ++ (letters (together pieces.now) ++ drop at old) }
+    ensures spare { text.new.spare + length (together pieces.now) ≡ text.old.spare }
+    ensures blocks { text.new.blocks ≡ text.old.blocks }
+    ensures pool { ChangesCellsOf text.old.blocks pool.old pool.new }
+{
+    let behind = text.len() - at;
+    for piece in pieces {
+        let place = text.len() - behind;
+        text.insert(pool, place, piece.text());
+    }
+}
+
 impl Buffer {
-    /// Puts a piece in before character `at`, or behind all. `all` markers and overlays there advance; point there does
+    /// Puts pieces in before character `at`, or behind all, one behind the other. `all` markers and overlays there advance; point there does
     /// where it `advances`. A refusal leaves all as it was, but for spare room.
     pub(crate) fn insert(
         &mut self,
         id: u32,
         at: usize,
-        piece: &Piece,
+        pieces: &[Piece],
         all: bool,
         advances: bool,
         marks: &mut Marks,
@@ -55,18 +80,19 @@ impl Buffer {
         requires marks { AreWithin id (length self.old.sets) marks.old }
         ensures lies { LiesIn pool.new self.new.text }
         ensures ok { OnOk result (site_of pool.new self.new marks.new ≡
-            inserted id at piece.now all advances (site_of pool.old self.old marks.old)) }
+            inserted id at (together pieces.now) all advances (site_of pool.old self.old marks.old)) }
         ensures err { OnErr result (site_of pool.new self.new marks.new ≡
             site_of pool.old self.old marks.old) }
         ensures marks { AreWithin id (length self.new.sets) marks.new }
         ensures blocks { ChangesBlocks self.old.text.blocks self.new.text.blocks pool.old pool.new }
     {
-        let text = piece.text();
-        let n = text.len();
+        let Some(n) = length_of(pieces) else {
+            return Err(NoMemory);
+        };
         self.text.reserve(pool, n)?;
         self.undo.reserve(2)?;
-        self.props.splice(at, at, piece)?;
-        self.text.insert(pool, at, text);
+        self.props.splice(at, at, pieces)?;
+        put_characters(&mut self.text, pool, at, pieces);
         // Read for what it ensures: all characters can be counted.
         let _size = self.text.len();
         self.bounds = bounds_after_insert(self.bounds, at, n, advances);
@@ -132,9 +158,8 @@ impl Buffer {
         ensures blocks { ChangesBlocks self.old.text.blocks self.new.text.blocks pool.old pool.new }
     {
         let deletion = self.deletion(id, from, to, marks, pool)?;
-        let nothing = Piece::plain(self.alloc, Chars::new(self.alloc));
         self.undo.reserve(deletion.before.len() + 2)?;
-        self.props.splice(from, to, &nothing)?;
+        self.props.splice(from, to, &[])?;
         self.text.delete(pool, from, to);
         self.bounds.note_delete(from, to);
         push_first(&mut self.undo, self.modified);
@@ -144,7 +169,7 @@ impl Buffer {
         Ok(())
     }
 
-    /// Takes the part from `from` to before `to` out, or puts a piece in there: only one of the two can be something. `all`
+    /// Takes the part from `from` to before `to` out, or puts pieces in there: only one of the two can be something. `all`
     /// markers and overlays at the place of an insertion advance, and point there does. The pending records are dropped where
     /// something changes. A refusal leaves all as it was, but for spare room.
     ///
@@ -154,7 +179,7 @@ impl Buffer {
         id: u32,
         from: usize,
         to: usize,
-        with: &Piece,
+        with: &[Piece],
         all: bool,
         marks: &mut Marks,
         pool: &mut Pool,
@@ -162,16 +187,16 @@ impl Buffer {
         requires lies { LiesIn pool.old self.old.text }
         requires order { from ≤ to }
         requires range { to ≤ length self.old.sets }
-        requires one { (from ≡ to) ⊎ (with.now ≡ []) }
+        requires one { (from ≡ to) ⊎ (together with.now ≡ []) }
         requires marks { AreWithin id (length self.old.sets) marks.old }
         ensures lies { LiesIn pool.new self.new.text }
         ensures ok { OnOk result (site_of pool.new self.new marks.new ≡
-            replaced id from to with.now all (site_of pool.old self.old marks.old)) }
+            replaced id from to (together with.now) all (site_of pool.old self.old marks.old)) }
         ensures err { OnErr result (site_of pool.new self.new marks.new ≡
             site_of pool.old self.old marks.old) }
         ensures marks { AreWithin id (length self.new.sets) marks.new }
         ensures blocks { ChangesBlocks self.old.text.blocks self.new.text.blocks pool.old pool.new }
-        ensures undo { AreOrdered with.now → Good (buffer_of pool.old self.old) →
+        ensures undo { AreOrdered (together with.now) → Good (buffer_of pool.old self.old) →
             OnOk result (KeepsBoundaries (buffer_of pool.old self.old)
             (buffer_of pool.new self.new)) }
     {
@@ -187,7 +212,7 @@ impl Buffer {
         id: u32,
         from: usize,
         to: usize,
-        with: &Piece,
+        with: &[Piece],
         all: bool,
         marks: &mut Marks,
         pool: &mut Pool,
@@ -195,11 +220,11 @@ impl Buffer {
         requires lies { LiesIn pool.old self.old.text }
         requires order { from ≤ to }
         requires range { to ≤ length self.old.sets }
-        requires one { (from ≡ to) ⊎ (with.now ≡ []) }
+        requires one { (from ≡ to) ⊎ (together with.now ≡ []) }
         requires marks { AreWithin id (length self.old.sets) marks.old }
         ensures lies { LiesIn pool.new self.new.text }
         ensures ok { OnOk result (site_of pool.new self.new marks.new ≡
-            replaced id from to with.now all (site_of pool.old self.old marks.old)) }
+            replaced id from to (together with.now) all (site_of pool.old self.old marks.old)) }
         ensures err { OnErr result (site_of pool.new self.new marks.new ≡
             site_of pool.old self.old marks.old) }
         ensures marks { AreWithin id (length self.new.sets) marks.new }
@@ -208,7 +233,7 @@ impl Buffer {
         if from < to {
             self.delete(id, from, to, marks, pool)?;
             self.undo.drop_pending();
-        } else if !with.is_empty() {
+        } else if !are_empty(with) {
             self.insert(id, from, with, all, true, marks, pool)?;
             self.undo.drop_pending();
         }

@@ -24,7 +24,7 @@ use machine_laws::undoing_keeps_boundaries;
 use narrow_region::Bounds;
 use prop_intervals::PropEdit;
 use std::alloc::Global;
-use std::mem;
+use std::{mem, slice};
 use text_pool::Pool;
 use undo_list::{Plan, Rec, Undo};
 
@@ -139,7 +139,7 @@ impl Buffer {
     {
         let moves = standing_moves(self.alloc, records, i, end, &marks.markers, id, place)?;
         self.set_point(place);
-        self.insert(id, place, piece, false, false, marks, pool)?;
+        self.insert(id, place, slice::from_ref(piece), false, false, marks, pool)?;
         let size = self.text.len();
         take_all_back(&mut marks.markers, &moves, id, size);
         Ok(())

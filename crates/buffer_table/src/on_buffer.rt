@@ -9,6 +9,7 @@ ghost use Rattle.editor_model.specs.TextCalls.{widened};
 ghost use Rattle.editor_model.specs.Editor.{is_live, buffer_at, change_site, change_buffer};
 ghost use Rattle.ek_types.specs.Seen.{ch_of};
 ghost use Rattle.prop_intervals.specs.Edits.{edit_of};
+ghost use Rattle.prop_intervals.specs.Sets.{together};
 ghost use Rattle.narrow_region.specs.Positions.{place_of};
 ghost use Rattle.undo_list.specs.Plans.{planned};
 ghost use Rattle.buffer_core.specs.Changes.{is_some_record};
@@ -47,15 +48,15 @@ impl Editor {
         }
     }
 
-    /// Takes the part from `from` to before `to` out, or puts a piece in there: only one of the two can be something. `all`
+    /// Takes the part from `from` to before `to` out, or puts pieces in there: only one of the two can be something. `all`
     /// markers and overlays at the place of an insertion advance. A refusal leaves the editor as it was.
-    pub fn replace(&mut self, id: u32, from: usize, to: usize, with: &Piece, all: bool) -> Mem<()>
+    pub fn replace(&mut self, id: u32, from: usize, to: usize, with: &[Piece], all: bool) -> Mem<()>
         requires live { is_live (editor_of self.old) id ≡ true }
         requires order { from ≤ to }
         requires range { to ≤ length (buffer_at (editor_of self.old) id).text }
-        requires one { (from ≡ to) ⊎ (with.now ≡ []) }
+        requires one { (from ≡ to) ⊎ (together with.now ≡ []) }
         ensures ok { OnOk result (editor_of self.new ≡
-            change_site id (replaced id from to with.now all) (editor_of self.old)) }
+            change_site id (replaced id from to (together with.now) all) (editor_of self.old)) }
         ensures err { OnErr result (editor_of self.new ≡ editor_of self.old) }
     {
         match &mut self.buffers[id as usize] {

@@ -47,9 +47,17 @@ pub run_size : (set : PropSet) (orig new : List Cell) (end : ℕ) → end ≤ le
 run_size set orig new end l h =
     ap length h ∙ length-append (map (over set) (take end orig)) (drop end orig) ∙ (omega (arith, length-map (take end orig) (over set), length-take end orig, length-drop end orig))
 
--- no properties beneath characters that have none change nothing
-pub untouched : (cells : List Cell) → ((j : ℕ) → j < length cells → option_map (λ c. c.1) (slice_get cells j) ≡ Some []) → cells ≡ with_inherited [] cells
-untouched [] h = refl
-untouched (x ∷ cells) h =
-    let own : x.1 ≡ [] = same_Some x.1 [] (h 0 (omega arith)) in
-    ap (λ t. (x.0, t) ∷ cells) (own ∙ ap (put_all []) (sym own)) ∙ ap (λ q. over [] x ∷ q) (untouched cells (λ j b. h (suc j) (omega arith)))
+-- characters that have a set already, given it
+pub run_kept : (all s : PropSet) (cells : List Cell) (i end : ℕ) → s ≡ all → ((j : ℕ) → i ≤ j → j < end → option_map (λ c. c.1) (slice_get cells j) ≡ Some s) → i < end → end ≤ length cells
+    → cells ≡ splice i end (map (given all) (part i end cells)) cells
+run_kept all s [] i end e h l m = absurd (omega (arith, l, m))
+run_kept all s (x ∷ cells) zero zero e h l m = absurd (omega (arith, l))
+run_kept all s (x ∷ cells) zero (suc end) e h l m = own_set (x ∷ cells) (suc end) (λ j b. h j (omega arith) b) (omega (arith, m))
+  where
+    own_set : (xs : List Cell) (n : ℕ) → ((j : ℕ) → j < n → option_map (λ c. c.1) (slice_get xs j) ≡ Some s) → n ≤ length xs → xs ≡ map (given all) (take n xs) ++ drop n xs
+    own_set xs zero k b = refl
+    own_set [] (suc n) k b = absurd (omega (arith, b))
+    own_set (y ∷ xs) (suc n) k b =
+        ap (λ t. (y.0, t) ∷ xs) (same_Some y.1 s (k 0 (omega arith)) ∙ e) ∙ ap (λ q. given all y ∷ q) (own_set xs n (λ j c. k (suc j) (omega (arith, c))) (omega (arith, b)))
+run_kept all s (x ∷ cells) (suc i) zero e h l m = absurd (omega (arith, l))
+run_kept all s (x ∷ cells) (suc i) (suc end) e h l m = ap (λ q. x ∷ q) (run_kept all s cells i end e (λ j a b. h (suc j) (omega (arith, a)) (omega (arith, b))) (omega (arith, l)) (omega (arith, m)))

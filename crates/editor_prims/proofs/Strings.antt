@@ -1,22 +1,45 @@
--- Strings that are joined, one behind the other.
-use Rattle.std.proofs.Common.{◌≡◌, ℕ, ◌+◌, ◌≤◌, List, [], ◌∷◌, ◌++◌, length, map, drop, sym, ap, ◌∙◌, append_assoc, append-nil, arith, refl}
-use Rattle.std.specs.Prelude.{slice_get, Option, Some, None}
-use Rattle.std.proofs.lemmas.List.{drop_all, length-append}
+-- The contents of strings, one behind the other.
+use Rattle.std.proofs.Common.{◌≡◌, ℕ, Bool, true, false, ◌+◌, ◌≤◌, List, [], ◌∷◌, ◌++◌, length, map, drop, sym, ap, ◌∙◌, append_assoc, append-nil, arith, refl}
+use Rattle.std.specs.Prelude.{slice_get, Option, Some, None, ◌==◌}
+use Rattle.std.proofs.lemmas.List.{drop_all, length-append, map-append}
+use Rattle.std.proofs.lemmas.Option.{same_Some}
+use Rattle.std.proofs.lemmas.Grind.{flat_map-append}
 use Rattle.text_model.proofs.Lists.{drop_at}
-use Rattle.text_model.specs.Properties.{Cell}
-use Rattle.editor_model.specs.Values.{Value, Fault}
+use Rattle.text_model.specs.Properties.{Cell, PropSet, put_all}
+use Rattle.editor_model.specs.Values.{Value, Nil, Fault}
+use Rattle.editor_model.specs.Answers as answers
 use Rattle.editor_model.specs.Answers.{Test, first_fault}
 use Rattle.editor_model.specs.Arguments.{must_be_string, string_of}
-use Rattle.editor_model.specs.TextCalls.{joined}
+use Rattle.editor_model.specs.TextCalls.{joined, with_inherited, insertion}
+use Rattle.prop_intervals.specs.Sets.{together}
 
-pub joined_more : (args : List Value) (old new whole : List Cell) (i : ℕ) (v : Value) → slice_get args i ≡ Some v → new ≡ old ++ string_of v → old ++ joined (drop i args) ≡ whole → new ++ joined (drop (i + 1) args) ≡ whole
-joined_more args old new whole i v at pushed inv =
-    ap (λ f. f ++ joined (drop (i + 1) args)) pushed
-    ∙ append_assoc old (string_of v) (joined (drop (i + 1) args))
-    ∙ ap (λ s. old ++ joined s) (sym (drop_at args i v at)) ∙ inv
+pub contents_more : (set : PropSet) (args : List Value) (old new : List (List Cell)) (piece whole : List Cell) (i : ℕ) (v : Value) → slice_get args i ≡ Some v → new ≡ old ++ piece ∷ [] → piece ≡ with_inherited set (string_of v)
+    → together old ++ with_inherited set (joined (drop i args)) ≡ whole → together new ++ with_inherited set (joined (drop (i + 1) args)) ≡ whole
+contents_more set args old new piece whole i v at pushed is inv =
+    let rest = joined (drop (i + 1) args) in
+    let more : together new ≡ together old ++ piece = ap together pushed ∙ flat_map-append (λ q. q) old (piece ∷ []) ∙ ap (λ q. together old ++ q) (append-nil piece) in
+    ap (λ l. l ++ with_inherited set rest) more ∙ ap (λ q. (together old ++ q) ++ with_inherited set rest) is
+    ∙ append_assoc (together old) (with_inherited set (string_of v)) (with_inherited set rest)
+    ∙ ap (λ q. together old ++ q) (sym (map-append (λ c. (c.0, put_all set c.1)) (string_of v) rest))
+    ∙ ap (λ s. together old ++ with_inherited set (joined s)) (sym (drop_at args i v at)) ∙ inv
 
-pub joined_all : (args : List Value) (piece : List Cell) (i : ℕ) → length args ≤ i → piece ++ joined (drop i args) ≡ joined args → piece ≡ joined args
-joined_all args piece i l inv = sym (append-nil piece) ∙ ap (λ s. piece ++ joined s) (sym (drop_all i args l)) ∙ inv
+pub contents_all : (set : PropSet) (args : List Value) (pieces : List (List Cell)) (i : ℕ) → length args ≤ i → together pieces ++ with_inherited set (joined (drop i args)) ≡ with_inherited set (joined args)
+    → together pieces ≡ with_inherited set (joined args)
+contents_all set args pieces i l inv = sym (append-nil (together pieces)) ∙ ap (λ s. together pieces ++ with_inherited set (joined s)) (sym (drop_all i args l)) ∙ inv
+
+pub alone_contents : (set : PropSet) (args : List Value) (piece : List Cell) (v : Value) → length args ≡ 1 → slice_get args 0 ≡ Some v → piece ≡ with_inherited set (string_of v) → piece ≡ with_inherited set (joined args)
+alone_contents set [] piece v one at is = absurd (omega (arith, one))
+alone_contents set (w ∷ []) piece v one at is = is ∙ ap (λ x. with_inherited set (string_of x)) (sym (same_Some w v at)) ∙ ap (with_inherited set) (sym (append-nil (string_of w)))
+alone_contents set (w ∷ x ∷ args) piece v one at is = absurd (omega (arith, one))
+
+pub nothing_inserted : (id at : ℕ) (text : List Cell) (all : Bool) → (length text == 0) ≡ true → answers.Nothing Nil ≡ insertion id at text all
+nothing_inserted id at [] all h = refl
+nothing_inserted id at (c ∷ text) all h = cc
+
+pub something_inserted : (id at : ℕ) (text : List Cell) (all : Bool) → (length text == 0) ≡ false
+    → answers.Changes (record { buffer = id; from = at; to = at; what = answers.Put text all true false None; reply = Nil }) ≡ insertion id at text all
+something_inserted id at [] all h = cc
+something_inserted id at (c ∷ text) all h = refl
 
 -- TESTS
 pub string_met : (args : List Value) (i : ℕ) (v : Value) (whole : Option Fault) → slice_get args i ≡ Some v → None ≡ must_be_string v → first_fault (map must_be_string (drop i args)) ≡ whole → first_fault (map must_be_string (drop (i + 1) args)) ≡ whole

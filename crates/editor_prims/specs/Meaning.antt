@@ -1,5 +1,6 @@
 -- What tests, answers and prepared changes of the code stand for.
-use Rattle.std.specs.Prelude.{◌≡◌, Option, Some, None, Result, Ok, Err}
+use Rattle.std.specs.Prelude.{◌≡◌, List, Option, Some, None, Result, Ok, Err}
+use Rattle.text_model.specs.Properties.{Cell}
 use Rattle.editor_model.specs.Values as model
 use Rattle.editor_model.specs.Answers as answers
 use Rattle.editor_model.specs.Editor.{Editor}
@@ -8,8 +9,11 @@ use Rattle.ek_call.specs.Faults.{fault_of}
 use Rattle.ek_call.specs.declared.value.Value.{Value}
 use Rattle.ek_call.specs.declared.fault.Fault.{Fault}
 use Rattle.prop_intervals.specs.Edits.{edit_of}
+use Rattle.prop_intervals.specs.Sets.{together}
 use Rattle.editor_prims.specs.declared.failure.Failure.{Failure}
 use Rattle.editor_prims.specs.declared.failure.Failure.TheVariants as failure
+use Rattle.editor_prims.specs.declared.change.Pieces.{Pieces}
+use Rattle.editor_prims.specs.declared.change.Pieces.TheVariants as pieces
 use Rattle.editor_prims.specs.declared.change.What.{What}
 use Rattle.editor_prims.specs.declared.change.What.TheVariants as what
 use Rattle.editor_prims.specs.declared.change.Change.{Change}
@@ -38,8 +42,13 @@ Applies (Err (failure.Refused f)) old new call = record { editor = new; reply = 
 Applies (Err failure.NoMemory) old new call = new ≡ old
 
 -- CHANGES
+-- the pieces one behind the other
+abbrev pub text_of : Pieces → List Cell
+text_of (pieces.One piece) = piece
+text_of (pieces.Several list) = together list.items
+
 abbrev pub what_of : What → answers.What
-what_of (what.Put piece all point_after widen mark) = answers.Put piece all point_after widen mark
+what_of (what.Put put all point_after widen mark) = answers.Put (text_of put) all point_after widen mark
 what_of (what.Props edit) = answers.Props (edit_of edit)
 what_of (what.UndoGroups n) = answers.UndoGroups n
 

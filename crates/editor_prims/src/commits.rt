@@ -1,12 +1,13 @@
 //! The commit of a change that was prepared. Hook functions may have run since.
 ghost use Rattle.std.specs.Prelude.{◌≡◌, ◌⊎◌, ◌+◌, ◌≤◌, true, false, [], length, Option, Some};
-ghost use Rattle.std.specs.Prelude.{OnOk, OnErr, IfOk};
+ghost use Rattle.std.specs.Prelude.{OnOk, OnErr, IfOk, IfSome};
 ghost use Rattle.text_model.specs.Commit.{replaced};
 ghost use Rattle.editor_model.specs.Editor.{is_live, buffer_at, change_site};
 ghost use Rattle.editor_model.specs.Answers as answers;
 ghost use Rattle.editor_model.specs.Values.{Value as Meant};
 ghost use Rattle.editor_model.specs.Commits.{commit, changed, mark_to, put_site};
 ghost use Rattle.prop_intervals.specs.Edits.{edit_of};
+ghost use Rattle.prop_intervals.specs.Sets.{together};
 ghost use Rattle.buffer_table.specs.Kept.{editor_of};
 ghost use Rattle.buffer_table.specs.Places.{IsPlace};
 ghost use Rattle.editor_prims.specs.Meaning.{Commits, IsFailed, change_of, committed_of};
@@ -18,12 +19,13 @@ use crate::limits::must_have_room;
 use crate::markers::put as put_marker;
 use crate::replies::committed;
 use crate::undo_more::plan;
+use buffer_core::are_empty;
 use buffer_table::Editor;
 use ek_call::{Fault, Value};
 use ek_types::{Mem, NoMemory, Piece};
-use prop_intervals::PropEdit;
+use prop_intervals::{PropEdit, length_of};
 
-/// How a piece is put in, or a part taken out.
+/// How pieces are put in, or a part taken out.
 #[derive(Clone, Copy)]
 struct Manner {
     all: bool,
@@ -31,76 +33,85 @@ struct Manner {
     widen: bool,
 }
 
-/// Puts a piece in, or takes a part out. Point may go behind the piece. A refusal leaves the editor as it was.
+/// Puts pieces in, or takes a part out. Point may go behind the pieces. A refusal leaves the editor as it was.
 fn put_with_point(
     editor: &mut Editor,
     id: u32,
     from: usize,
     to: usize,
-    piece: &Piece,
+    pieces: &[Piece],
     all: bool,
     point_after: bool,
 ) -> Mem<()>
     requires live { is_live (editor_of editor.old) id ≡ true }
     requires order { from ≤ to }
     requires range { to ≤ length (buffer_at (editor_of editor.old) id).text }
-    requires one { (from ≡ to) ⊎ (piece.now ≡ []) }
+    requires one { (from ≡ to) ⊎ (together pieces.now ≡ []) }
     ensures ok { OnOk result (editor_of editor.new ≡
-        change_site id (put_site id from to piece.now all point_after false)
+        change_site id (put_site id from to (together pieces.now) all point_after false)
         (editor_of editor.old)) }
     ensures err { OnErr result (editor_of editor.new ≡ editor_of editor.old) }
 {
     if point_after {
-        put_behind(editor, id, from, to, piece, all)
+        put_behind(editor, id, from, to, pieces, all)
     } else {
-        put_around(editor, id, from, to, piece, all)
+        put_around(editor, id, from, to, pieces, all)
     }
 }
 
-/// Puts a piece in, or takes a part out; point goes behind the piece. A refusal leaves the editor as it was.
+/// The place behind some pieces that are put in, if there is a number for it.
+fn place_behind(from: usize, pieces: &[Piece]) -> Option<usize>
+    ensures { IfSome result (λ behind. behind ≡ from + length (together pieces.now)) }
+{
+    let n = length_of(pieces)?;
+    let behind = from.checked_add(n)?;
+    Some(behind)
+}
+
+/// Puts pieces in, or takes a part out; point goes behind the pieces. A refusal leaves the editor as it was.
 fn put_behind(
     editor: &mut Editor,
     id: u32,
     from: usize,
     to: usize,
-    piece: &Piece,
+    pieces: &[Piece],
     all: bool,
 ) -> Mem<()>
     requires live { is_live (editor_of editor.old) id ≡ true }
     requires order { from ≤ to }
     requires range { to ≤ length (buffer_at (editor_of editor.old) id).text }
-    requires one { (from ≡ to) ⊎ (piece.now ≡ []) }
+    requires one { (from ≡ to) ⊎ (together pieces.now ≡ []) }
     ensures ok { OnOk result (editor_of editor.new ≡
-        change_site id (put_site id from to piece.now all true false) (editor_of editor.old)) }
+        change_site id (put_site id from to (together pieces.now) all true false) (editor_of editor.old)) }
     ensures err { OnErr result (editor_of editor.new ≡ editor_of editor.old) }
 {
-    let Some(behind) = from.checked_add(piece.len()) else {
+    let Some(behind) = place_behind(from, pieces) else {
         return Err(NoMemory);
     };
-    editor.replace(id, from, to, piece, all)?;
+    editor.replace(id, from, to, pieces, all)?;
     editor.goto_place(id, behind);
     Ok(())
 }
 
-/// Puts a piece in, or takes a part out; point moves as places do. A refusal leaves the editor as it was.
+/// Puts pieces in, or takes a part out; point moves as places do. A refusal leaves the editor as it was.
 #[tactic(auto, using(crate::proofs::Twice::put_still))]
 fn put_around(
     editor: &mut Editor,
     id: u32,
     from: usize,
     to: usize,
-    piece: &Piece,
+    pieces: &[Piece],
     all: bool,
 ) -> Mem<()>
     requires live { is_live (editor_of editor.old) id ≡ true }
     requires order { from ≤ to }
     requires range { to ≤ length (buffer_at (editor_of editor.old) id).text }
-    requires one { (from ≡ to) ⊎ (piece.now ≡ []) }
+    requires one { (from ≡ to) ⊎ (together pieces.now ≡ []) }
     ensures ok { OnOk result (editor_of editor.new ≡
-        change_site id (put_site id from to piece.now all false false) (editor_of editor.old)) }
+        change_site id (put_site id from to (together pieces.now) all false false) (editor_of editor.old)) }
     ensures err { OnErr result (editor_of editor.new ≡ editor_of editor.old) }
 {
-    editor.replace(id, from, to, piece, all)
+    editor.replace(id, from, to, pieces, all)
 }
 
 /// The same in the buffer widened. A refusal leaves the editor as it was.
@@ -109,22 +120,22 @@ fn put_widened(
     id: u32,
     from: usize,
     to: usize,
-    piece: &Piece,
+    pieces: &[Piece],
     all: bool,
     point_after: bool,
 ) -> Mem<()>
     requires live { is_live (editor_of editor.old) id ≡ true }
     requires order { from ≤ to }
     requires range { to ≤ length (buffer_at (editor_of editor.old) id).text }
-    requires one { (from ≡ to) ⊎ (piece.now ≡ []) }
+    requires one { (from ≡ to) ⊎ (together pieces.now ≡ []) }
     ensures ok { OnOk result (editor_of editor.new ≡
-        change_site id (put_site id from to piece.now all point_after true)
+        change_site id (put_site id from to (together pieces.now) all point_after true)
         (editor_of editor.old)) }
     ensures err { OnErr result (editor_of editor.new ≡ editor_of editor.old) }
 {
     let portion = editor.bounds(id);
     editor.widen(id);
-    match put_with_point(editor, id, from, to, piece, all, point_after) {
+    match put_with_point(editor, id, from, to, pieces, all, point_after) {
         Ok(()) => Ok(()),
         Err(refused) => {
             editor.narrow(id, portion.start, portion.end);
@@ -133,28 +144,28 @@ fn put_widened(
     }
 }
 
-/// Puts a piece in, or takes a part out, in one of the ways of a change. A refusal leaves the editor as it was.
+/// Puts pieces in, or takes a part out, in one of the ways of a change. A refusal leaves the editor as it was.
 fn put(
     editor: &mut Editor,
     id: u32,
     from: usize,
     to: usize,
-    piece: &Piece,
+    pieces: &[Piece],
     manner: Manner,
 ) -> Mem<()>
     requires live { is_live (editor_of editor.old) id ≡ true }
     requires order { from ≤ to }
     requires range { to ≤ length (buffer_at (editor_of editor.old) id).text }
-    requires one { (from ≡ to) ⊎ (piece.now ≡ []) }
+    requires one { (from ≡ to) ⊎ (together pieces.now ≡ []) }
     ensures ok { OnOk result (editor_of editor.new ≡
-        change_site id (put_site id from to piece.now manner.all manner.point_after manner.widen)
+        change_site id (put_site id from to (together pieces.now) manner.all manner.point_after manner.widen)
         (editor_of editor.old)) }
     ensures err { OnErr result (editor_of editor.new ≡ editor_of editor.old) }
 {
     if manner.widen {
-        put_widened(editor, id, from, to, piece, manner.all, manner.point_after)
+        put_widened(editor, id, from, to, pieces, manner.all, manner.point_after)
     } else {
-        put_with_point(editor, id, from, to, piece, manner.all, manner.point_after)
+        put_with_point(editor, id, from, to, pieces, manner.all, manner.point_after)
     }
 }
 
@@ -168,22 +179,22 @@ fn put_mark(editor: &mut Editor, mark: Option<u32>, id: u32, behind: usize)
     }
 }
 
-/// Whether the ends of a change lie in its buffer's text, in order, and a piece is put in at one place alone.
-fn fits(editor: &Editor, id: u32, from: usize, to: usize, piece: &Piece) -> bool
+/// Whether the ends of a change lie in its buffer's text, in order, and pieces are put in at one place alone.
+fn fits(editor: &Editor, id: u32, from: usize, to: usize, pieces: &[Piece]) -> bool
     ensures order { result ≡ true → from ≤ to }
     ensures range { result ≡ true → to ≤ length (buffer_at (editor_of editor.now) id).text }
-    ensures one { result ≡ true → (from ≡ to) ⊎ (piece.now ≡ []) }
+    ensures one { result ≡ true → (from ≡ to) ⊎ (together pieces.now ≡ []) }
 {
-    from <= to && to <= editor.size(id) && (from == to || piece.is_empty())
+    from <= to && to <= editor.size(id) && (from == to || are_empty(pieces))
 }
 
-/// The commit of a piece put in, or a part taken out.
+/// The commit of pieces put in, or a part taken out.
 fn commit_put(
     editor: &mut Editor,
     id: u32,
     from: usize,
     to: usize,
-    piece: &Piece,
+    pieces: &[Piece],
     manner: Manner,
     mark: Option<u32>,
 ) -> Result<Committed, Failure>
@@ -192,19 +203,22 @@ fn commit_put(
           buffer = id;
           from = from;
           to = to;
-          what = answers.Put piece.now manner.all manner.point_after manner.widen mark;
+          what = answers.Put (together pieces.now) manner.all manner.point_after manner.widen mark;
           reply = reply;
         })) }
 {
     must(editor.is_live(id), Fault::BufferKilled)?;
-    must_have_room(editor, id, piece.len() as u128)?;
-    let Some(behind) = from.checked_add(piece.len()) else {
+    let Some(n) = length_of(pieces) else {
         return Err(Failure::NoMemory);
     };
-    if !fits(editor, id, from, to, piece) {
+    must_have_room(editor, id, n as u128)?;
+    let Some(behind) = from.checked_add(n) else {
+        return Err(Failure::NoMemory);
+    };
+    if !fits(editor, id, from, to, pieces) {
         return Err(Failure::NoMemory);
     }
-    put(editor, id, from, to, piece, manner)?;
+    put(editor, id, from, to, pieces, manner)?;
     put_mark(editor, mark, id, behind);
     Ok(Committed::Done {
         from,
@@ -302,7 +316,7 @@ pub fn commit_at(editor: &mut Editor, change: &Change, from: usize, to: usize) -
     let id = change.buffer;
     match &change.what {
         What::Put {
-            piece,
+            pieces,
             all,
             point_after,
             widen,
@@ -313,7 +327,7 @@ pub fn commit_at(editor: &mut Editor, change: &Change, from: usize, to: usize) -
                 point_after: *point_after,
                 widen: *widen,
             };
-            committed(commit_put(editor, id, from, to, piece, manner, *mark))
+            committed(commit_put(editor, id, from, to, pieces, manner, *mark))
         }
         What::Props(edit) => committed(commit_props(editor, id, from, to, edit)),
         What::UndoGroups(n) => committed(commit_undo(editor, id, from, to, *n)),

@@ -1,8 +1,8 @@
 //! The calls that insert strings ("Insertion" in the GNU Emacs Lisp Reference Manual; "Sticky Properties" there for what an
 //! insertion inherits).
-ghost use Rattle.std.specs.Prelude.{◌≡◌, ◌+◌, ◌<◌, ◌++◌, [], ◌∷◌, map, length, drop, IfOk, OnOk};
-ghost use Rattle.std.specs.Prelude.{if◌then◌else◌, ℕ, true, option_map, Some, slice_get};
-ghost use Rattle.text_model.specs.Properties.{put_all};
+ghost use Rattle.std.specs.Prelude.{◌≡◌, ◌+◌, ◌<◌, ◌≤◌, ◌++◌, [], ◌∷◌, map, length, drop, IfOk, OnOk};
+ghost use Rattle.std.specs.Prelude.{if◌then◌else◌, ℕ, option_map, slice_get};
+ghost use Rattle.text_model.specs.Properties.{put_all, with_sets, edited, Replace};
 ghost use Rattle.text_model.specs.Ordered.{IsProper};
 ghost use Rattle.editor_model.specs.Answers.{first_fault};
 ghost use Rattle.editor_model.specs.Arguments.{must_be_string, must_have_room, string_of};
@@ -11,10 +11,11 @@ ghost use Rattle.editor_model.specs.Editor.{here};
 ghost use Rattle.editor_model.specs.TextCalls as calls;
 ghost use Rattle.ek_types.specs.Listing.{items_of};
 ghost use Rattle.ek_call.specs.Meaning.{view};
+ghost use Rattle.prop_intervals.specs.Sets.{together};
 ghost use Rattle.buffer_table.specs.Kept.{editor_of};
-ghost use Rattle.editor_prims.specs.Meaning.{Prepares, fault_in};
+ghost use Rattle.editor_prims.specs.Meaning.{Prepares, fault_in, text_of};
 
-use crate::change::Prepared;
+use crate::change::{Pieces, Prepared};
 use crate::failure::Failure;
 use crate::kinds::string;
 use crate::limits::must_have_room;
@@ -26,27 +27,6 @@ use ek_call::{Fault, Value, Values};
 use ek_types::{Chars, Mem, Piece, PropSet};
 use std::alloc::Global;
 use stickiness::inherited;
-
-/// Puts the contents of a string behind a piece; what is no string has none. A refusal leaves the piece as it was.
-fn append(piece: &mut Piece, v: &Value) -> Mem<()>
-    ensures { OnOk result (piece.new ≡ piece.old ++ string_of (view v.now)) }
-{
-    match v {
-        Value::Str(text) => piece.append(text),
-        _ => Ok(()),
-    }
-}
-
-/// The contents of strings, one behind the other.
-fn joined(alloc: Global, args: &Values) -> Mem<Piece>
-    ensures { IfOk result (λ piece. piece ≡ calls.joined (map view (items_of args.now))) }
-{
-    let mut piece = Piece::plain(alloc, Chars::new(alloc));
-    for i in 0..args.len() {
-        append(&mut piece, args.at(i))?;
-    }
-    Ok(piece)
-}
 
 /// How many characters the strings have together, where all arguments are strings.
 fn must_be_strings(args: &Values) -> Result<u128, Fault>
@@ -84,29 +64,21 @@ fn with_all(set: &PropSet, more: &PropSet) -> Mem<PropSet>
     Ok(all)
 }
 
-/// Whether a piece is known to have no properties: it has characters, all of one set, and that is empty.
-fn is_bare(piece: &Piece) -> bool
-    ensures { result ≡ true → (j : ℕ) → j < length piece.now →
-        option_map (λ c. c.1) (slice_get piece.now j) ≡ Some [] }
+/// Gives the characters of a run a set in place of theirs, unless they have it: then the piece stays as it is, and shared.
+fn put_in_run(piece: &mut Piece, i: usize, end: usize, set: &PropSet) -> Mem<()>
+    requires run { (i < end) × (end ≤ length piece.old) }
+    requires one { (j : ℕ) → i ≤ j → j < end → option_map (λ c. c.1) (slice_get piece.old j) ≡
+        option_map (λ c. c.1) (slice_get piece.old i) }
+    ensures { OnOk result (piece.new ≡ with_sets i end (edited (Replace set.now)) piece.old) }
 {
-    if piece.is_empty() {
-        return false;
+    if set.same(piece.props(i)) {
+        return Ok(());
     }
-    piece.run_end(0) == piece.len() && piece.props(0).len() == 0
+    piece.put(i, end, set)
 }
 
-/// A piece with the properties of a set put beneath those of each character.
+/// A piece with the properties of a set put beneath those of each character, one run of one set after the other.
 fn with_inherited(piece: Piece, set: &PropSet) -> Mem<Piece>
-    ensures { IfOk result (λ p. p ≡ calls.with_inherited set.now piece) }
-{
-    if set.len() == 0 && is_bare(&piece) {
-        return Ok(piece);
-    }
-    put_beneath(piece, set)
-}
-
-/// The same, one run of one set after the other.
-fn put_beneath(piece: Piece, set: &PropSet) -> Mem<Piece>
     ensures { IfOk result (λ p. p ≡ calls.with_inherited set.now piece) }
 {
     let mut piece = piece;
@@ -114,10 +86,49 @@ fn put_beneath(piece: Piece, set: &PropSet) -> Mem<Piece>
     'runs: while i < piece.len() {
         let end = piece.run_end(i);
         let all = with_all(set, piece.props(i))?;
-        piece.put(i, end, &all)?;
+        put_in_run(&mut piece, i, end, &all)?;
         i = end;
     }
     Ok(piece)
+}
+
+/// The contents of a string, with a set beneath its properties; what is no string has none.
+fn contents(alloc: Global, v: &Value, set: &PropSet) -> Mem<Piece>
+    ensures { IfOk result (λ p. p ≡ calls.with_inherited set.now (string_of (view v.now))) }
+{
+    match v {
+        Value::Str(text) => {
+            let piece = with_inherited(text.copy()?, set)?;
+            Ok(piece)
+        }
+        _ => Ok(Piece::plain(alloc, Chars::new(alloc))),
+    }
+}
+
+/// The contents of strings side by side, with a set beneath their properties.
+fn all_contents(alloc: Global, args: &Values, set: &PropSet) -> Mem<Vec<Piece>>
+    ensures { IfOk result (λ pieces. together pieces.items ≡ calls.with_inherited set.now
+        (calls.joined (map view (items_of args.now)))) }
+{
+    let mut pieces = Vec::new(alloc);
+    for i in 0..args.len() {
+        let piece = contents(alloc, args.at(i), set)?;
+        pieces.push(piece)?;
+    }
+    Ok(pieces)
+}
+
+/// The contents of strings as pieces, with a set beneath their properties. None is joined with another.
+fn pieces_of(alloc: Global, args: &Values, set: &PropSet) -> Mem<Pieces>
+    ensures { IfOk result (λ pieces. text_of pieces ≡ calls.with_inherited set.now
+        (calls.joined (map view (items_of args.now)))) }
+{
+    if args.len() == 1 {
+        let piece = contents(alloc, args.at(0), set)?;
+        return Ok(Pieces::One(piece));
+    }
+    let pieces = all_contents(alloc, args, set)?;
+    Ok(Pieces::Several(pieces))
 }
 
 /// The properties that an insertion at point inherits, or none.
@@ -174,7 +185,7 @@ pub(crate) fn insert(
 {
     must_fit(editor, args)?;
     let set = inherited_here(editor, inherit)?;
-    let piece = with_inherited(joined(editor.allocator(), args)?, &set)?;
+    let pieces = pieces_of(editor.allocator(), args, &set)?;
     let point = editor.bounds(editor.current()).point;
-    Ok(insertion(editor.current(), point, piece, all))
+    Ok(insertion(editor.current(), point, pieces, all))
 }

@@ -27,7 +27,7 @@ mod undo_more;
 mod undo_records;
 pub mod values;
 
-pub use change::{Change, Committed, Prepared, What};
+pub use change::{Change, Committed, Pieces, Prepared, What};
 pub use commits::{commit, commit_at};
 pub use failure::Failure;
 pub use table::{apply, arg, nil, prepare, query};

@@ -1,11 +1,12 @@
 //! What calls come to, as replies.
-ghost use Rattle.std.specs.Prelude.{◌≡◌, IfOk, OnErr};
+ghost use Rattle.std.specs.Prelude.{◌≡◌, Err, IfOk, OnErr};
 ghost use Rattle.editor_model.specs.Values.{Reply as Meant};
 ghost use Rattle.editor_model.specs.Answers as answers;
 ghost use Rattle.editor_model.specs.Editor as model;
 ghost use Rattle.ek_call.specs.Meaning.{reply_of};
 ghost use Rattle.editor_prims.specs.Meaning.{Answers, Applies, Prepares, Commits, prepared_of};
 ghost use Rattle.editor_prims.specs.Meaning.{committed_of};
+ghost use Rattle.editor_prims.specs.declared.failure.Failure.TheVariants as failure;
 
 use crate::change::{Committed, Prepared};
 use crate::failure::Failure;
@@ -22,6 +23,7 @@ pub(crate) fn reply(answer: Result<Value, Failure>) -> Mem<Reply>
         } ≡ call) }
     ensures err { (old new : model.Editor) (call : answers.Applied) → Applies answer old new call →
         OnErr result (new ≡ old) }
+    ensures memory { OnErr result (answer ≡ Err failure.NoMemory) }
 {
     match answer {
         Ok(value) => Ok(Reply::Value(value)),
@@ -34,6 +36,7 @@ pub(crate) fn reply(answer: Result<Value, Failure>) -> Mem<Reply>
 pub(crate) fn prepared(call: Result<Prepared, Failure>) -> Mem<Prepared>
     ensures { (meant : answers.Prepared) → Prepares call meant →
         IfOk result (λ p. prepared_of p ≡ meant) }
+    ensures memory { OnErr result (call ≡ Err failure.NoMemory) }
 {
     match call {
         Ok(prepared) => Ok(prepared),
@@ -48,6 +51,7 @@ pub(crate) fn committed(call: Result<Committed, Failure>) -> Mem<Committed>
         IfOk result (λ c. record { editor = new; committed = committed_of c } ≡ meant) }
     ensures err { (old new : model.Editor) (meant : answers.Commit) → Commits call old new meant →
         OnErr result (new ≡ old) }
+    ensures memory { OnErr result (call ≡ Err failure.NoMemory) }
 {
     match call {
         Ok(committed) => Ok(committed),

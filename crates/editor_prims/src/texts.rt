@@ -11,9 +11,9 @@ ghost use Rattle.editor_model.specs.Arguments.{must_have_room as room};
 ghost use Rattle.editor_model.specs.ReadOnly.{must_be_writable, is_tested as tested};
 ghost use Rattle.ek_call.specs.Meaning.{view};
 ghost use Rattle.buffer_table.specs.Kept.{editor_of};
-ghost use Rattle.editor_prims.specs.Meaning.{Answers, Applies, Prepares, fault_in, prepared_of};
+ghost use Rattle.editor_prims.specs.Meaning.{Answers, Applies, Prepares, fault_in, prepared_of, text_of};
 
-use crate::change::{Change, Prepared, What};
+use crate::change::{Change, Pieces, Prepared, What};
 use crate::failure::Failure;
 use crate::kinds::{
     must_be_buffer, must_be_buffer_or_nil, must_be_position, must_be_position_or_nil,
@@ -26,6 +26,7 @@ use crate::places::{
 };
 use crate::read_only::{must_give_text, must_take, must_take_text};
 use crate::values::{at_place, count, plain, truth};
+use buffer_core::are_empty;
 use buffer_table::Editor;
 use ek_call::{Fault, Value};
 use ek_types::{Chars, Copied, Mem, Piece};
@@ -240,7 +241,7 @@ fn deletion(
         from,
         to,
         what: What::Put {
-            piece: Piece::plain(alloc, Chars::new(alloc)),
+            pieces: Pieces::Several(Vec::new(alloc)),
             all: false,
             point_after: false,
             widen,
@@ -330,11 +331,11 @@ pub(crate) fn widen(editor: &mut Editor) -> Result<Value, Failure>
     Ok(Value::Nil)
 }
 
-/// The change that puts a piece in at a place; an empty piece changes nothing.
-pub(crate) fn insertion(buffer: u32, at: usize, piece: Piece, all: bool) -> Prepared
-    ensures { prepared_of result ≡ calls.insertion buffer at piece all }
+/// The change that puts pieces in at a place; pieces without characters change nothing.
+pub(crate) fn insertion(buffer: u32, at: usize, pieces: Pieces, all: bool) -> Prepared
+    ensures { prepared_of result ≡ calls.insertion buffer at (text_of pieces) all }
 {
-    if piece.is_empty() {
+    if are_empty(pieces.as_slice()) {
         return Prepared::Nothing(Value::Nil);
     }
     Prepared::Change(Change {
@@ -342,7 +343,7 @@ pub(crate) fn insertion(buffer: u32, at: usize, piece: Piece, all: bool) -> Prep
         from: at,
         to: at,
         what: What::Put {
-            piece,
+            pieces,
             all,
             point_after: true,
             widen: false,
@@ -388,7 +389,7 @@ pub(crate) fn insert_buffer_substring(
     must_have_room(editor, editor.current(), (to - from) as u128)?;
     let piece = part(editor, source, from, to)?;
     let point = editor.bounds(editor.current()).point;
-    Ok(insertion(editor.current(), point, piece, false))
+    Ok(insertion(editor.current(), point, Pieces::One(piece), false))
 }
 
 /// The place of a mark in a buffer; one that isn't there counts as the end of the accessible portion.
@@ -426,7 +427,7 @@ pub fn prepare_output(editor: &Editor, id: u32, mark: u32, text: Piece) -> Prepa
         from: at,
         to: at,
         what: What::Put {
-            piece: text,
+            pieces: Pieces::One(text),
             all: true,
             point_after: false,
             widen: false,

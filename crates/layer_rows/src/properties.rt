@@ -5,6 +5,7 @@ use crate::checking::is;
 use ek_types::{Ch, Chars, Mem, Piece, PropSet, PropVal, Sym, SymList};
 use prop_intervals::{PropEdit, Props};
 use std::alloc::Global;
+use std::slice;
 use std::test::Fail;
 
 const FACE: Sym = Sym(20);
@@ -55,7 +56,7 @@ fn with_face(alloc: Global, size: usize, from: usize, to: usize) -> Mem<Props>
     let mut text = bare_text(alloc, size)?;
     text.put(from, to, &face(alloc, 1)?)?;
     let mut props = Props::new(alloc);
-    props.splice(0, 0, &text)?;
+    props.splice(0, 0, slice::from_ref(&text))?;
     Ok(props)
 }
 
@@ -77,7 +78,7 @@ fn replaced(props: &mut Props, from: usize, to: usize, text: &Piece, size: usize
     ensures { IfOk result (λ n. (n ≡ length props.new) ×
         (n + (to - from) ≡ length props.old + length text.now)) }
 {
-    props.splice(from, to, text)?;
+    props.splice(from, to, slice::from_ref(text))?;
     Ok(size - (to - from) + text.len())
 }
 
@@ -227,7 +228,7 @@ fn own_faces(alloc: Global) -> Mem<Props>
         text.put(i, i + 1, &face(alloc, i as i64 + 1)?)?;
     }
     let mut props = Props::new(alloc);
-    props.splice(0, 0, &text)?;
+    props.splice(0, 0, slice::from_ref(&text))?;
     Ok(props)
 }
 
@@ -239,7 +240,7 @@ fn put_in_front(props: &mut Props, x: &Piece, size: usize) -> Mem<i64>
     requires fits { size < 2 ^ 40 }
     ensures { IfOk result (λ _. length props.new ≡ size + 1) }
 {
-    props.splice(0, 0, x)?;
+    props.splice(0, 0, slice::from_ref(x))?;
     Ok(face_of(props.at(size + 1 - 65_536)))
 }
 

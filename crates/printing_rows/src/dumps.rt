@@ -6,6 +6,7 @@ use ek_types::{Ch, Mem, Piece, PropSet, PropVal, Sym, SymList, Symbols};
 use process_table::{Processes, Status};
 use std::alloc::Global;
 use std::process::Abort;
+use std::slice;
 use trace_print::{Names, dump};
 
 const FRONT_STICKY: Sym = Sym(0);
@@ -53,7 +54,9 @@ fn buffer(rt: &impl Abort, alloc: Global, editor: &mut Editor, name: &[u8]) -> u
 
 fn fill(rt: &impl Abort, editor: &mut Editor, id: u32, text: &Piece) {
     assert!(rt; editor.is_live(id));
-    editor.replace(id, 0, 0, text, false).expect(rt, "room");
+    editor
+        .replace(id, 0, 0, slice::from_ref(text), false)
+        .expect(rt, "room");
 }
 
 /// An overlay over the first `to` characters of a buffer.

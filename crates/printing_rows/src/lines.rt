@@ -7,6 +7,7 @@ use ek_types::{Ch, Chars, Mem, MemorySink, Piece, PropSet, PropVal, SinkFault, S
 use process_table::Processes;
 use std::alloc::Global;
 use std::process::Abort;
+use std::slice;
 use trace_print::{Kind, Names, dump, entry, exit, kill, reply};
 
 /// Characters of each kind that strings escape, and some that they don't.
@@ -219,7 +220,7 @@ fn fill_first(rt: &impl Abort, alloc: Global, editor: &mut Editor) {
     let text = decorated(alloc).expect(rt, "a text");
     assert!(rt; editor.text(0).is_some());
     editor
-        .replace(0, 0, 0, &text, false)
+        .replace(0, 0, 0, slice::from_ref(&text), false)
         .expect(rt, "an insertion");
     mark(rt, editor, 0, 3, false);
     mark(rt, editor, 0, 1, true);

@@ -6,6 +6,7 @@ use ek_types::{Ch, Chars, Mem, Piece, PropSet, PropVal, Sym};
 use final_view::{ViewFault, view};
 use std::alloc::Global;
 use std::process::Abort;
+use std::slice;
 
 const INVISIBLE: Sym = Sym(11);
 
@@ -80,7 +81,9 @@ fn furnished(rt: &impl Abort, alloc: Global, row: &Row) -> Editor {
     let mut text = Piece::plain(alloc, chars(alloc, row.text).expect(rt, "a text"));
     hide(alloc, &mut text, row.invisible).expect(rt, "a set");
     assert!(rt; editor.is_live(0));
-    editor.replace(0, 0, 0, &text, false).expect(rt, "room");
+    editor
+        .replace(0, 0, 0, slice::from_ref(&text), false)
+        .expect(rt, "room");
     for laid in row.overlays {
         lay(rt, alloc, &mut editor, laid);
     }
@@ -357,7 +360,7 @@ fn all_lengths_and_other_values(rt: HostRuntime) {
     text.push(Ch::Raw(0xFF)).expect(&rt, "room");
     assert!(rt; editor.is_live(0));
     editor
-        .replace(0, 0, 0, &Piece::plain(alloc, text), false)
+        .replace(0, 0, 0, &[Piece::plain(alloc, text)], false)
         .expect(&rt, "room");
     lay(
         &rt,

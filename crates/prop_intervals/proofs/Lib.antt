@@ -4,3 +4,5 @@ pub mod SetLemmas
 pub mod EditLemmas
 pub mod ChangeLemmas
 pub mod QuestionLemmas
+pub mod Stepping
+pub mod Together

@@ -269,12 +269,6 @@ run_more set s sets i j l at k h =
     take_one_more sets j s at ∙ ap (λ t. t ++ s ∷ []) h ∙ append_assoc (take i sets) (replicate (j - i) set) (s ∷ []) ∙ ap (λ x. take i sets ++ (replicate (j - i) set ++ x ∷ [])) (sym e)
     ∙ ap (λ t. take i sets ++ t) (replicate_more (j - i) set ∙ ap (λ n. replicate n set) w)
 
-pub all_more : (set s : PropSet) (sets : List PropSet) (i : ℕ) → slice_get sets i ≡ Some s → same_set set s ≡ true → sets ≡ replicate i set ++ drop i sets → sets ≡ replicate (i + 1) set ++ drop (i + 1) sets
-all_more set s sets i at k h =
-    let e : set ≡ s = same_set-sound set s k in
-    h ∙ ap (λ r. replicate i set ++ r) (drop_at sets i s at ∙ ap (λ x. x ∷ drop (i + 1) sets) (sym e))
-    ∙ sym (append_assoc (replicate i set) (set ∷ []) (drop (i + 1) sets)) ∙ ap (λ r. r ++ drop (i + 1) sets) (replicate_more i set)
-
 -- A LONGER RUN
 begins-grown : (set : PropSet) (at n : ℕ) (runs : List Run) → BeginsOther set runs → BeginsOther set (grown at n runs)
 begins-grown set at n [] h = tt

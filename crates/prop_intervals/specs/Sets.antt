@@ -1,10 +1,14 @@
 -- The property sets of a text, and where they change.
-use Rattle.std.specs.Prelude.{ℕ, Bool, ◌+◌, not, List, [], ◌∷◌, map, length, drop, Option, Some, None, unwrap_or}
+use Rattle.std.specs.Prelude.{ℕ, Bool, ◌+◌, not, List, [], ◌∷◌, map, flat_map, length, drop, Option, Some, None, unwrap_or}
 use Rattle.text_model.specs.Properties.{PropSet, Cell, get, same_set, same_value, same_option}
 use Rattle.text_model.specs.PropertyQuestions.{first_where, changes}
 
 abbrev pub sets_in : List Cell → List PropSet
 sets_in text = map (λ c. c.1) text
+
+-- pieces of text, one behind the other
+abbrev pub together : (pieces : List (List Cell)) → List Cell
+together pieces = flat_map (λ piece. piece) pieces
 
 -- the first of some places, from this one on, whose set differs from a set, or the end
 abbrev pub other_from : PropSet → (place : ℕ) → List PropSet → (end : ℕ) → ℕ

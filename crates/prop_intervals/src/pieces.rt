@@ -1,10 +1,9 @@
 //! The runs of pieces.
 ghost use Rattle.std.specs.Prelude.{◌≡◌, ◌+◌, ◌-◌, ◌<◌, ◌≤◌, ◌^◌, IfOk, length, replicate, take, ◌++◌};
 ghost use Rattle.std.specs.Prelude.{true, slice_get, Some, None, IfSome};
-ghost use Rattle.std.specs.List.{concat};
 ghost use Rattle.text_model.specs.Properties.{PropSet as Pairs};
 ghost use Rattle.prop_intervals.specs.Runs.{size, sets_of, AreApart};
-ghost use Rattle.prop_intervals.specs.Sets.{sets_in, run_end};
+ghost use Rattle.prop_intervals.specs.Sets.{sets_in, together, run_end};
 
 use crate::balance::join;
 use crate::cut::glue;
@@ -28,8 +27,8 @@ fn is_all(piece: &Piece, set: &PropSet) -> bool
 
 /// Whether all characters of some pieces have one set.
 pub(crate) fn are_all(pieces: &[Piece], set: &PropSet) -> bool
-    ensures { result ≡ true → sets_in (concat pieces.now) ≡
-        replicate (length (concat pieces.now)) set.now }
+    ensures { result ≡ true → sets_in (together pieces.now) ≡
+        replicate (length (together pieces.now)) set.now }
 {
     for piece in pieces {
         if !is_all(piece, set) {
@@ -41,8 +40,8 @@ pub(crate) fn are_all(pieces: &[Piece], set: &PropSet) -> bool
 
 /// How many characters some pieces have together, unless that is more than can be counted.
 pub fn length_of(pieces: &[Piece]) -> Option<usize>
-    ensures some { IfSome result (λ n. n ≡ length (concat pieces.now)) }
-    ensures none { result ≡ None → usize.MAX < length (concat pieces.now) }
+    ensures some { IfSome result (λ n. n ≡ length (together pieces.now)) }
+    ensures none { result ≡ None → usize.MAX < length (together pieces.now) }
 {
     let mut total = 0usize;
     for piece in pieces {
@@ -100,8 +99,8 @@ fn with_piece(alloc: Global, tree: Tree, piece: &Piece) -> Mem<Tree>
 
 /// The runs of some pieces, one behind the other.
 pub(crate) fn runs_of(alloc: Global, pieces: &[Piece]) -> Mem<Tree>
-    requires fits { length (concat pieces.now) < 2 ^ 64 }
-    ensures sets { IfOk result (λ t. sets_of t ≡ sets_in (concat pieces.now)) }
+    requires fits { length (together pieces.now) < 2 ^ 64 }
+    ensures sets { IfOk result (λ t. sets_of t ≡ sets_in (together pieces.now)) }
     ensures apart { IfOk result AreApart }
 {
     let mut tree = Tree::new();

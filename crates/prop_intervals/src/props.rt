@@ -2,14 +2,13 @@
 ghost use Rattle.std.specs.Prelude.{ℕ, ◌≡◌, ◌≢◌, ◌↔◌, ◌+◌, ◌-◌, ◌<◌, ◌≤◌, [], ◌++◌, IfOk, OnOk};
 ghost use Rattle.std.specs.Prelude.{OnErr, MatchBool, false, length, map, take, drop, slice_get};
 ghost use Rattle.std.specs.Prelude.{Some, option_map, not};
-ghost use Rattle.std.specs.List.{concat};
 ghost use Rattle.text_model.specs.Properties.{edited, same_list, same_set};
 ghost use Rattle.text_model.specs.Ordered.{IsProper};
 ghost use Rattle.text_model.specs.PropertyQuestions.{next_change, previous_change};
 ghost use Rattle.ek_types.specs.Property.{number_of};
 ghost use Rattle.prop_intervals.specs.Edits.{edit_of};
 ghost use Rattle.prop_intervals.specs.Runs.{sets_of, AreApart};
-ghost use Rattle.prop_intervals.specs.Sets.{sets_in, run_end, changes_of};
+ghost use Rattle.prop_intervals.specs.Sets.{sets_in, together, run_end, changes_of};
 
 use crate::change::edited_runs;
 use crate::edit::PropEdit;
@@ -104,7 +103,7 @@ impl Props {
         requires order { from ≤ to }
         requires within { to ≤ length self.old }
         ensures ok { OnOk result (self.new ≡ take from self.old ++
-            (sets_in (concat with.now) ++ drop to self.old)) }
+            (sets_in (together with.now) ++ drop to self.old)) }
         ensures err { OnErr result (self.new ≡ self.old) }
     {
         let Some(n) = length_of(with) else {
@@ -123,9 +122,9 @@ impl Props {
     fn put(&mut self, from: usize, to: usize, with: &[Piece]) -> Mem<()>
         requires order { from ≤ to }
         requires within { to ≤ length self.old }
-        requires fits { length (concat with.now) ≤ usize.MAX }
+        requires fits { length (together with.now) ≤ usize.MAX }
         ensures ok { OnOk result (self.new ≡ take from self.old ++
-            (sets_in (concat with.now) ++ drop to self.old)) }
+            (sets_in (together with.now) ++ drop to self.old)) }
         ensures err { OnErr result (self.new ≡ self.old) }
     {
         let middle = runs_of(self.alloc, with)?;
@@ -174,9 +173,9 @@ impl Props {
     /// Puts `n` characters in by making a run longer, if all of them have the set of a run that is there.
     fn grow(&mut self, at: usize, with: &[Piece], n: usize) -> bool
         requires place { at ≤ length self.old }
-        requires count { n ≡ length (concat with.now) }
+        requires count { n ≡ length (together with.now) }
         ensures { MatchBool result (self.new ≡ take at self.old ++
-            (sets_in (concat with.now) ++ drop at self.old)) (self.new ≡ self.old) }
+            (sets_in (together with.now) ++ drop at self.old)) (self.new ≡ self.old) }
     {
         let size = self.tree.len();
         if n > usize::MAX - size {

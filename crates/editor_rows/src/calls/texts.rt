@@ -2,10 +2,10 @@
 
 use super::playing::{Row, check_rows};
 use super::words::Word::*;
-use super::words::{BOLD, FACE};
+use super::words::{BOLD, FACE, ITALIC};
 use ek_call::Prim::*;
 
-const ROWS: [Row; 8] = [
+const ROWS: [Row; 10] = [
     Row {
         shows: "a deletion, as on the first path",
         calls: &[
@@ -29,6 +29,52 @@ const ROWS: [Row; 8] = [
             (Point, &[], "5"),
             (BufferSize, &[], "6"),
             (BufferUndoList, &[], "((2 . 5) (1 . 4) (t . 0))"),
+        ],
+    },
+    Row {
+        shows: "several strings keep their properties side by side; they are one record, and markers stand as at one string",
+        calls: &[
+            (Insert, &[Str("mn")], "nil"),
+            (UndoBoundary, &[], "nil"),
+            (CopyMarker, &[Int(2)], "#<marker at 2 in *scratch*>"),
+            (
+                CopyMarker,
+                &[Int(2), T],
+                "#<marker (moves after insertion) at 2 in *scratch*>",
+            ),
+            (GotoChar, &[Int(2)], "2"),
+            (
+                Insert,
+                &[
+                    Styled("ab", &[(1, 2, &[FACE, BOLD])]),
+                    Str(""),
+                    Styled("cd", &[(0, 1, &[FACE, BOLD])]),
+                    Str("e"),
+                ],
+                "nil",
+            ),
+            (BufferString, &[], "#(\"mabcden\" 2 4 (face bold))"),
+            (Point, &[], "7"),
+            (MarkerPosition, &[Marker(0)], "2"),
+            (MarkerPosition, &[Marker(1)], "7"),
+            (BufferUndoList, &[], "((2 . 7) nil (1 . 3) (t . 0))"),
+        ],
+    },
+    Row {
+        shows: "each of several strings inherits, and keeps its own properties",
+        calls: &[
+            (Insert, &[Styled("a", &[(0, 1, &[FACE, BOLD])])], "nil"),
+            (
+                InsertAndInherit,
+                &[Str("b"), Str(""), Styled("c", &[(0, 1, &[FACE, ITALIC])])],
+                "nil",
+            ),
+            (
+                BufferString,
+                &[],
+                "#(\"abc\" 0 2 (face bold) 2 3 (face italic))",
+            ),
+            (BufferUndoList, &[], "((1 . 4) (t . 0))"),
         ],
     },
     Row {

@@ -7,6 +7,7 @@ use prop_intervals::PropEdit;
 use std::alloc::Global;
 use std::marker::Model;
 use std::process::Abort;
+use std::slice;
 use text_pool::Pool;
 
 pub const FACE: Sym = Sym(14);
@@ -63,9 +64,15 @@ impl Scene {
         let _bounds = self.buffer.bounds();
         let size = self.buffer.text().len();
         assert!(rt; at <= size);
-        let done = self
-            .buffer
-            .replace(0, at, at, piece, false, &mut self.marks, &mut self.pool);
+        let done = self.buffer.replace(
+            0,
+            at,
+            at,
+            slice::from_ref(piece),
+            false,
+            &mut self.marks,
+            &mut self.pool,
+        );
         assert!(rt; done.is_ok());
     }
 
@@ -75,19 +82,12 @@ impl Scene {
     }
 
     pub fn delete(&mut self, rt: &impl Abort, from: usize, to: usize) {
-        let nothing = Piece::plain(self.alloc, Chars::new(self.alloc));
         let _bounds = self.buffer.bounds();
         let size = self.buffer.text().len();
         assert!(rt; from <= to && to <= size);
-        let done = self.buffer.replace(
-            0,
-            from,
-            to,
-            &nothing,
-            false,
-            &mut self.marks,
-            &mut self.pool,
-        );
+        let done = self
+            .buffer
+            .replace(0, from, to, &[], false, &mut self.marks, &mut self.pool);
         assert!(rt; done.is_ok());
     }
 

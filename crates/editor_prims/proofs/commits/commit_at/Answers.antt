@@ -1,10 +1,11 @@
-use Rattle.std.proofs.Common.{◌≡◌, ◌∙◌, ℕ, refl, subst, sym, ap}
+use Rattle.std.proofs.Common.{List, ◌≡◌, ◌∙◌, ℕ, refl, subst, sym, ap}
 use Rattle.std.specs.Prelude.{Option, Some, None}
 use Rattle.std.specs.Result.{IfOk}
 use Rattle.std.proofs.lemmas.Result.{IfOk-weaker}
 use Rattle.editor_model.specs.Values.{Fault}
 use Rattle.editor_model.specs.Editor.{Editor, buffer_at}
 use Rattle.text_model.specs.Commit.{Buffer}
+use Rattle.text_model.specs.Properties.{Cell}
 use Rattle.editor_model.specs.Answers as answers
 use Rattle.editor_model.specs.Commits.{commit, commit_of, commit_tests, changed, outcome}
 use Rattle.editor_model.specs.Answers.{first_fault}
@@ -37,7 +38,8 @@ returns-in-Put-clause-ok c =
     let new = editor_of c.commit_put.new.editor in
     let change = c.args.change.now in
     let meant : answers.Change = record { buffer = change.buffer; from = c.args.from; to = c.args.to; what = what_of change.what; reply = view change.reply } in
-    let done = subst (λ (w : What). Commits c.commit_put.result e new (commit e (record { buffer = change.buffer; from = c.args.from; to = c.args.to; what = what_of w; reply = view change.reply }))) (sym c.in-Put.is) (c.commit_put.ensures (view change.reply)) in
+    let done = subst (λ (w : What). Commits c.commit_put.result e new (commit e (record { buffer = change.buffer; from = c.args.from; to = c.args.to; what = what_of w; reply = view change.reply }))) (sym c.in-Put.is)
+    (subst (λ (t : List Cell). Commits c.commit_put.result e new (commit e (record { buffer = change.buffer; from = c.args.from; to = c.args.to; what = answers.Put t c.in-Put.all.now c.in-Put.point_after.now c.in-Put.widen.now c.in-Put.mark.now; reply = view change.reply }))) c.as_slice-pieces.ensures (c.commit_put.ensures (view change.reply))) in
     c.committed.ensures.ok e new (commit e meant) done
 
 pub returns-in-Put-clause-refused : goal.returns-in-Put-clause-refused
@@ -46,7 +48,8 @@ returns-in-Put-clause-refused c =
     let new = editor_of c.commit_put.new.editor in
     let change = c.args.change.now in
     let meant : answers.Change = record { buffer = change.buffer; from = c.args.from; to = c.args.to; what = what_of change.what; reply = view change.reply } in
-    let done = subst (λ (w : What). Commits c.commit_put.result e new (commit e (record { buffer = change.buffer; from = c.args.from; to = c.args.to; what = what_of w; reply = view change.reply }))) (sym c.in-Put.is) (c.commit_put.ensures (view change.reply)) in
+    let done = subst (λ (w : What). Commits c.commit_put.result e new (commit e (record { buffer = change.buffer; from = c.args.from; to = c.args.to; what = what_of w; reply = view change.reply }))) (sym c.in-Put.is)
+    (subst (λ (t : List Cell). Commits c.commit_put.result e new (commit e (record { buffer = change.buffer; from = c.args.from; to = c.args.to; what = answers.Put t c.in-Put.all.now c.in-Put.point_after.now c.in-Put.widen.now c.in-Put.mark.now; reply = view change.reply }))) c.as_slice-pieces.ensures (c.commit_put.ensures (view change.reply))) in
     IfOk-weaker c.committed.result (λ (x : Committed). record { editor = new; committed = committed_of x } ≡ commit e meant) (λ (x : Committed). IsFailed (committed_of x) → new ≡ e)
     (λ x same failed. failed_still e new (committed_of x) meant same failed)
     (c.committed.ensures.ok e new (commit e meant) done)
@@ -57,7 +60,8 @@ returns-in-Put-clause-err c =
     let new = editor_of c.commit_put.new.editor in
     let change = c.args.change.now in
     let meant : answers.Change = record { buffer = change.buffer; from = c.args.from; to = c.args.to; what = what_of change.what; reply = view change.reply } in
-    let done = subst (λ (w : What). Commits c.commit_put.result e new (commit e (record { buffer = change.buffer; from = c.args.from; to = c.args.to; what = what_of w; reply = view change.reply }))) (sym c.in-Put.is) (c.commit_put.ensures (view change.reply)) in
+    let done = subst (λ (w : What). Commits c.commit_put.result e new (commit e (record { buffer = change.buffer; from = c.args.from; to = c.args.to; what = what_of w; reply = view change.reply }))) (sym c.in-Put.is)
+    (subst (λ (t : List Cell). Commits c.commit_put.result e new (commit e (record { buffer = change.buffer; from = c.args.from; to = c.args.to; what = answers.Put t c.in-Put.all.now c.in-Put.point_after.now c.in-Put.widen.now c.in-Put.mark.now; reply = view change.reply }))) c.as_slice-pieces.ensures (c.commit_put.ensures (view change.reply))) in
     c.committed.ensures.err e new (commit e meant) done
 
 pub returns-in-Props-clause-ok : goal.returns-in-Props-clause-ok

@@ -3,6 +3,7 @@ use Rattle.editor_model.specs.Editor.{Editor, is_live, buffer_at, change_site, c
 use Rattle.text_model.specs.Commit.{Site}
 use Rattle.editor_model.specs.Commits.{put_site}
 use Rattle.editor_model.specs.TextCalls.{narrowed, widened}
+use Rattle.prop_intervals.specs.Sets.{together}
 use Rattle.buffer_table.specs.Kept.{editor_of}
 use Rattle.editor_prims.proofs.Committing.{widened_size, narrowed_back, put_in_widened}
 use Rattle.editor_prims.proofs.Twice.{lives_still}
@@ -34,8 +35,8 @@ pub returns-in-Ok-clause-ok : goal.returns-in-Ok-clause-ok
 returns-in-Ok-clause-ok c =
     let e = editor_of c.args.editor.now in
     c.in-Ok.ensures.ok
-    ∙ ap (change_site c.args.id (put_site c.args.id c.args.from c.args.to c.args.piece.now c.args.all c.args.point_after false)) c.widen.ensures
-    ∙ put_in_widened e c.args.id c.args.from c.args.to c.args.piece.now c.args.all c.args.point_after
+    ∙ ap (change_site c.args.id (put_site c.args.id c.args.from c.args.to (together c.args.pieces.now) c.args.all c.args.point_after false)) c.widen.ensures
+    ∙ put_in_widened e c.args.id c.args.from c.args.to (together c.args.pieces.now) c.args.all c.args.point_after
 
 pub returns-in-Err-clause-err : goal.returns-in-Err-clause-err
 returns-in-Err-clause-err c =

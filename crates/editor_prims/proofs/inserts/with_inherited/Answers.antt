@@ -1,10 +1,15 @@
-use Rattle.std.proofs.Common.{◌≡◌, [], ap, sym, arith, ◌∙◌}
-use Rattle.std.proofs.lemmas.List.{nil_from_length}
-use Rattle.editor_model.specs.TextCalls.{with_inherited}
-use Rattle.editor_prims.proofs.Inheriting.{untouched}
+use Rattle.std.proofs.Common.{◌∙◌, arith}
+use Rattle.editor_prims.proofs.Inheriting.{run_more, runs_all, run_size}
 use Rattle.editor_prims.proofs.inserts.with_inherited.Goals as goal
 
-pub returns-then-is_bare : goal.returns-then-is_bare
-returns-then-is_bare c =
-    let none : c.args.set.now ≡ [] = nil_from_length c.args.set.now (omega (arith, c.len.ensures.exact, c.if-len-eq0.true)) in
-    untouched c.args.piece (c.is_bare.ensures c.if-is_bare.true) ∙ ap (λ s. with_inherited s c.args.piece) (sym none)
+pub runs-preserved : goal.runs-preserved
+runs-preserved c =
+    let more = run_more c.args.set.now c.in_ok-all.all c.props.result.now c.args.piece c.runs.piece c.put_in_run.new.piece c.runs.i c.run_end-end.result c.runs.invariant.done c.runs.invariant.size (omega (arith, c.run_end-end.ensures.behind)) c.run_end-end.ensures.within c.in_ok-all.ensures
+    (λ j a b. c.run_end-end.ensures.same j a b ∙ c.props.ensures) c.in_ok-put_in_run.ensures in
+    record {
+      done = more;
+      size = run_size c.args.set.now c.args.piece c.put_in_run.new.piece c.run_end-end.result (omega (arith, c.run_end-end.ensures.within, c.runs.invariant.size)) more;
+    }
+
+pub returns : goal.returns
+returns c = runs_all c.args.set.now c.args.piece c.runs.piece c.runs.i c.runs.invariant.done c.runs.invariant.size (omega arith)

@@ -1,17 +1,16 @@
-use Rattle.std.proofs.Common.{◌-◌, ◌++◌, sym, ap, ◌∙◌, length, length-take, arith}
-use Rattle.std.specs.Prelude.{replicate, Some}
-use Rattle.std.proofs.lemmas.Option.{slice_get-map}
-use Rattle.prop_intervals.specs.Sets.{sets_in}
+use Rattle.std.proofs.Common.{◌+◌, ◌++◌, ap, ◌∙◌, length, take, sym, arith, refl, ◌<◌}
+use Rattle.std.proofs.lemmas.List.{length-map}
+use Rattle.prop_intervals.specs.Sets.{sets_in, together}
 use Rattle.prop_intervals.proofs.SetLemmas.{length-sets_of}
+use Rattle.std.proofs.lemmas.Option.{slice_get_read}
+use Rattle.prop_intervals.proofs.Together.{length_more, length_within, sets_more}
 use Rattle.prop_intervals.proofs.pieces.runs_of.Goals as goal
 
-pub pushed-requires-clause-fits : goal.pushed-requires-clause-fits
-pushed-requires-clause-fits c =
-    omega (arith, length-sets_of c.loop-i.tree, ap length c.loop-i.invariant.1, length-take c.loop-i.i (sets_in c.args.piece.now), c.end_of_run-end.ensures.behind)
+pub with_piece-requires-clause-fits : goal.with_piece-requires-clause-fits
+with_piece-requires-clause-fits c =
+    let i = c.loop-piece.piece-index in
+    omega (arith, length-sets_of c.loop-piece.tree, ap length c.loop-piece.invariant.0, length-map (together (take i c.args.pieces.now)) (λ d. d.1), length_more c.args.pieces.now i c.piece-item.result (slice_get_read c.args.pieces.now (length c.args.pieces.now) c.loop-piece.piece-index c.piece-item.result refl (omega (arith, c.loop-piece-test.true)) c.piece-item.is), length_within c.args.pieces.now (i + 1), c.requires.fits)
 
-pub loop-i-preserved : goal.loop-i-preserved
-loop-i-preserved c =
-    let sets = sets_in c.args.piece.now in
-    let end = c.end_of_run-end.result in
-    let at = slice_get-map (λ d. d.1) c.args.piece.now c.loop-i.i ∙ c.props.ensures ∙ ap Some (sym c.in_ok-set.ensures) in
-    (c.end_of_run-end.ensures.within, c.in_ok-tree.ensures.sets ∙ ap (λ s. s ++ replicate (end - c.loop-i.i) c.in_ok-set.set) c.loop-i.invariant.1 ∙ sym (c.end_of_run-end.ensures.all c.in_ok-set.set at), c.in_ok-tree.ensures.apart)
+pub loop-piece-preserved : goal.loop-piece-preserved
+loop-piece-preserved c =
+    (c.in_ok-tree.ensures.sets ∙ ap (λ s. s ++ sets_in c.piece-item.result) c.loop-piece.invariant.0 ∙ sym (sets_more c.args.pieces.now c.loop-piece.piece-index c.piece-item.result (slice_get_read c.args.pieces.now (length c.args.pieces.now) c.loop-piece.piece-index c.piece-item.result refl (omega (arith, c.loop-piece-test.true)) c.piece-item.is)), c.in_ok-tree.ensures.apart)

@@ -6,8 +6,8 @@ use Rattle.text_model.specs.Places.{after_insert}
 use Rattle.text_model.specs.Marks.{Marks, move_marks, insertion}
 use Rattle.text_model.specs.Undo.{Undo, Inserted, First, pushed}
 use Rattle.gap_text.specs.Text.{LiesIn, characters}
-use Rattle.prop_intervals.specs.Sets.{sets_in}
-use Rattle.buffer_core.specs.Meaning.{Stored}
+use Rattle.prop_intervals.specs.Sets.{sets_in, together}
+use Rattle.buffer_core.specs.Meaning.{Stored, letters}
 use Rattle.buffer_core.specs.Standing.{AreWithin}
 use Rattle.buffer_core.proofs.Orders.{within_insert}
 use Rattle.buffer_core.proofs.Recorded.{Undoable, undoable-same, undoable-first, undoable-pushed}
@@ -41,8 +41,8 @@ invariant_of-self-in_err-splice c =
       undo = undoable-same c.self.inside.undo.state c.reserve-2.new.self.state c.in_ok-reserve-2.ensures.state c.self.invariant.undo;
     }
 
-pub insert-requires-clause-place : goal.insert-requires-clause-place
-insert-requires-clause-place c =
+pub put_characters-requires-clause-place : goal.put_characters-requires-clause-place
+put_characters-requires-clause-place c =
     let lies : LiesIn c.args.pool.now c.self.inside.text = subst (λ (b : Stored). LiesIn c.args.pool.now b.text) (sym c.self.view_is) c.requires.lies in
     let size : length (characters c.args.pool.now c.self.inside.text) ≡ length c.self.inside.props = text_size c.args.pool.now c.self.inside.text c.self.inside.props lies c.self.invariant.size in
     let sets : length c.self.inside.props ≡ length c.args.self.now.sets = ap (λ (b : Stored). length b.sets) c.self.view_is in
@@ -55,9 +55,11 @@ bounds_after_insert-self-inside-requires c =
     let size : length (characters c.args.pool.now c.self.inside.text) ≡ length c.self.inside.props = text_size c.args.pool.now c.self.inside.text c.self.inside.props lies c.self.invariant.size in
     let sets : length c.self.inside.props ≡ length c.args.self.now.sets = ap (λ (b : Stored). length b.sets) c.self.view_is in
     let same : length (characters c.reserve.new.pool c.reserve.new.self) ≡ length c.self.inside.props = ap length c.in_ok-reserve.ensures.characters ∙ size in
-    let fits : c.len-n.result + length c.self.inside.props < 2 ^ 64 =
-    counted c.args.at c.len-n.result (length c.self.inside.props) c.len-size.result (characters c.reserve.new.pool c.reserve.new.self) (characters c.insert.new.pool c.insert.new.self) c.text-text.result.now.items
-    (omega (arith, c.requires.place)) same c.len-n.ensures c.insert.ensures.characters (c.len-size.ensures.characters c.insert.new.pool c.insert.ensures.lies) c.len-size.type_inv in
+    let n : c.in-Some.n ≡ length (together c.args.pieces.now) = c.in-Some.ensures.some in
+    let letters_n : c.in-Some.n ≡ length (letters (together c.args.pieces.now)) = n ∙ sym (length-map (together c.args.pieces.now) (λ (x : Cell). x.0)) in
+    let fits : c.in-Some.n + length c.self.inside.props < 2 ^ 64 =
+    counted c.args.at c.in-Some.n (length c.self.inside.props) c.len-size.result (characters c.reserve.new.pool c.reserve.new.self) (characters c.put_characters.new.pool c.put_characters.new.text) (letters (together c.args.pieces.now))
+    (omega (arith, c.requires.place)) same letters_n c.put_characters.ensures.characters (c.len-size.ensures.characters c.put_characters.new.pool c.put_characters.ensures.lies) c.len-size.type_inv in
     omega (arith, c.self.invariant.end)
 
 pub overflow_add-at : goal.overflow_add-at
@@ -66,9 +68,11 @@ overflow_add-at c =
     let size : length (characters c.args.pool.now c.self.inside.text) ≡ length c.self.inside.props = text_size c.args.pool.now c.self.inside.text c.self.inside.props lies c.self.invariant.size in
     let sets : length c.self.inside.props ≡ length c.args.self.now.sets = ap (λ (b : Stored). length b.sets) c.self.view_is in
     let same : length (characters c.reserve.new.pool c.reserve.new.self) ≡ length c.self.inside.props = ap length c.in_ok-reserve.ensures.characters ∙ size in
-    let fits : c.len-n.result + length c.self.inside.props < 2 ^ 64 =
-    counted c.args.at c.len-n.result (length c.self.inside.props) c.len-size.result (characters c.reserve.new.pool c.reserve.new.self) (characters c.insert.new.pool c.insert.new.self) c.text-text.result.now.items
-    (omega (arith, c.requires.place)) same c.len-n.ensures c.insert.ensures.characters (c.len-size.ensures.characters c.insert.new.pool c.insert.ensures.lies) c.len-size.type_inv in
+    let n : c.in-Some.n ≡ length (together c.args.pieces.now) = c.in-Some.ensures.some in
+    let letters_n : c.in-Some.n ≡ length (letters (together c.args.pieces.now)) = n ∙ sym (length-map (together c.args.pieces.now) (λ (x : Cell). x.0)) in
+    let fits : c.in-Some.n + length c.self.inside.props < 2 ^ 64 =
+    counted c.args.at c.in-Some.n (length c.self.inside.props) c.len-size.result (characters c.reserve.new.pool c.reserve.new.self) (characters c.put_characters.new.pool c.put_characters.new.text) (letters (together c.args.pieces.now))
+    (omega (arith, c.requires.place)) same letters_n c.put_characters.ensures.characters (c.len-size.ensures.characters c.put_characters.new.pool c.put_characters.ensures.lies) c.len-size.type_inv in
     omega (arith, c.requires.place)
 
 pub note_insert-requires : goal.note_insert-requires
@@ -77,10 +81,12 @@ note_insert-requires c =
     let size : length (characters c.args.pool.now c.self.inside.text) ≡ length c.self.inside.props = text_size c.args.pool.now c.self.inside.text c.self.inside.props lies c.self.invariant.size in
     let sets : length c.self.inside.props ≡ length c.args.self.now.sets = ap (λ (b : Stored). length b.sets) c.self.view_is in
     let same : length (characters c.reserve.new.pool c.reserve.new.self) ≡ length c.self.inside.props = ap length c.in_ok-reserve.ensures.characters ∙ size in
-    let fits : c.len-n.result + length c.self.inside.props < 2 ^ 64 =
-    counted c.args.at c.len-n.result (length c.self.inside.props) c.len-size.result (characters c.reserve.new.pool c.reserve.new.self) (characters c.insert.new.pool c.insert.new.self) c.text-text.result.now.items
-    (omega (arith, c.requires.place)) same c.len-n.ensures c.insert.ensures.characters (c.len-size.ensures.characters c.insert.new.pool c.insert.ensures.lies) c.len-size.type_inv in
-    room_within c.args.id c.len-n.result (length c.args.self.now.sets) c.args.marks.now c.requires.marks (omega arith)
+    let n : c.in-Some.n ≡ length (together c.args.pieces.now) = c.in-Some.ensures.some in
+    let letters_n : c.in-Some.n ≡ length (letters (together c.args.pieces.now)) = n ∙ sym (length-map (together c.args.pieces.now) (λ (x : Cell). x.0)) in
+    let fits : c.in-Some.n + length c.self.inside.props < 2 ^ 64 =
+    counted c.args.at c.in-Some.n (length c.self.inside.props) c.len-size.result (characters c.reserve.new.pool c.reserve.new.self) (characters c.put_characters.new.pool c.put_characters.new.text) (letters (together c.args.pieces.now))
+    (omega (arith, c.requires.place)) same letters_n c.put_characters.ensures.characters (c.len-size.ensures.characters c.put_characters.new.pool c.put_characters.ensures.lies) c.len-size.type_inv in
+    room_within c.args.id c.in-Some.n (length c.args.self.now.sets) c.args.marks.now c.requires.marks (omega arith)
 
 pub invariant_of-self-2 : goal.invariant_of-self-2
 invariant_of-self-2 c =
@@ -88,25 +94,26 @@ invariant_of-self-2 c =
     let size : length (characters c.args.pool.now c.self.inside.text) ≡ length c.self.inside.props = text_size c.args.pool.now c.self.inside.text c.self.inside.props lies c.self.invariant.size in
     let sets : length c.self.inside.props ≡ length c.args.self.now.sets = ap (λ (b : Stored). length b.sets) c.self.view_is in
     let same : length (characters c.reserve.new.pool c.reserve.new.self) ≡ length c.self.inside.props = ap length c.in_ok-reserve.ensures.characters ∙ size in
-    let fits : c.len-n.result + length c.self.inside.props < 2 ^ 64 =
-    counted c.args.at c.len-n.result (length c.self.inside.props) c.len-size.result (characters c.reserve.new.pool c.reserve.new.self) (characters c.insert.new.pool c.insert.new.self) c.text-text.result.now.items
-    (omega (arith, c.requires.place)) same c.len-n.ensures c.insert.ensures.characters (c.len-size.ensures.characters c.insert.new.pool c.insert.ensures.lies) c.len-size.type_inv in
-    let n : c.len-n.result ≡ length c.args.piece.now = c.len-n.ensures ∙ ap length c.text-text.ensures ∙ length-map c.args.piece.now (λ (x : Cell). x.0) in
-    let more : length (sets_in c.args.piece.now) ≡ length c.args.piece.now = length-map c.args.piece.now (λ (x : Cell). x.1) in
-    let spliced : length c.splice.new.self ≡ length c.self.inside.props - (c.args.at - c.args.at) + length (sets_in c.args.piece.now) =
-    ap length c.in_ok-splice.ensures.ok ∙ length-spliced c.args.at c.args.at c.self.inside.props (sets_in c.args.piece.now) (omega arith) (omega (arith, c.requires.place)) in
-    let whole : length c.splice.new.self ≡ length c.self.inside.props + c.len-n.result = omega arith in
+    let n : c.in-Some.n ≡ length (together c.args.pieces.now) = c.in-Some.ensures.some in
+    let letters_n : c.in-Some.n ≡ length (letters (together c.args.pieces.now)) = n ∙ sym (length-map (together c.args.pieces.now) (λ (x : Cell). x.0)) in
+    let fits : c.in-Some.n + length c.self.inside.props < 2 ^ 64 =
+    counted c.args.at c.in-Some.n (length c.self.inside.props) c.len-size.result (characters c.reserve.new.pool c.reserve.new.self) (characters c.put_characters.new.pool c.put_characters.new.text) (letters (together c.args.pieces.now))
+    (omega (arith, c.requires.place)) same letters_n c.put_characters.ensures.characters (c.len-size.ensures.characters c.put_characters.new.pool c.put_characters.ensures.lies) c.len-size.type_inv in
+    let more : length (sets_in (together c.args.pieces.now)) ≡ length (together c.args.pieces.now) = length-map (together c.args.pieces.now) (λ (x : Cell). x.1) in
+    let spliced : length c.splice.new.self ≡ length c.self.inside.props - (c.args.at - c.args.at) + length (sets_in (together c.args.pieces.now)) =
+    ap length c.in_ok-splice.ensures.ok ∙ length-spliced c.args.at c.args.at c.self.inside.props (sets_in (together c.args.pieces.now)) (omega arith) (omega (arith, c.requires.place)) in
+    let whole : length c.splice.new.self ≡ length c.self.inside.props + c.in-Some.n = omega arith in
     let room : length c.self.inside.props + c.reserve.new.self.spare ≡ 256 * length c.reserve.new.self.blocks = sized c.reserve.new.pool c.reserve.new.self (length c.self.inside.props) c.in_ok-reserve.ensures.lies same in
-    let blocks : length c.insert.new.self.blocks ≡ length c.reserve.new.self.blocks = ap length c.insert.ensures.blocks in
-    let end : after_insert c.args.at c.len-n.result true c.self.inside.bounds.end ≤ length c.self.inside.props + c.len-n.result =
-    within_insert c.args.at c.len-n.result c.self.inside.bounds.end (length c.self.inside.props) true (omega (arith, c.requires.place)) c.self.invariant.end in
+    let blocks : length c.put_characters.new.text.blocks ≡ length c.reserve.new.self.blocks = ap length c.put_characters.ensures.blocks in
+    let end : after_insert c.args.at c.in-Some.n true c.self.inside.bounds.end ≤ length c.self.inside.props + c.in-Some.n =
+    within_insert c.args.at c.in-Some.n c.self.inside.bounds.end (length c.self.inside.props) true (omega (arith, c.requires.place)) c.self.invariant.end in
     record {
-      size = omega (arith, c.insert.ensures.spare, c.len-n.ensures);
+      size = omega (arith, c.put_characters.ensures.spare, n);
       begin = c.bounds_after_insert-self-inside.result.point_after_start;
       point = c.bounds_after_insert-self-inside.result.point_before_end;
       end = omega (arith, c.bounds_after_insert-self-inside.ensures.end);
       undo = subst (λ (u : Undo). Undoable u.entries) (sym c.push_reserved.ensures.state)
-          (undoable-pushed (Inserted c.args.at (c.args.at + c.len-n.result)) c.push_first.new.undo.state (omega arith)
+          (undoable-pushed (Inserted c.args.at (c.args.at + c.in-Some.n)) c.push_first.new.undo.state (omega arith)
           (undoable-first c.self.inside.modified c.reserve-2.new.self.state c.push_first.new.undo.state c.push_first.ensures.state
           (undoable-same c.self.inside.undo.state c.reserve-2.new.self.state c.in_ok-reserve-2.ensures.state c.self.invariant.undo)));
     }
@@ -115,17 +122,16 @@ pub returns-clause-ok : goal.returns-clause-ok
 returns-clause-ok c =
     let lies : LiesIn c.args.pool.now c.self.inside.text = subst (λ (b : Stored). LiesIn c.args.pool.now b.text) (sym c.self.view_is) c.requires.lies in
     let size : length (characters c.args.pool.now c.self.inside.text) ≡ length c.self.inside.props = text_size c.args.pool.now c.self.inside.text c.self.inside.props lies c.self.invariant.size in
-    let n : c.len-n.result ≡ length c.args.piece.now = c.len-n.ensures ∙ ap length c.text-text.ensures ∙ length-map c.args.piece.now (λ (x : Cell). x.0) in
+    let n : c.in-Some.n ≡ length (together c.args.pieces.now) = c.in-Some.ensures.some in
     rw (← c.self.view_is)
-    (inserted_site c.args.id c.args.at c.len-n.result c.args.piece.now c.args.all c.args.advances c.args.pool.now c.insert.new.pool
+    (inserted_site c.args.id c.args.at c.in-Some.n (together c.args.pieces.now) c.args.all c.args.advances c.args.pool.now c.put_characters.new.pool
     (record { text = c.self.inside.text; sets = c.self.inside.props; begin = c.self.inside.bounds.start; end = c.self.inside.bounds.end; point = c.self.inside.bounds.point; modified = c.self.inside.modified; undo = c.self.inside.undo })
-    (record { text = c.insert.new.self; sets = c.splice.new.self; begin = c.bounds_after_insert-self-inside.result.start; end = c.bounds_after_insert-self-inside.result.end; point = c.bounds_after_insert-self-inside.result.point; modified = true; undo = c.push_reserved.new.undo })
+    (record { text = c.put_characters.new.text; sets = c.splice.new.self; begin = c.bounds_after_insert-self-inside.result.start; end = c.bounds_after_insert-self-inside.result.end; point = c.bounds_after_insert-self-inside.result.point; modified = true; undo = c.push_reserved.new.undo })
     c.args.marks.now c.note_insert.new.self n size
-    (c.insert.ensures.characters ∙ ap (λ t. take c.args.at t ++ (c.text-text.result.now.items ++ drop c.args.at t)) c.in_ok-reserve.ensures.characters
-    ∙ ap (λ t. take c.args.at (characters c.args.pool.now c.self.inside.text) ++ (t ++ drop c.args.at (characters c.args.pool.now c.self.inside.text))) c.text-text.ensures)
+    (c.put_characters.ensures.characters ∙ ap (λ t. take c.args.at t ++ (letters (together c.args.pieces.now) ++ drop c.args.at t)) c.in_ok-reserve.ensures.characters)
     c.in_ok-splice.ensures.ok
     c.bounds_after_insert-self-inside.ensures.start c.bounds_after_insert-self-inside.ensures.end c.bounds_after_insert-self-inside.ensures.point refl
-    (first_pushed c.self.inside.modified (Inserted c.args.at (c.args.at + c.len-n.result) ∷ []) c.self.inside.undo.state c.push_first.new.undo.state c.push_reserved.new.undo.state
+    (first_pushed c.self.inside.modified (Inserted c.args.at (c.args.at + c.in-Some.n) ∷ []) c.self.inside.undo.state c.push_first.new.undo.state c.push_reserved.new.undo.state
     (c.push_first.ensures.state ∙ ap (λ (u : Undo). if c.self.inside.modified then u else pushed First u) c.in_ok-reserve-2.ensures.state)
     c.push_reserved.ensures.state)
     c.note_insert.ensures)
@@ -136,14 +142,15 @@ returns-clause-marks c =
     let size : length (characters c.args.pool.now c.self.inside.text) ≡ length c.self.inside.props = text_size c.args.pool.now c.self.inside.text c.self.inside.props lies c.self.invariant.size in
     let sets : length c.self.inside.props ≡ length c.args.self.now.sets = ap (λ (b : Stored). length b.sets) c.self.view_is in
     let same : length (characters c.reserve.new.pool c.reserve.new.self) ≡ length c.self.inside.props = ap length c.in_ok-reserve.ensures.characters ∙ size in
-    let fits : c.len-n.result + length c.self.inside.props < 2 ^ 64 =
-    counted c.args.at c.len-n.result (length c.self.inside.props) c.len-size.result (characters c.reserve.new.pool c.reserve.new.self) (characters c.insert.new.pool c.insert.new.self) c.text-text.result.now.items
-    (omega (arith, c.requires.place)) same c.len-n.ensures c.insert.ensures.characters (c.len-size.ensures.characters c.insert.new.pool c.insert.ensures.lies) c.len-size.type_inv in
-    let n : c.len-n.result ≡ length c.args.piece.now = c.len-n.ensures ∙ ap length c.text-text.ensures ∙ length-map c.args.piece.now (λ (x : Cell). x.0) in
-    let more : length (sets_in c.args.piece.now) ≡ length c.args.piece.now = length-map c.args.piece.now (λ (x : Cell). x.1) in
-    let spliced : length c.splice.new.self ≡ length c.self.inside.props - (c.args.at - c.args.at) + length (sets_in c.args.piece.now) =
-    ap length c.in_ok-splice.ensures.ok ∙ length-spliced c.args.at c.args.at c.self.inside.props (sets_in c.args.piece.now) (omega arith) (omega (arith, c.requires.place)) in
-    let whole : length c.splice.new.self ≡ length c.self.inside.props + c.len-n.result = omega arith in
+    let n : c.in-Some.n ≡ length (together c.args.pieces.now) = c.in-Some.ensures.some in
+    let letters_n : c.in-Some.n ≡ length (letters (together c.args.pieces.now)) = n ∙ sym (length-map (together c.args.pieces.now) (λ (x : Cell). x.0)) in
+    let fits : c.in-Some.n + length c.self.inside.props < 2 ^ 64 =
+    counted c.args.at c.in-Some.n (length c.self.inside.props) c.len-size.result (characters c.reserve.new.pool c.reserve.new.self) (characters c.put_characters.new.pool c.put_characters.new.text) (letters (together c.args.pieces.now))
+    (omega (arith, c.requires.place)) same letters_n c.put_characters.ensures.characters (c.len-size.ensures.characters c.put_characters.new.pool c.put_characters.ensures.lies) c.len-size.type_inv in
+    let more : length (sets_in (together c.args.pieces.now)) ≡ length (together c.args.pieces.now) = length-map (together c.args.pieces.now) (λ (x : Cell). x.1) in
+    let spliced : length c.splice.new.self ≡ length c.self.inside.props - (c.args.at - c.args.at) + length (sets_in (together c.args.pieces.now)) =
+    ap length c.in_ok-splice.ensures.ok ∙ length-spliced c.args.at c.args.at c.self.inside.props (sets_in (together c.args.pieces.now)) (omega arith) (omega (arith, c.requires.place)) in
+    let whole : length c.splice.new.self ≡ length c.self.inside.props + c.in-Some.n = omega arith in
     subst (λ (m : Marks). AreWithin c.args.id (length c.splice.new.self) m) (sym c.note_insert.ensures)
-    (subst (λ k. AreWithin c.args.id k (move_marks c.args.id c.args.all (insertion c.args.at c.len-n.result) c.args.marks.now)) (let e : length c.args.self.now.sets + c.len-n.result ≡ length c.splice.new.self = omega arith in e)
-    (within_inserted c.args.id c.args.at c.len-n.result (length c.args.self.now.sets) c.args.all c.args.marks.now c.requires.place c.requires.marks))
+    (subst (λ k. AreWithin c.args.id k (move_marks c.args.id c.args.all (insertion c.args.at c.in-Some.n) c.args.marks.now)) (let e : length c.args.self.now.sets + c.in-Some.n ≡ length c.splice.new.self = omega arith in e)
+    (within_inserted c.args.id c.args.at c.in-Some.n (length c.args.self.now.sets) c.args.all c.args.marks.now c.requires.place c.requires.marks))

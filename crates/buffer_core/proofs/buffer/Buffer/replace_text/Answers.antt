@@ -1,11 +1,12 @@
 use Rattle.std.proofs.Common.{sym, ap, ◌∙◌}
 use Rattle.text_model.specs.Commit.{no_pending}
+use Rattle.prop_intervals.specs.Sets.{together}
 use Rattle.buffer_core.specs.Meaning.{site_of}
 use Rattle.buffer_core.proofs.Sites.{dropped_site, replaced_insertion}
 use Rattle.buffer_core.proofs.buffer.Buffer.replace_text.Goals as goal
 
 pub returns-in_ok-insert-clause-ok : goal.returns-in_ok-insert-clause-ok
 returns-in_ok-insert-clause-ok c =
-    dropped_site c.insert.new.pool _ c.insert.new.self c.drop_pending-then-not-is_empty.new.self c.insert.new.marks c.self-then-not-is_empty.view_is c.drop_pending-then-not-is_empty.ensures.state
+    dropped_site c.insert.new.pool _ c.insert.new.self c.drop_pending-then-not-are_empty.new.self c.insert.new.marks c.self-then-not-are_empty.view_is c.drop_pending-then-not-are_empty.ensures.state
     ∙ ap no_pending c.in_ok-insert.ensures.ok
-    ∙ sym (replaced_insertion c.args.id c.args.from c.args.to c.args.with.now c.args.all (site_of c.args.pool.now c.args.self.now c.args.marks.now) (sym c.is_empty.ensures ∙ c.if-not-is_empty.true))
+    ∙ sym (replaced_insertion c.args.id c.args.from c.args.to (together c.args.with.now) c.args.all (site_of c.args.pool.now c.args.self.now c.args.marks.now) (sym c.are_empty.ensures ∙ c.if-not-are_empty.true))

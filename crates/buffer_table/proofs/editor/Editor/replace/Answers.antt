@@ -12,6 +12,7 @@ use Rattle.editor_model.specs.Editor.{Editor, change_site, change_buffer}
 use Rattle.gap_text.specs.Text.{LiesIn, characters}
 use Rattle.ek_types.specs.Seen.{ch_of}
 use Rattle.prop_intervals.specs.Edits.{edit_of}
+use Rattle.prop_intervals.specs.Sets.{together}
 use Rattle.narrow_region.specs.Positions.{place_of}
 use Rattle.buffer_core.specs.Changes.{is_some_record}
 use Rattle.buffer_core.specs.Meaning.{Stored, site_of, buffer_of}
@@ -58,7 +59,7 @@ invariant_of-self c =
     let kept : Kept = (record { buffers = c.self.inside.buffers.items; current = c.self.inside.current; marks = c.self.inside.marks; registers = c.self.inside.registers.items; pool = c.self.inside.pool; lifted = c.self.inside.lifted }) in
     let here : Lives c.self.inside.buffers.items c.args.id n = lives ∙ ap (λ (m : Named). Some (Some m)) (sym c.live.view_is) in
     let changes : Changes c.args.id c.live.inside.buffer c.replace.new.self c.self.inside.marks c.replace.new.marks c.self.inside.pool c.replace.new.pool =
-    replace_changes c.replace.result c.args.id c.args.from c.args.to c.args.with.now c.args.all c.live.inside.buffer c.replace.new.self c.self.inside.marks c.replace.new.marks c.self.inside.pool c.replace.new.pool
+    replace_changes c.replace.result c.args.id c.args.from c.args.to (together c.args.with.now) c.args.all c.live.inside.buffer c.replace.new.self c.self.inside.marks c.replace.new.marks c.self.inside.pool c.replace.new.pool
     c.replace.ensures.lies c.replace.ensures.blocks c.replace.ensures.marks c.replace.ensures.ok c.replace.ensures.err in
     kept_after kept c.args.id n c.replace.new.self c.replace.new.marks c.replace.new.pool c.self.invariant here changes
 
@@ -70,11 +71,11 @@ returns-clause-ok c =
     let kept : Kept = (record { buffers = c.self.inside.buffers.items; current = c.self.inside.current; marks = c.self.inside.marks; registers = c.self.inside.registers.items; pool = c.self.inside.pool; lifted = c.self.inside.lifted }) in
     let here : Lives c.self.inside.buffers.items c.args.id n = lives ∙ ap (λ (m : Named). Some (Some m)) (sym c.live.view_is) in
     let changes : Changes c.args.id c.live.inside.buffer c.replace.new.self c.self.inside.marks c.replace.new.marks c.self.inside.pool c.replace.new.pool =
-    replace_changes c.replace.result c.args.id c.args.from c.args.to c.args.with.now c.args.all c.live.inside.buffer c.replace.new.self c.self.inside.marks c.replace.new.marks c.self.inside.pool c.replace.new.pool
+    replace_changes c.replace.result c.args.id c.args.from c.args.to (together c.args.with.now) c.args.all c.live.inside.buffer c.replace.new.self c.self.inside.marks c.replace.new.marks c.self.inside.pool c.replace.new.pool
     c.replace.ensures.lies c.replace.ensures.blocks c.replace.ensures.marks c.replace.ensures.ok c.replace.ensures.err in
     on_ok_weaker c.replace.result
-    (λ e. editor_after kept c.args.id n c.replace.new.self c.replace.new.marks c.replace.new.pool (replaced c.args.id c.args.from c.args.to c.args.with.now c.args.all) c.self.invariant here changes e
-    ∙ ap (λ (k : Kept). change_site c.args.id (replaced c.args.id c.args.from c.args.to c.args.with.now c.args.all) (editor_of k)) c.self.view_is)
+    (λ e. editor_after kept c.args.id n c.replace.new.self c.replace.new.marks c.replace.new.pool (replaced c.args.id c.args.from c.args.to (together c.args.with.now) c.args.all) c.self.invariant here changes e
+    ∙ ap (λ (k : Kept). change_site c.args.id (replaced c.args.id c.args.from c.args.to (together c.args.with.now) c.args.all) (editor_of k)) c.self.view_is)
     c.replace.ensures.ok
 
 pub returns-clause-err : goal.returns-clause-err
@@ -85,7 +86,7 @@ returns-clause-err c =
     let kept : Kept = (record { buffers = c.self.inside.buffers.items; current = c.self.inside.current; marks = c.self.inside.marks; registers = c.self.inside.registers.items; pool = c.self.inside.pool; lifted = c.self.inside.lifted }) in
     let here : Lives c.self.inside.buffers.items c.args.id n = lives ∙ ap (λ (m : Named). Some (Some m)) (sym c.live.view_is) in
     let changes : Changes c.args.id c.live.inside.buffer c.replace.new.self c.self.inside.marks c.replace.new.marks c.self.inside.pool c.replace.new.pool =
-    replace_changes c.replace.result c.args.id c.args.from c.args.to c.args.with.now c.args.all c.live.inside.buffer c.replace.new.self c.self.inside.marks c.replace.new.marks c.self.inside.pool c.replace.new.pool
+    replace_changes c.replace.result c.args.id c.args.from c.args.to (together c.args.with.now) c.args.all c.live.inside.buffer c.replace.new.self c.self.inside.marks c.replace.new.marks c.self.inside.pool c.replace.new.pool
     c.replace.ensures.lies c.replace.ensures.blocks c.replace.ensures.marks c.replace.ensures.ok c.replace.ensures.err in
     on_err_weaker c.replace.result
     (λ e. editor_same kept c.args.id n c.replace.new.self c.replace.new.marks c.replace.new.pool c.self.invariant here changes e ∙ ap editor_of c.self.view_is)

@@ -1,6 +1,6 @@
 use Rattle.std.proofs.Common.{◌≡◌, ◌-◌, ◌++◌, length, map, take, drop}
 use Rattle.text_model.specs.Properties.{put_all}
-use Rattle.editor_prims.proofs.inserts.put_beneath.Given as goal
+use Rattle.editor_prims.proofs.inserts.with_inherited.Given as goal
 
 abbrev pub invariant-runs : goal.invariant-runs
 invariant-runs l = record {
