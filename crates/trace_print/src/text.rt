@@ -10,6 +10,9 @@ use crate::escapes::{plain, plain_code, show};
 use ek_types::{Ch, Chars, Piece, Sink};
 use sink_printer::Printer;
 
+/// How many characters are written at once where they are shown as they are.
+pub(crate) const AT_ONCE: usize = 32;
+
 /// Characters in order, counted from 0.
 pub(crate) trait Characters {
     ghost chars: { Self → List Character };
@@ -20,6 +23,15 @@ pub(crate) trait Characters {
     fn character(&self, i: usize) -> Ch
         requires { i < length (chars self.now) }
         ensures { slice_get (chars self.now) i ≡ Some (ch_of result) };
+
+    /// Copies characters from character `i` on that are shown as they are to the front of `out`, up to the first other one
+    /// or as many as fit, and says how many.
+    fn plain(&self, i: usize, out: &mut [u8; AT_ONCE]) -> usize
+        requires { i < length (chars self.now) }
+        ensures bytes { take result out.new ≡
+            flat_map shown_ch (take result (drop i (chars self.now))) }
+        ensures fits { result ≤ 32 }
+        ensures range { i + result ≤ length (chars self.now) };
 
     /// The codes of some characters from character `i` on, or of none where they aren't kept as codes.
     fn codes(&self, i: usize) -> &[u32]
@@ -36,6 +48,10 @@ impl Characters for Chars {
 
     fn character(&self, i: usize) -> Ch {
         self.at(i)
+    }
+
+    fn plain(&self, i: usize, out: &mut [u8; AT_ONCE]) -> usize {
+        plain_from(self, i, out)
     }
 
     fn codes(&self, _i: usize) -> &[u32] {
@@ -56,13 +72,14 @@ impl Characters for Piece {
         self.ch(i)
     }
 
+    fn plain(&self, i: usize, out: &mut [u8; AT_ONCE]) -> usize {
+        plain_from(self.text(), i, out)
+    }
+
     fn codes(&self, _i: usize) -> &[u32] {
         &[]
     }
 }
-
-/// How many characters are written at once where they are shown as they are.
-const AT_ONCE: usize = 32;
 
 /// Whether the character of a code is shown as it is, by one byte.
 fn is_plain(code: u32) -> bool {
@@ -70,7 +87,7 @@ fn is_plain(code: u32) -> bool {
 }
 
 /// Copies characters that are shown as they are to the front of `out`, up to the first other one, and says how many.
-fn copy_plain(codes: &[u32], out: &mut [u8; AT_ONCE]) -> usize
+pub(crate) fn copy_plain(codes: &[u32], out: &mut [u8; AT_ONCE]) -> usize
     ensures bytes { (chars : List Character) → codes.now ≡ map code chars →
         take result out.new ≡ flat_map shown_ch (take result chars) }
     ensures fits { result ≤ 32 }
@@ -79,6 +96,25 @@ fn copy_plain(codes: &[u32], out: &mut [u8; AT_ONCE]) -> usize
     let mut n = 0;
     while n < AT_ONCE && n < codes.len() {
         let Some(byte) = plain_code(codes[n]) else {
+            return n;
+        };
+        out[n] = byte;
+        n += 1;
+    }
+    n
+}
+
+/// The same of the characters of a list from character `i` on.
+fn plain_from(chars: &Chars, i: usize, out: &mut [u8; AT_ONCE]) -> usize
+    requires { i < length chars.now.items }
+    ensures bytes { take result out.new ≡ flat_map shown_ch (take result (drop i chars.now.items)) }
+    ensures fits { result ≤ 32 }
+    ensures range { i + result ≤ length chars.now.items }
+{
+    let size = chars.len();
+    let mut n = 0;
+    while n < AT_ONCE && i + n < size {
+        let Some(byte) = plain(chars.at(i + n)) else {
             return n;
         };
         out[n] = byte;
@@ -105,18 +141,6 @@ fn encoded<K: Sink>(out: &mut Printer<'_, K>, c: Ch)
     out.put(&bytes[..size]);
 }
 
-/// Writes characters that are shown as they are, up to the first other one, and says how many.
-fn plain_run<K: Sink>(out: &mut Printer<'_, K>, codes: &[u32]) -> usize
-    ensures prints { (chars : List Character) → codes.now ≡ map code chars →
-        Prints K.state out.old out.new (flat_map shown_ch (take result chars)) }
-    ensures range { result ≤ length codes.now }
-{
-    let mut bytes = [0u8; AT_ONCE];
-    let count = copy_plain(codes, &mut bytes);
-    out.put(&bytes[..count]);
-    count
-}
-
 /// Writes what stands for the characters of some codes, up to the first that is shown as it is or is no scalar value,
 /// and says for how many.
 fn scalars<K: Sink>(out: &mut Printer<'_, K>, codes: &[u32]) -> usize
@@ -136,20 +160,6 @@ fn scalars<K: Sink>(out: &mut Printer<'_, K>, codes: &[u32]) -> usize
     codes.len()
 }
 
-/// Writes what stands for some of these characters, for none only where the first is no scalar value, and says for how
-/// many.
-fn some_codes<K: Sink>(out: &mut Printer<'_, K>, codes: &[u32]) -> usize
-    ensures prints { (chars : List Character) → codes.now ≡ map code chars →
-        Prints K.state out.old out.new (flat_map shown_ch (take result chars)) }
-    ensures range { result ≤ length codes.now }
-{
-    let plain = plain_run(out, codes);
-    if plain > 0 {
-        return plain;
-    }
-    scalars(out, codes)
-}
-
 /// Writes what stands for some characters from character `i` on, for one at least, and says for how many.
 fn some_characters<K: Sink, T: Characters>(out: &mut Printer<'_, K>, text: &T, i: usize) -> usize
     requires { i < length (T.chars text.now) }
@@ -158,9 +168,15 @@ fn some_characters<K: Sink, T: Characters>(out: &mut Printer<'_, K>, text: &T, i
     ensures some { 0 < result }
     ensures range { i + result ≤ length (T.chars text.now) }
 {
-    let count = some_codes(out, text.codes(i));
-    if count > 0 {
-        return count;
+    let mut bytes = [0u8; AT_ONCE];
+    let plain = text.plain(i, &mut bytes);
+    if plain > 0 {
+        out.put(&bytes[..plain]);
+        return plain;
+    }
+    let others = scalars(out, text.codes(i));
+    if others > 0 {
+        return others;
     }
     shown(out, text.character(i));
     1
