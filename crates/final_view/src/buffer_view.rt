@@ -6,27 +6,10 @@ ghost use Rattle.buffer_table.specs.Kept.{editor_of};
 ghost use Rattle.final_view.specs.Faults.{Views};
 ghost use Rattle.final_view.specs.Shown.{shown};
 
-use crate::characters::Text;
 use crate::fault::ViewFault;
 use crate::show::show;
-use buffer_table::{BufferText, Editor};
-use ek_types::{Ch, PropSet, Sink};
-
-impl Text for BufferText<'_> {
-    ghost cells = { λ t. t.buffer.text };
-
-    fn ch(&self, i: usize) -> Ch {
-        self.ch(i)
-    }
-
-    fn props(&self, i: usize) -> &PropSet {
-        self.props(i)
-    }
-
-    fn run_end(&self, i: usize) -> usize {
-        self.run_end(i)
-    }
-}
+use buffer_table::Editor;
+use ek_types::Sink;
 
 /// Writes the accessible portion of a live buffer as it is seen: without the characters whose `invisible` isn't nil, with the
 /// strings of its overlays ("Invisible Text" and "Overlay Properties" in the GNU Emacs Lisp Reference Manual). A sink that failed has a

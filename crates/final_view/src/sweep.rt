@@ -6,9 +6,10 @@ ghost use Rattle.final_view.specs.Showing.{Shows};
 ghost use Rattle.final_view.specs.Marks.{IsMade, Rises, start_key, end_key};
 ghost use Rattle.final_view.specs.Scenes.{Fits};
 
-use crate::characters::{Text, stretch};
+use crate::characters::stretch;
 use crate::mark::Mark;
 use crate::strings::{Started, close, open};
+use buffer_table::BufferText;
 use ek_types::Sink;
 use overlay_set::Overlays;
 use sink_printer::Printer;
@@ -44,9 +45,9 @@ fn next_end(closers: &[Mark], next: usize, to: usize) -> usize
 }
 
 /// Writes what is shown of a part of a text, from one place at which an overlay starts or ends to the next.
-pub(crate) fn sweep<K: Sink, T: Text>(
+pub(crate) fn sweep<K: Sink>(
     out: &mut Printer<'_, K>,
-    text: &T,
+    text: &BufferText<'_>,
     overlays: &Overlays,
     openers: &[Mark],
     closers: &[Mark],
@@ -54,14 +55,14 @@ pub(crate) fn sweep<K: Sink, T: Text>(
     last: usize,
 )
     requires order { first ≤ last }
-    requires within { last ≤ length (T.cells text.now) }
+    requires within { last ≤ length text.now.buffer.text }
     requires openers_made { All (IsMade overlays.now) openers.now }
     requires closers_made { All (IsMade overlays.now) closers.now }
     requires starts { Rises start_key 0 openers.now }
     requires ends { Rises end_key 0 closers.now }
     ensures { (scene : Scene) → Fits overlays.now openers.now closers.now first last scene →
         Shows K.state out.old out.new
-        (shown_from scene first (part first last (T.cells text.now))) }
+        (shown_from scene first (part first last text.now.buffer.text)) }
 {
     let mut at = first;
     let mut ended = 0;

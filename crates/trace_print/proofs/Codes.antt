@@ -52,8 +52,3 @@ plain_on codes chars n byte are inside is low =
     let (c, found, coded) = char_at chars n (omega (arith, size, inside)) in
     let same : code c ≡ get_or codes n 0 = coded ∙ ap (λ l. get_or l n 0) (sym are) in
     ap (λ l. flat_map shown_ch (take n chars) ++ l) (is ∙ scalar_here c (get_or codes n 0) same (omega (arith, low))) ∙ one_on shown_ch chars n c found
-
--- none of some characters, and then others
-pub none_first : (chars : List Ch) (n : ℕ) (rest : List ℕ) → n ≤ 0 → flat_map shown_ch (take n chars) ++ rest ≡ rest
-none_first chars zero rest h = refl
-none_first chars (suc n) rest h = absurd (omega (arith, h))

@@ -4,9 +4,7 @@ pub mod Live
 pub mod Numbered
 pub mod Objects
 pub mod Placed
-pub mod Printing
 pub mod Spaced
-pub mod Stepping
 pub mod Stretches
 pub mod Telling
 pub mod Values

@@ -7,7 +7,7 @@ use Rattle.std.proofs.lemmas.Option.{slice_get-map}
 use Rattle.text_model.proofs.Lists.{take_one_more}
 use Rattle.text_model.specs.Properties.{PropSet}
 use Rattle.plain_machine.specs.Lines.{spaced, bracketed, symbol_name, shown_prop, shown_set, prop_words}
-use Rattle.trace_print.specs.Outcomes.{gap}
+use Rattle.trace_print.specs.Gaps.{gap}
 use Rattle.trace_print.specs.Pairs.{pair_word}
 
 spaced_on : (first : List ℕ) (words : List (List ℕ)) (word : List ℕ) → spaced (first ∷ (words ++ word ∷ [])) ≡ spaced (first ∷ words) ++ (32 ∷ word)

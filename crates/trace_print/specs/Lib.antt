@@ -1,5 +1,4 @@
-pub mod Outcomes
-pub mod Printing
+pub mod Gaps
 pub mod Pairs
 pub mod Standing
 pub mod Objects

@@ -3,13 +3,13 @@
 
 mod buffer_dump;
 mod escapes;
+mod gap;
 mod kind;
 mod line;
 mod names;
 mod number;
 mod object;
 mod objects_dump;
-mod printer;
 mod property;
 mod runs;
 mod string;

@@ -7,82 +7,86 @@ ghost use Rattle.ek_types.specs.Listing.{items_of};
 ghost use Rattle.ek_types.specs.Property.{number_of};
 ghost use Rattle.ek_call.specs.Meaning.{view, reply_of};
 ghost use Rattle.ek_call.specs.Faults.{fault_of};
-ghost use Rattle.trace_print.specs.Printing.{Prints};
+ghost use Rattle.sink_printer.specs.Printing.{Prints};
 ghost use Rattle.trace_print.specs.Strings.{led};
 ghost use Rattle.trace_print.specs.Standing.{state_of, Tells};
 ghost use Rattle.trace_print.specs.Kinds.{kind_of, margin, reply_words};
 
+use crate::buffer_dump::buffers;
 use crate::kind::Kind;
 use crate::names::Names;
-use crate::printer::Printer;
+use crate::number::count;
+use crate::object;
+use crate::objects_dump::{markers, overlays, processes};
+use crate::symbol::symbol;
+use crate::value::{value, values};
 use ek_call::{Fault, Reply, Values};
 use ek_types::{Sink, SinkFault, Sym, Symbols};
+use sink_printer::Printer;
 
-impl<K: Sink> Printer<'_, K> {
-    /// Writes the two blanks that stand in front of a line for each level of depth.
-    fn margin(&mut self, depth: u32)
-        ensures { Prints K.state self.old self.new (margin depth) }
-    {
-        'level: for _ in 0..depth {
-            self.put(b"  ");
+/// Writes the two blanks that stand in front of a line for each level of depth.
+fn margin<K: Sink>(out: &mut Printer<'_, K>, depth: u32)
+    ensures { Prints K.state out.old out.new (margin depth) }
+{
+    'level: for _ in 0..depth {
+        out.put(b"  ");
+    }
+}
+
+fn fault_words<K: Sink>(out: &mut Printer<'_, K>, fault: Fault)
+    ensures { Prints K.state out.old out.new (fault_words (fault_of fault)) }
+{
+    count(out, usize::from(fault.number()));
+    out.put(b" ");
+    out.put(fault.name().as_bytes());
+}
+
+fn reply_words<K: Sink>(out: &mut Printer<'_, K>, reply: &Reply, names: &Names)
+    ensures { Prints K.state out.old out.new
+        (reply_words names.now.symbols.now (state_of names.now) (reply_of reply.now)) }
+{
+    match reply {
+        Reply::Value(v) => {
+            out.put(b"= ");
+            value(out, v, names);
+        }
+        Reply::Fault(fault) => {
+            out.put(b"! ");
+            fault_words(out, *fault);
         }
     }
+}
 
-    fn fault(&mut self, fault: Fault)
-        ensures { Prints K.state self.old self.new (fault_words (fault_of fault)) }
-    {
-        self.count(usize::from(fault.number()));
-        self.put(b" ");
-        self.put(fault.name().as_bytes());
+fn kind_word<K: Sink>(out: &mut Printer<'_, K>, kind: Kind)
+    ensures { (n : ℕ) → Prints K.state out.old out.new (kind_word (kind_of kind n)) }
+{
+    match kind {
+        Kind::Filter => out.put(b"filter"),
+        Kind::Sentinel => out.put(b"sentinel"),
+        Kind::Before => out.put(b"before"),
+        Kind::After => out.put(b"after"),
     }
+}
 
-    fn reply(&mut self, reply: &Reply, names: &Names)
-        ensures { Prints K.state self.old self.new
-            (reply_words names.now.symbols.now (state_of names.now) (reply_of reply.now)) }
-    {
-        match reply {
-            Reply::Value(value) => {
-                self.put(b"= ");
-                self.value(value, names);
-            }
-            Reply::Fault(fault) => {
-                self.put(b"! ");
-                self.fault(*fault);
-            }
-        }
+fn handler_word<K: Sink>(out: &mut Printer<'_, K>, handler: Option<Sym>, symbols: &Symbols)
+    ensures { Prints K.state out.old out.new
+        (handler_word symbols.now (option_map number_of handler)) }
+{
+    match handler {
+        Some(name) => symbol(out, name, symbols),
+        None => out.put(b"default"),
     }
+}
 
-    fn kind(&mut self, kind: Kind)
-        ensures { (n : ℕ) → Prints K.state self.old self.new (kind_word (kind_of kind n)) }
-    {
-        match kind {
-            Kind::Filter => self.put(b"filter"),
-            Kind::Sentinel => self.put(b"sentinel"),
-            Kind::Before => self.put(b"before"),
-            Kind::After => self.put(b"after"),
-        }
-    }
-
-    fn handler(&mut self, handler: Option<Sym>, symbols: &Symbols)
-        ensures { Prints K.state self.old self.new
-            (handler_word symbols.now (option_map number_of handler)) }
-    {
-        match handler {
-            Some(name) => self.symbol(name, symbols),
-            None => self.put(b"default"),
-        }
-    }
-
-    /// Writes some values, with a blank in front of each.
-    fn arguments(&mut self, args: &Values, names: &Names)
-        ensures { Prints K.state self.old self.new
-            (led (map (shown names.now.symbols.now (state_of names.now))
-            (map view (items_of args.now)))) }
-    {
-        if args.len() > 0 {
-            self.put(b" ");
-            self.values(args, names);
-        }
+/// Writes some values, with a blank in front of each.
+fn arguments<K: Sink>(out: &mut Printer<'_, K>, args: &Values, names: &Names)
+    ensures { Prints K.state out.old out.new
+        (led (map (shown names.now.symbols.now (state_of names.now))
+        (map view (items_of args.now)))) }
+{
+    if args.len() > 0 {
+        out.put(b" ");
+        values(out, args, names);
     }
 }
 
@@ -98,8 +102,8 @@ pub fn reply<K: Sink>(
         (Replied depth (reply_of reply.now)) }
 {
     let mut out = Printer::new(sink);
-    out.margin(depth);
-    out.reply(reply, names);
+    margin(&mut out, depth);
+    reply_words(&mut out, reply, names);
     out.put_byte(b'\n');
     out.finish()
 }
@@ -118,12 +122,12 @@ pub fn entry<K: Sink>(
         (map view (items_of args.now))) }
 {
     let mut out = Printer::new(sink);
-    out.margin(depth);
+    margin(&mut out, depth);
     out.put(b"> ");
-    out.kind(kind);
+    kind_word(&mut out, kind);
     out.put_byte(b' ');
-    out.handler(handler, names.symbols);
-    out.arguments(args, names);
+    handler_word(&mut out, handler, names.symbols);
+    arguments(&mut out, args, names);
     out.put_byte(b'\n');
     out.finish()
 }
@@ -139,9 +143,9 @@ pub fn exit<K: Sink>(
         (Left depth (option_map number_of handler)) }
 {
     let mut out = Printer::new(sink);
-    out.margin(depth);
+    margin(&mut out, depth);
     out.put(b"< ");
-    out.handler(handler, names.symbols);
+    handler_word(&mut out, handler, names.symbols);
     out.put_byte(b'\n');
     out.finish()
 }
@@ -152,7 +156,7 @@ pub fn kill<K: Sink>(process: u32, names: &Names, sink: &mut K) -> Result<(), Si
 {
     let mut out = Printer::new(sink);
     out.put(b"kill ");
-    out.process(process, names);
+    object::process(&mut out, process, names);
     out.put_byte(b'\n');
     out.finish()
 }
@@ -163,9 +167,9 @@ pub fn dump<K: Sink>(names: &Names, sink: &mut K) -> Result<(), SinkFault>
     ensures { Tells names.now (K.state sink.old) (K.state sink.new) result Dumped }
 {
     let mut out = Printer::new(sink);
-    out.buffers(names);
-    out.markers(names.editor);
-    out.overlays(names);
-    out.processes(names);
+    buffers(&mut out, names);
+    markers(&mut out, names.editor);
+    overlays(&mut out, names);
+    processes(&mut out, names);
     out.finish()
 }

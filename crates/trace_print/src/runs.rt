@@ -1,10 +1,11 @@
 //! Runs of characters with one property set.
-ghost use Rattle.std.specs.Prelude.{◌≡◌, ◌<◌, List, length, map, slice_get, Some};
+ghost use Rattle.std.specs.Prelude.{◌≡◌, ◌<◌, List, length, slice_get, Some};
 ghost use Rattle.text_model.specs.Properties.{PropSet as Set, stretches, same_set};
 ghost use Rattle.prop_intervals.specs.Sets.{run_end};
 ghost use Rattle.trace_print.specs.Strings.{has_set};
 
 use ek_types::{Piece, PropSet};
+use prop_intervals::run_end_in;
 
 /// The property sets of characters, counted from 0.
 pub(crate) trait Sets {
@@ -21,19 +22,6 @@ pub(crate) trait Sets {
     fn end_of_run(&self, i: usize) -> usize
         requires { i < length (sets self.now) }
         ensures { result ≡ run_end i (sets self.now) };
-}
-
-/// The first place of a piece behind another whose set differs from the set there, or the length.
-fn run_end_in(piece: &Piece, i: usize) -> usize
-    requires { i < length piece.now }
-    ensures { result ≡ run_end i (map (λ c. c.1) piece.now) }
-{
-    let set = piece.props(i);
-    let mut end = piece.run_end(i);
-    while end < piece.len() && set.same(piece.props(end)) {
-        end = piece.run_end(end);
-    }
-    end
 }
 
 impl Sets for Piece {

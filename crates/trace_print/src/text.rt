@@ -4,11 +4,14 @@ ghost use Rattle.std.specs.Prelude.{slice_get, Some};
 ghost use Rattle.text_model.specs.Characters.{Ch as Character, code};
 ghost use Rattle.plain_machine.specs.Lines.{shown_ch, quoted};
 ghost use Rattle.ek_types.specs.Seen.{ch_of};
-ghost use Rattle.trace_print.specs.Printing.{Prints};
+ghost use Rattle.sink_printer.specs.Printing.{Prints};
 
 use crate::escapes::{plain, plain_code, show};
-use crate::printer::Printer;
 use ek_types::{Ch, Chars, Piece, Sink};
+use sink_printer::Printer;
+
+/// How many characters are written at once where they are shown as they are.
+pub(crate) const AT_ONCE: usize = 32;
 
 /// Characters in order, counted from 0.
 pub(crate) trait Characters {
@@ -20,6 +23,15 @@ pub(crate) trait Characters {
     fn character(&self, i: usize) -> Ch
         requires { i < length (chars self.now) }
         ensures { slice_get (chars self.now) i ≡ Some (ch_of result) };
+
+    /// Copies characters from character `i` on that are shown as they are to the front of `out`, up to the first other one
+    /// or as many as fit, and says how many.
+    fn plain(&self, i: usize, out: &mut [u8; AT_ONCE]) -> usize
+        requires { i < length (chars self.now) }
+        ensures bytes { take result out.new ≡
+            flat_map shown_ch (take result (drop i (chars self.now))) }
+        ensures fits { result ≤ 32 }
+        ensures range { i + result ≤ length (chars self.now) };
 
     /// The codes of some characters from character `i` on, or of none where they aren't kept as codes.
     fn codes(&self, i: usize) -> &[u32]
@@ -36,6 +48,10 @@ impl Characters for Chars {
 
     fn character(&self, i: usize) -> Ch {
         self.at(i)
+    }
+
+    fn plain(&self, i: usize, out: &mut [u8; AT_ONCE]) -> usize {
+        plain_from(self, i, out)
     }
 
     fn codes(&self, _i: usize) -> &[u32] {
@@ -56,13 +72,14 @@ impl Characters for Piece {
         self.ch(i)
     }
 
+    fn plain(&self, i: usize, out: &mut [u8; AT_ONCE]) -> usize {
+        plain_from(self.text(), i, out)
+    }
+
     fn codes(&self, _i: usize) -> &[u32] {
         &[]
     }
 }
-
-/// How many characters are written at once where they are shown as they are.
-const AT_ONCE: usize = 32;
 
 /// Whether the character of a code is shown as it is, by one byte.
 fn is_plain(code: u32) -> bool {
@@ -70,7 +87,7 @@ fn is_plain(code: u32) -> bool {
 }
 
 /// Copies characters that are shown as they are to the front of `out`, up to the first other one, and says how many.
-fn copy_plain(codes: &[u32], out: &mut [u8; AT_ONCE]) -> usize
+pub(crate) fn copy_plain(codes: &[u32], out: &mut [u8; AT_ONCE]) -> usize
     ensures bytes { (chars : List Character) → codes.now ≡ map code chars →
         take result out.new ≡ flat_map shown_ch (take result chars) }
     ensures fits { result ≤ 32 }
@@ -87,102 +104,99 @@ fn copy_plain(codes: &[u32], out: &mut [u8; AT_ONCE]) -> usize
     n
 }
 
-impl<K: Sink> Printer<'_, K> {
-    fn shown(&mut self, c: Ch)
-        ensures { Prints K.state self.old self.new (shown_ch (ch_of c)) }
-    {
-        match plain(c) {
-            Some(byte) => self.put_byte(byte),
-            None => self.encoded(c),
+/// The same of the characters of a list from character `i` on.
+fn plain_from(chars: &Chars, i: usize, out: &mut [u8; AT_ONCE]) -> usize
+    requires { i < length chars.now.items }
+    ensures bytes { take result out.new ≡ flat_map shown_ch (take result (drop i chars.now.items)) }
+    ensures fits { result ≤ 32 }
+    ensures range { i + result ≤ length chars.now.items }
+{
+    let size = chars.len();
+    let mut n = 0;
+    while n < AT_ONCE && i + n < size {
+        let Some(byte) = plain(chars.at(i + n)) else {
+            return n;
+        };
+        out[n] = byte;
+        n += 1;
+    }
+    n
+}
+
+fn shown<K: Sink>(out: &mut Printer<'_, K>, c: Ch)
+    ensures { Prints K.state out.old out.new (shown_ch (ch_of c)) }
+{
+    match plain(c) {
+        Some(byte) => out.put_byte(byte),
+        None => encoded(out, c),
+    }
+}
+
+/// Writes what stands for a character, however many bytes it is.
+fn encoded<K: Sink>(out: &mut Printer<'_, K>, c: Ch)
+    ensures { Prints K.state out.old out.new (shown_ch (ch_of c)) }
+{
+    let mut bytes = [0u8; 4];
+    let size = show(c, &mut bytes);
+    out.put(&bytes[..size]);
+}
+
+/// Writes what stands for the characters of some codes, up to the first that is shown as it is or is no scalar value,
+/// and says for how many.
+fn scalars<K: Sink>(out: &mut Printer<'_, K>, codes: &[u32]) -> usize
+    ensures prints { (chars : List Character) → codes.now ≡ map code chars →
+        Prints K.state out.old out.new (flat_map shown_ch (take result chars)) }
+    ensures range { result ≤ length codes.now }
+{
+    for n in 0..codes.len() {
+        if is_plain(codes[n]) {
+            return n;
+        }
+        match char::from_u32(codes[n]) {
+            Some(scalar) => shown(out, Ch::Scalar(scalar)),
+            None => return n,
         }
     }
+    codes.len()
+}
 
-    /// Writes what stands for a character, however many bytes it is.
-    fn encoded(&mut self, c: Ch)
-        ensures { Prints K.state self.old self.new (shown_ch (ch_of c)) }
-    {
-        let mut bytes = [0u8; 4];
-        let size = show(c, &mut bytes);
-        self.put(&bytes[..size]);
+/// Writes what stands for some characters from character `i` on, for one at least, and says for how many.
+fn some_characters<K: Sink, T: Characters>(out: &mut Printer<'_, K>, text: &T, i: usize) -> usize
+    requires { i < length (T.chars text.now) }
+    ensures prints { Prints K.state out.old out.new
+        (flat_map shown_ch (take result (drop i (T.chars text.now)))) }
+    ensures some { 0 < result }
+    ensures range { i + result ≤ length (T.chars text.now) }
+{
+    let mut bytes = [0u8; AT_ONCE];
+    let plain = text.plain(i, &mut bytes);
+    if plain > 0 {
+        out.put(&bytes[..plain]);
+        return plain;
     }
+    let others = scalars(out, text.codes(i));
+    if others > 0 {
+        return others;
+    }
+    shown(out, text.character(i));
+    1
+}
 
-    /// Writes characters that are shown as they are, up to the first other one, and says how many.
-    fn plain_run(&mut self, codes: &[u32]) -> usize
-        ensures prints { (chars : List Character) → codes.now ≡ map code chars →
-            Prints K.state self.old self.new (flat_map shown_ch (take result chars)) }
-        ensures range { result ≤ length codes.now }
-    {
-        let mut bytes = [0u8; AT_ONCE];
-        let count = copy_plain(codes, &mut bytes);
-        self.put(&bytes[..count]);
-        count
+/// Writes what stands for the characters of a text.
+pub(crate) fn unquoted<K: Sink, T: Characters>(out: &mut Printer<'_, K>, text: &T)
+    ensures { Prints K.state out.old out.new (flat_map shown_ch (T.chars text.now)) }
+{
+    let mut i = 0;
+    while i < text.count() {
+        i += some_characters(out, text, i);
     }
+}
 
-    /// Writes what stands for the characters of some codes, up to the first that is shown as it is or is no scalar value,
-    /// and says for how many.
-    fn scalars(&mut self, codes: &[u32]) -> usize
-        ensures prints { (chars : List Character) → codes.now ≡ map code chars →
-            Prints K.state self.old self.new (flat_map shown_ch (take result chars)) }
-        ensures range { result ≤ length codes.now }
-    {
-        for n in 0..codes.len() {
-            if is_plain(codes[n]) {
-                return n;
-            }
-            match char::from_u32(codes[n]) {
-                Some(scalar) => self.shown(Ch::Scalar(scalar)),
-                None => return n,
-            }
-        }
-        codes.len()
-    }
-
-    /// Writes what stands for some of these characters, for none only where the first is no scalar value, and says for how
-    /// many.
-    fn some_codes(&mut self, codes: &[u32]) -> usize
-        ensures prints { (chars : List Character) → codes.now ≡ map code chars →
-            Prints K.state self.old self.new (flat_map shown_ch (take result chars)) }
-        ensures range { result ≤ length codes.now }
-    {
-        let plain = self.plain_run(codes);
-        if plain > 0 {
-            return plain;
-        }
-        self.scalars(codes)
-    }
-
-    /// Writes what stands for some characters from character `i` on, for one at least, and says for how many.
-    fn some_characters<T: Characters>(&mut self, text: &T, i: usize) -> usize
-        requires { i < length (T.chars text.now) }
-        ensures prints { Prints K.state self.old self.new
-            (flat_map shown_ch (take result (drop i (T.chars text.now)))) }
-        ensures some { 0 < result }
-        ensures range { i + result ≤ length (T.chars text.now) }
-    {
-        let count = self.some_codes(text.codes(i));
-        if count > 0 {
-            return count;
-        }
-        self.shown(text.character(i));
-        1
-    }
-
-    /// Writes what stands for the characters of a text.
-    pub(crate) fn characters<T: Characters>(&mut self, text: &T)
-        ensures { Prints K.state self.old self.new (flat_map shown_ch (T.chars text.now)) }
-    {
-        let mut i = 0;
-        while i < text.count() {
-            i += self.some_characters(text, i);
-        }
-    }
-
-    /// Writes the characters of a text between quotes.
-    pub(crate) fn quoted<T: Characters>(&mut self, text: &T)
-        ensures { Prints K.state self.old self.new (quoted (T.chars text.now)) }
-    {
-        self.put_byte(b'"');
-        self.characters(text);
-        self.put_byte(b'"');
-    }
+/// Writes the characters of a text between quotes.
+pub(crate) fn quoted<K: Sink, T: Characters>(out: &mut Printer<'_, K>, text: &T)
+    ensures { Prints K.state out.old out.new (quoted (T.chars text.now)) }
+{
+    out.put_byte(b'"');
+    unquoted(out, text);
+    out.put_byte(b'"');
 }

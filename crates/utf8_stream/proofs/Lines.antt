@@ -1,16 +1,16 @@
 -- Decoding with the line ends of DOS, from one carriage return to the next.
-use Rattle.std.proofs.Common.{◌≡◌, ℕ, zero, suc, ◌+◌, ◌<◌, ◌≤◌, ◌⊎◌, inl, inr, Bool, true, false, ◌&&◌, ◌||◌, ◌==◌, map, List, [], ◌∷◌, ◌++◌, length, take, drop, slice_index, refl, ap, sym, ◌∙◌, append_assoc, length-append, take_all, take-append-drop, arith}
-use Rattle.std.specs.Prelude.{Some, None}
+use Rattle.std.proofs.Common.{◌≡◌, ℕ, zero, suc, ◌+◌, ◌<◌, ◌≤◌, ◌⊎◌, inl, inr, Bool, true, false, ◌&&◌, ◌||◌, ◌==◌, map, List, [], ◌∷◌, ◌++◌, length, take, drop, slice_index, refl, ap, sym, ◌∙◌, append_assoc, length-append, append-nil, take_all, take-append-drop, subst, arith}
+use Rattle.std.specs.Prelude.{Option, Some, None, unwrap_or}
 use Rattle.std.proofs.lemmas.Bool.Decides.{nat_tests}
-use Rattle.std.proofs.lemmas.List.{length-map}
+use Rattle.std.proofs.lemmas.List.{length-map, drop_all}
 use Rattle.memchr.specs.Find.{IsFirstByte, is_byte}
 use Rattle.text_model.specs.Characters.{Ch, Scalar, Raw}
-use Rattle.text_model.specs.Decoding.{Front, Whole, Part, Neither, front, scalar_of, following, characters_after, tail_after, characters, tail, all_characters}
-use Rattle.text_model.specs.Codings.{Utf8, Utf8Dos, is_return, begins_with_feed, with_feeds, ends_in_return, settled, decoded, undecoded}
-use Rattle.text_model.proofs.Decodings.{characters-whole, characters-part, characters-neither, tail-whole, tail-part, tail-neither}
-use Rattle.text_model.proofs.Ascii.{front_whole, return_behind, no_tail_behind}
+use Rattle.text_model.specs.Decoding.{Front, Whole, Part, Neither, front, scalar_of, following, characters_after, characters, tail, all_characters}
+use Rattle.text_model.specs.Codings.{Utf8Dos, is_return, begins_with_feed, with_feeds, ends_in_return, settled, decoded, undecoded}
+use Rattle.text_model.proofs.Decodings.{characters-whole, characters-part, characters-neither}
+use Rattle.text_model.proofs.Ascii.{front_whole, return_behind}
 use Rattle.text_model.proofs.Codings.{kept_if, left_of, settled_append, ends_more, decoded_law, undecoded_law}
-use Rattle.utf8_stream.specs.Returns.{has_return, begins_by, IsSplit, return_before}
+use Rattle.utf8_stream.specs.Returns.{has_return, begins_by, StartsAtReturn, IsSplit, return_before}
 use Rattle.utf8_stream.proofs.Tails.{append_none, tail_room, none_of}
 use Rattle.utf8_stream.proofs.Returns.{begins_at, raw_feeds}
 
@@ -99,39 +99,53 @@ return_length y = by (begins_by 10 y)
 pub all_room : (x : List ℕ) → length (all_characters x) ≤ length x
 all_room x = omega (arith, length-append (characters x) (map Raw (tail x)), length-map (tail x) Raw, tail_room x)
 
+-- a line is put, and then what is left of it
+pub whole_line : (before between after : List Ch) (line part : List ℕ) → between ≡ before ++ characters line → part ≡ tail line → after ≡ between ++ map Raw part → after ≡ before ++ all_characters line
+whole_line before between after line part a b d = d ∙ (λ i. a i ++ map Raw (b i)) ∙ append_assoc before (characters line) (map Raw (tail line))
+
+pub line_length : (line part : List ℕ) → part ≡ tail line → length (all_characters line) ≡ length (characters line) + length part
+line_length line part e = omega (arith, length-append (characters line) (map Raw (tail line)), length-map (tail line) Raw, ap length e)
+
 -- BYTES IN TWO PARTS AT A CARRIAGE RETURN
-same_return : (end : List ℕ) → begins_by 13 end ≡ true → end ≡ 13 ∷ drop 1 end
-same_return [] h = cc
-same_return (b ∷ end) h = let first : b ≡ 13 = grind (arith, nat_tests) in ap (λ n. n ∷ end) first
+same_return : (end : List ℕ) → StartsAtReturn end → 0 < length end → end ≡ 13 ∷ drop 1 end
+same_return [] h some = absurd (omega arith)
+same_return (b ∷ end) h some = ap (λ n. n ∷ end) h
+
+-- no carriage return is there
+pub plain_split : (bytes line end : List ℕ) → IsSplit bytes line end → length end ≡ 0 →
+    (decoded Utf8Dos bytes ≡ characters line) × (undecoded Utf8Dos bytes ≡ tail line)
+plain_split bytes line end parts none =
+    let here : bytes ≡ line = sym parts.whole ∙ ap (λ z. line ++ z) (none_of end none) ∙ append-nil line in
+    (ap (decoded Utf8Dos) here ∙ plain_decoded line parts.before, ap (undecoded Utf8Dos) here ∙ plain_undecoded line parts.before)
 
 module _ (bytes line end : List ℕ) (parts : IsSplit bytes line end) where
-  first_of : end ≡ 13 ∷ drop 1 end
-  first_of = same_return end parts.here
-
-  behind : bytes ≡ line ++ 13 ∷ drop 1 end
-  behind = sym parts.whole ∙ ap (λ z. line ++ z) first_of
-
   pub split_length : length bytes ≡ length line + length end
   split_length = ap length (sym parts.whole) ∙ length-append line end
 
-  pub some_end : 0 < length end
-  some_end = omega (arith, ap length first_of)
+  behind : 0 < length end → bytes ≡ line ++ 13 ∷ drop 1 end
+  behind some = sym parts.whole ∙ ap (λ z. line ++ z) (same_return end parts.here some)
 
   -- the carriage return is the last byte
   pub last_decoded : length end ≡ 1 → (decoded Utf8Dos bytes ≡ all_characters line) × (undecoded Utf8Dos bytes ≡ end)
   last_decoded one =
+      let first_of = same_return end parts.here (omega arith) in
       let nothing : drop 1 end ≡ [] = none_of (drop 1 end) (omega (arith, ap length first_of)) in
-      let here : bytes ≡ line ++ 13 ∷ [] = behind ∙ ap (λ y. line ++ 13 ∷ y) nothing in
+      let here : bytes ≡ line ++ 13 ∷ [] = behind (omega arith) ∙ ap (λ y. line ++ 13 ∷ y) nothing in
       (ap (decoded Utf8Dos) here ∙ ended_by_return line parts.before, ap (undecoded Utf8Dos) here ∙ return_held line ∙ ap (λ y. 13 ∷ y) (sym nothing) ∙ sym first_of)
 
   -- others follow it
   pub split_decoded : (y : List ℕ) → y ≡ drop 1 end → 0 < length y →
       (decoded Utf8Dos bytes ≡ all_characters line ++ (return_before y ++ decoded Utf8Dos y)) × (undecoded Utf8Dos bytes ≡ undecoded Utf8Dos y)
   split_decoded y e some =
-      let here : bytes ≡ line ++ 13 ∷ y = behind ∙ ap (λ y. line ++ 13 ∷ y) (sym e) in (
+      let there : 0 < length end = by_length end (omega (arith, sym (ap length e))) in
+      let here : bytes ≡ line ++ 13 ∷ y = behind there ∙ ap (λ y. line ++ 13 ∷ y) (sym e) in (
         ap (decoded Utf8Dos) here ∙ line_decoded line y parts.before ∙ ap (λ cs. all_characters line ++ cs) (return_decoded y some),
         ap (undecoded Utf8Dos) here ∙ line_undecoded line y ∙ return_undecoded y some,
       )
+    where
+      by_length : (z : List ℕ) → 0 < length (drop 1 z) → 0 < length z
+      by_length [] h = absurd (omega arith)
+      by_length (b ∷ z) h = omega arith
 
 -- THE SEARCH
 no_return_before : (n : ℕ) (x : List ℕ) → n ≤ length x → ((k : ℕ) → k < n → (slice_index x k == 13) ≡ true → ⊥) → has_return (take n x) ≡ false
@@ -143,17 +157,22 @@ no_return_before (suc n) (b ∷ x) h never = by (b == 13) refl (no_return_before
     by true e rest = absurd (never 0 (omega arith) e)
     by false e rest = rest
 
-begins_there : (n : ℕ) (x : List ℕ) → n < length x → (slice_index x n == 13) ≡ true → begins_by 13 (drop n x) ≡ true
+begins_there : (n : ℕ) (x : List ℕ) → n < length x → (slice_index x n == 13) ≡ true → StartsAtReturn (drop n x)
 begins_there n [] h e = absurd (omega arith)
-begins_there zero (b ∷ x) h e = e
+begins_there zero (b ∷ x) h e = grind (arith, nat_tests)
 begins_there (suc n) (b ∷ x) h e = begins_there n x (omega arith) e
 
-pub none_found : (x : List ℕ) → IsFirstByte (is_byte 13) x None → has_return x ≡ false
+none_found : (x : List ℕ) → IsFirstByte (is_byte 13) x None → has_return x ≡ false
 none_found x h = ap has_return (sym (take_all (length x) x (omega arith))) ∙ no_return_before (length x) x (omega arith) (λ k less. h k (omega arith) less)
 
-pub found_at : (x : List ℕ) (n : ℕ) (line end : List ℕ) → IsFirstByte (is_byte 13) x (Some n) → line ≡ take n x → end ≡ drop n x → IsSplit x line end
-found_at x n line end h l e = record {
+pub found_at : (x : List ℕ) (found : Option ℕ) (line end : List ℕ) → IsFirstByte (is_byte 13) x found → line ≡ take (unwrap_or found (length x)) x → end ≡ drop (unwrap_or found (length x)) x → IsSplit x line end
+found_at x (Some n) line end h l e = record {
   whole = (λ i. l i ++ e i) ∙ take-append-drop n x;
   before = ap has_return l ∙ no_return_before n x (omega (arith, h.0.high)) (λ k less. h.0.before k (omega arith) less);
-  here = ap (begins_by 13) e ∙ begins_there n x h.0.high h.1;
+  here = subst StartsAtReturn (sym e) (begins_there n x h.0.high h.1);
+}
+found_at x None line end h l e = record {
+  whole = (λ i. l i ++ e i) ∙ take-append-drop (length x) x;
+  before = ap has_return (l ∙ take_all (length x) x (omega arith)) ∙ none_found x h;
+  here = subst StartsAtReturn (sym (e ∙ drop_all (length x) x (omega arith))) tt;
 }

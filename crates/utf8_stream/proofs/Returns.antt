@@ -1,13 +1,13 @@
 -- How many characters come of so many bytes, and what is held.
-use Rattle.std.proofs.Common.{◌≡◌, ℕ, zero, suc, ◌+◌, ◌-◌, ◌<◌, ◌≤◌, ◌⊎◌, inl, inr, Bool, true, false, ◌&&◌, ◌==◌, map, List, [], ◌∷◌, ◌++◌, length, take, drop, slice_index, refl, ap, sym, ◌∙◌, subst, arith, length-append}
+use Rattle.std.proofs.Common.{◌≡◌, ℕ, suc, ◌+◌, ◌≤◌, ◌⊎◌, inl, inr, Bool, true, false, ◌&&◌, ◌==◌, map, List, [], ◌∷◌, ◌++◌, length, refl, ap, sym, ◌∙◌, subst, arith, length-append}
 use Rattle.std.proofs.lemmas.Bool.Decides.{nat_tests}
 use Rattle.std.proofs.lemmas.List.{length-map}
 use Rattle.text_model.specs.Characters.{Ch, Scalar, Raw}
-use Rattle.text_model.specs.Decoding.{Front, Whole, Part, Neither, front, scalar_of, characters_after, tail_after, characters, tail}
+use Rattle.text_model.specs.Decoding.{Front, Whole, Part, Neither, front, scalar_of, characters, tail}
 use Rattle.text_model.specs.Codings.{Coding, Utf8, Utf8Dos, Latin1, is_return, begins_with_feed, with_feeds, ends_in_return, without_last, settled, decoded, undecoded, all_decoded}
-use Rattle.text_model.proofs.Decodings.{characters-whole, characters-part, characters-neither, tail-whole, tail-part, tail-neither}
-use Rattle.text_model.proofs.Ascii.{front_whole, front_part}
-use Rattle.text_model.proofs.Codings.{kept_if, left_of, with_return, settled_append, ends_more, no_feed_first, no_feed_settled}
+use Rattle.text_model.proofs.Decodings.{characters-whole, characters-part, characters-neither}
+use Rattle.text_model.proofs.Ascii.{front_whole}
+use Rattle.text_model.proofs.Codings.{kept_if, left_of, with_return, settled_append, no_feed_first, no_feed_settled}
 use Rattle.utf8_stream.specs.Returns.{begins_by}
 use Rattle.utf8_stream.proofs.Tails.{append_none, tail_room, none_of, all_of_tail}
 

@@ -10,11 +10,16 @@ abbrev pub begins_by : (first : ℕ) → List ℕ → Bool
 begins_by first [] = false
 begins_by first (b ∷ bytes) = b == first
 
+-- bytes of which the first is a carriage return, or none
+abbrev pub StartsAtReturn : List ℕ → Type 0
+StartsAtReturn [] = Unit {0}
+StartsAtReturn (b ∷ bytes) = b ≡ 13
+
 -- bytes in two parts, of which the second begins with the first carriage return
 pub record IsSplit (bytes line end : List ℕ) : Type 0 where
   pub whole : line ++ end ≡ bytes
   pub before : has_return line ≡ false
-  pub here : begins_by 13 end ≡ true
+  pub here : StartsAtReturn end
 
 -- a carriage return, unless a line feed is the next byte
 abbrev pub return_before : (next : List ℕ) → List Ch

@@ -1,9 +1,9 @@
 //! Decoding of bytes that lie at hand, up to what the next bytes may still change.
-ghost use Rattle.std.specs.Prelude.{◌≡◌, ◌+◌, ◌≤◌, ◌++◌, None, IfSome, false, length, map};
-ghost use Rattle.text_model.specs.Codings.{Utf8, Utf8Dos, Latin1, decoded, undecoded, all_decoded};
+ghost use Rattle.std.specs.Prelude.{◌≡◌, ◌+◌, ◌≤◌, ◌++◌, length, map};
+ghost use Rattle.text_model.specs.Codings.{Utf8, Utf8Dos, Latin1, decoded, undecoded};
 ghost use Rattle.text_model.specs.Characters.{Raw};
 ghost use Rattle.utf8_stream.specs.Codings.{coding_of};
-ghost use Rattle.utf8_stream.specs.Returns.{IsSplit, has_return, return_before};
+ghost use Rattle.utf8_stream.specs.Returns.{IsSplit, return_before};
 
 use crate::coding::Coding;
 use crate::sequence::{First, read_first};
@@ -51,6 +51,8 @@ fn open_utf8<'a>(bytes: &'a [u8], out: &mut Chars) -> &'a [u8]
     rest
 }
 
+// It isn't put into `open`, which stays short enough to be put into its callers' loops.
+#[inline(never)]
 fn open_dos<'a>(bytes: &'a [u8], out: &mut Chars) -> &'a [u8]
     requires { length bytes.now ≤ out.old.spare }
     ensures items { out.new.items ≡ out.old.items ++ decoded Utf8Dos bytes.now }
@@ -60,34 +62,27 @@ fn open_dos<'a>(bytes: &'a [u8], out: &mut Chars) -> &'a [u8]
     ensures short { length result.now ≤ 3 }
 {
     let mut rest = bytes;
-    while let Some((line, end)) = split_at_return(rest) {
-        put_all(line, out);
+    'lines: loop {
+        let (line, end) = split_at_return(rest);
+        let part = open_utf8(line, out);
+        if end.is_empty() {
+            return part;
+        }
+        put_raw(part, out);
         if end.len() == 1 {
             return end;
         }
         put_unless_feed(&end[1..], out);
         rest = &end[1..];
     }
-    open_utf8(rest, out)
 }
 
-/// The bytes before the first carriage return, and those from it on.
-fn split_at_return(bytes: &[u8]) -> Option<(&[u8], &[u8])>
-    ensures some { IfSome result (λ parts. IsSplit bytes.now parts.0.now parts.1.now) }
-    ensures none { result ≡ None → has_return bytes.now ≡ false }
+/// The bytes before the first carriage return, and those from it on: none where there is no carriage return.
+fn split_at_return(bytes: &[u8]) -> (&[u8], &[u8])
+    ensures { IsSplit bytes.now result.0.now result.1.now }
 {
-    let place = memchr(b'\r', bytes)?;
-    Some(bytes.split_at(place))
-}
-
-/// Appends all characters of bytes that a carriage return follows.
-fn put_all(line: &[u8], out: &mut Chars)
-    requires { length line.now ≤ out.old.spare }
-    ensures items { out.new.items ≡ out.old.items ++ all_decoded Utf8 line.now }
-    ensures spare { out.new.spare + length (all_decoded Utf8 line.now) ≡ out.old.spare }
-{
-    let part = open_utf8(line, out);
-    put_raw(part, out);
+    let place = memchr(b'\r', bytes).unwrap_or(bytes.len());
+    bytes.split_at(place)
 }
 
 /// Appends the bytes of a sequence that isn't whole as raw bytes.

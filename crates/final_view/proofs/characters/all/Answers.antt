@@ -9,7 +9,7 @@ use Rattle.final_view.proofs.characters.all.Goals as goal
 
 pub loop-i-preserved : goal.loop-i-preserved
 loop-i-preserved g c =
-    let cells = g.T.Text.cells c.args.text.now in
+    let cells = c.args.text.now.buffer.text in
     let i = c.loop-i.i in
     let x = ch_of c.ch.result in
     record {

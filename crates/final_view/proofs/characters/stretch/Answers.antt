@@ -9,22 +9,22 @@ pub loop-at-init : goal.loop-at-init
 loop-at-init g c = record {
   printed = [];
   prints = shows_nothing;
-  shown = visible_behind c.args.until c.args.from c.min-at.result c.args.to (g.T.Text.cells c.args.text.now) (omega (arith, c.max.ensures, c.min-at.ensures, c.requires.order)) (omega (arith, c.min-at.ensures)) c.requires.within (omega (arith, c.max.ensures, c.min-at.ensures));
+  shown = visible_behind c.args.until c.args.from c.min-at.result c.args.to c.args.text.now.buffer.text (omega (arith, c.max.ensures, c.min-at.ensures, c.requires.order)) (omega (arith, c.min-at.ensures)) c.requires.within (omega (arith, c.max.ensures, c.min-at.ensures));
   within = omega (arith, c.min-at.ensures);
   hidden = λ h. omega (arith, h, c.max.ensures, c.min-at.ensures);
 }
 
 pub run-requires-clause-order : goal.run-requires-clause-order
 run-requires-clause-order g c =
-    omega (arith, c.min-end.ensures, c.run_end.ensures, c.loop-at-test.true, run_behind (g.T.Text.cells c.args.text.now) c.loop-at.at (omega (arith, c.loop-at-test.true, c.requires.within)))
+    omega (arith, c.min-end.ensures, c.run_end.ensures, c.loop-at-test.true, run_behind c.args.text.now.buffer.text c.loop-at.at (omega (arith, c.loop-at-test.true, c.requires.within)))
 
 pub loop-at-smaller : goal.loop-at-smaller
 loop-at-smaller g c =
-    omega (arith, c.min-end.ensures, c.run_end.ensures, c.loop-at-test.true, run_behind (g.T.Text.cells c.args.text.now) c.loop-at.at (omega (arith, c.loop-at-test.true, c.requires.within)))
+    omega (arith, c.min-end.ensures, c.run_end.ensures, c.loop-at-test.true, run_behind c.args.text.now.buffer.text c.loop-at.at (omega (arith, c.loop-at-test.true, c.requires.within)))
 
 pub loop-at-preserved : goal.loop-at-preserved
 loop-at-preserved g c =
-    let cells = g.T.Text.cells c.args.text.now in
+    let cells = c.args.text.now.buffer.text in
     let at = c.loop-at.at in
     let end = c.min-end.result in
     let to = c.args.to in

@@ -9,7 +9,7 @@ abbrev pub invariant-loop-at : goal.invariant-loop-at
 invariant-loop-at g l = record {
   printed : List Ch;
   prints : Shows g.K.Sink.state l.initial.out l.out printed;
-  shown : printed ++ visible l.until l.at (part l.at l.to (g.T.Text.cells l.text)) ≡ visible l.until l.from (part l.from l.to (g.T.Text.cells l.text));
+  shown : printed ++ visible l.until l.at (part l.at l.to l.text.buffer.text) ≡ visible l.until l.from (part l.from l.to l.text.buffer.text);
   within : l.at ≤ l.to;
   hidden : l.at < l.to → l.until ≤ l.at;
 }

@@ -12,13 +12,13 @@ pub loop-at-init : goal.loop-at-init
 loop-at-init g c = record {
   printed = [];
   prints = shows_nothing;
-  swept = swept_begins c.args.overlays.now (g.T.Text.cells c.args.text.now) c.args.openers.now c.args.closers.now c.args.first c.args.last c.requires.order c.requires.ends c.requires.starts;
+  swept = swept_begins c.args.overlays.now c.args.text.now.buffer.text c.args.openers.now c.args.closers.now c.args.first c.args.last c.requires.order c.requires.ends c.requires.starts;
 }
 
 pub loop-at-preserved : goal.loop-at-preserved
 loop-at-preserved g c =
     let os = c.args.overlays.now in
-    let cells = g.T.Text.cells c.args.text.now in
+    let cells = c.args.text.now.buffer.text in
     let openers = c.args.openers.now in
     let closers = c.args.closers.now in
     let first = c.args.first in

@@ -8,7 +8,7 @@ abbrev pub invariant-loop-at : goal.invariant-loop-at
 invariant-loop-at g l = record {
   printed : List Ch;
   prints : Shows g.K.Sink.state l.initial.out l.out printed;
-  swept : Swept l.overlays (g.T.Text.cells l.text) l.openers l.closers l.first l.last l.at l.started.until (drop l.ended l.closers) (drop l.started.next l.openers) printed;
+  swept : Swept l.overlays l.text.buffer.text l.openers l.closers l.first l.last l.at l.started.until (drop l.ended l.closers) (drop l.started.next l.openers) printed;
 }
 
 abbrev pub decreases-loop-at : goal.decreases-loop-at

@@ -1,5 +1,5 @@
 use Rattle.std.proofs.Common.{sym, arith, ◌∙◌}
-use Rattle.trace_print.proofs.Printing.{prints_then, prints_same, written}
+use Rattle.sink_printer.proofs.Printing.{prints_then, prints_same, written}
 use Rattle.trace_print.proofs.Telling.{dump_told}
 use Rattle.trace_print.proofs.line.dump.Goals as goal
 

@@ -1,12 +1,12 @@
 use Rattle.std.proofs.Common.{sym, arith, ◌∙◌}
 use Rattle.ek_call.specs.Meaning.{reply_of}
-use Rattle.trace_print.proofs.Printing.{prints_then, prints_same, written}
+use Rattle.sink_printer.proofs.Printing.{prints_then, prints_same, written}
 use Rattle.trace_print.proofs.Telling.{reply_told}
 use Rattle.trace_print.proofs.line.reply.Goals as goal
 
 pub returns : goal.returns
 returns g c = λ s known.
-    let said = prints_then c.margin.ensures (prints_then c.reply.ensures c.put_byte.ensures) in
+    let said = prints_then c.margin.ensures (prints_then c.reply_words.ensures c.put_byte.ensures) in
     let same = sym (said.same ∙ c.new-out.ensures.same) in
     written c.new-out.ensures.sink c.new-out.ensures.fresh c.new-out.ensures.empty (grind (arith, same))
     (prints_same (reply_told c.args.names.now s known c.args.names.now.symbols.now c.args.depth (reply_of c.args.reply.now)) said) c.finish.ensures

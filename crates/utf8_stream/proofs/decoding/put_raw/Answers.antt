@@ -1,5 +1,4 @@
-use Rattle.std.proofs.Common.{ap, ◌∙◌, ◌++◌, map, take_all, arith}
-use Rattle.text_model.specs.Characters.{Raw}
+use Rattle.std.proofs.Common.{arith}
 use Rattle.utf8_stream.proofs.Tails.{tail_high}
 use Rattle.utf8_stream.proofs.decoding.put_raw.Goals as goal
 

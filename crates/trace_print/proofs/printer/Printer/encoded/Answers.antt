@@ -1,5 +1,0 @@
-use Rattle.trace_print.proofs.Printing.{prints_same}
-use Rattle.trace_print.proofs.printer.Printer.encoded.Goals as goal
-
-pub returns : goal.returns
-returns g c = prints_same c.show-size.ensures.bytes c.put.ensures
