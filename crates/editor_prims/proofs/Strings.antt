@@ -3,6 +3,7 @@ use Rattle.std.proofs.Common.{◌≡◌, ℕ, Bool, true, false, ◌+◌, ◌≤
 use Rattle.std.specs.Prelude.{slice_get, Option, Some, None, ◌==◌}
 use Rattle.std.proofs.lemmas.List.{drop_all, length-append, map-append}
 use Rattle.std.proofs.lemmas.Option.{same_Some}
+use Rattle.std.proofs.lemmas.Bool.{eqb-true}
 use Rattle.std.proofs.lemmas.Grind.{flat_map-append}
 use Rattle.text_model.proofs.Lists.{drop_at}
 use Rattle.text_model.specs.Properties.{Cell, PropSet, put_all}
@@ -42,7 +43,7 @@ nil_is = ap view (sym value.rolls-Nil) ∙ fold-roll-Value _ _ Value-F.Nil
 
 pub nothing_inserted : (id at : ℕ) (text : List Cell) (all : Bool) → (length text == 0) ≡ true → answers.Nothing (view value.Nil) ≡ insertion id at text all
 nothing_inserted id at [] all h = ap answers.Nothing nil_is
-nothing_inserted id at (c ∷ text) all h = cc
+nothing_inserted id at (c ∷ text) all h = let l : length (c ∷ text) ≡ 0 = eqb-true (length (c ∷ text)) 0 h in absurd (omega arith)
 
 pub something_inserted : (id at : ℕ) (text : List Cell) (all : Bool) → (length text == 0) ≡ false
     → answers.Changes (record { buffer = id; from = at; to = at; what = answers.Put text all true false None; reply = view value.Nil }) ≡ insertion id at text all

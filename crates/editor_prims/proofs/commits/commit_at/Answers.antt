@@ -39,7 +39,7 @@ returns-in-Put-clause-ok c =
     let change = c.args.change.now in
     let meant : answers.Change = record { buffer = change.buffer; from = c.args.from; to = c.args.to; what = what_of change.what; reply = view change.reply } in
     let done = subst (λ (w : What). Commits c.commit_put.result e new (commit e (record { buffer = change.buffer; from = c.args.from; to = c.args.to; what = what_of w; reply = view change.reply }))) (sym c.in-Put.is)
-    (subst (λ (t : List Cell). Commits c.commit_put.result e new (commit e (record { buffer = change.buffer; from = c.args.from; to = c.args.to; what = answers.Put t c.in-Put.all.now c.in-Put.point_after.now c.in-Put.widen.now c.in-Put.mark.now; reply = view change.reply }))) c.as_slice-pieces.ensures (c.commit_put.ensures (view change.reply))) in
+    (subst (λ (t : List Cell). Commits c.commit_put.result e new (commit e (record { buffer = change.buffer; from = c.args.from; to = c.args.to; what = answers.Put t c.in-Put.all c.in-Put.point_after c.in-Put.widen c.in-Put.mark; reply = view change.reply }))) c.as_slice-pieces.ensures (c.commit_put.ensures (view change.reply))) in
     c.committed.ensures.ok e new (commit e meant) done
 
 pub returns-in-Put-clause-refused : goal.returns-in-Put-clause-refused
@@ -49,7 +49,7 @@ returns-in-Put-clause-refused c =
     let change = c.args.change.now in
     let meant : answers.Change = record { buffer = change.buffer; from = c.args.from; to = c.args.to; what = what_of change.what; reply = view change.reply } in
     let done = subst (λ (w : What). Commits c.commit_put.result e new (commit e (record { buffer = change.buffer; from = c.args.from; to = c.args.to; what = what_of w; reply = view change.reply }))) (sym c.in-Put.is)
-    (subst (λ (t : List Cell). Commits c.commit_put.result e new (commit e (record { buffer = change.buffer; from = c.args.from; to = c.args.to; what = answers.Put t c.in-Put.all.now c.in-Put.point_after.now c.in-Put.widen.now c.in-Put.mark.now; reply = view change.reply }))) c.as_slice-pieces.ensures (c.commit_put.ensures (view change.reply))) in
+    (subst (λ (t : List Cell). Commits c.commit_put.result e new (commit e (record { buffer = change.buffer; from = c.args.from; to = c.args.to; what = answers.Put t c.in-Put.all c.in-Put.point_after c.in-Put.widen c.in-Put.mark; reply = view change.reply }))) c.as_slice-pieces.ensures (c.commit_put.ensures (view change.reply))) in
     IfOk-weaker c.committed.result (λ (x : Committed). record { editor = new; committed = committed_of x } ≡ commit e meant) (λ (x : Committed). IsFailed (committed_of x) → new ≡ e)
     (λ x same failed. failed_still e new (committed_of x) meant same failed)
     (c.committed.ensures.ok e new (commit e meant) done)
@@ -61,7 +61,7 @@ returns-in-Put-clause-err c =
     let change = c.args.change.now in
     let meant : answers.Change = record { buffer = change.buffer; from = c.args.from; to = c.args.to; what = what_of change.what; reply = view change.reply } in
     let done = subst (λ (w : What). Commits c.commit_put.result e new (commit e (record { buffer = change.buffer; from = c.args.from; to = c.args.to; what = what_of w; reply = view change.reply }))) (sym c.in-Put.is)
-    (subst (λ (t : List Cell). Commits c.commit_put.result e new (commit e (record { buffer = change.buffer; from = c.args.from; to = c.args.to; what = answers.Put t c.in-Put.all.now c.in-Put.point_after.now c.in-Put.widen.now c.in-Put.mark.now; reply = view change.reply }))) c.as_slice-pieces.ensures (c.commit_put.ensures (view change.reply))) in
+    (subst (λ (t : List Cell). Commits c.commit_put.result e new (commit e (record { buffer = change.buffer; from = c.args.from; to = c.args.to; what = answers.Put t c.in-Put.all c.in-Put.point_after c.in-Put.widen c.in-Put.mark; reply = view change.reply }))) c.as_slice-pieces.ensures (c.commit_put.ensures (view change.reply))) in
     c.committed.ensures.err e new (commit e meant) done
 
 pub returns-in-Props-clause-ok : goal.returns-in-Props-clause-ok
