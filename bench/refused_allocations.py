@@ -3,9 +3,9 @@
 
     python3 bench/refused_allocations.py [WORD]     (the runs whose names have this word, all if none is given)
 
-It uses `rt try`, which proves nothing and refuses the allocation of a given number. So that all runs need one build,
-that number is fixed, and each run first makes and drops so many others that the wanted one comes to it. How many
-allocations a run makes is found by making more behind it, until the one that is refused is among them.
+The runs are made by one program, which is proved and built first; from nothing that takes as long as the proofs of all that it
+stands on. A library that is loaded before libc counts its allocations from the start of the run on, and refuses the one whose number
+is given. A text in blocks is tried by `rt try`, which proves nothing, refuses an allocation by its number, too, and sees a wrong use of memory.
 
 The runs are those that `kernel_rows` works out, and some more: each a script, with a source, a sink and a
 host in memory. What a run writes and asks where memory is ample is what the tests compare. Where an allocation is refused it
@@ -29,12 +29,11 @@ import shutil
 import subprocess
 import sys
 import tempfile
+from concurrent.futures import ThreadPoolExecutor
 
 TOP = os.path.dirname(os.path.dirname(os.path.abspath(__file__)))
 TESTS = f"{TOP}/crates/kernel_rows/src"
 WORD = sys.argv[1] if len(sys.argv) > 1 else ""
-# The allocation that is refused, counted from the beginning of a program: one of these, the least that is more than a run makes.
-REFUSED = [600, 5000]
 TEXT_ALLOCATIONS = 110
 
 # The tests' tables of runs.
@@ -62,11 +61,9 @@ MORE = [
     ("the drill of ten lines", "drill", [b"\xC3", b"\xA9 0\n\xC3\xA9 ", b"1\n\xC3\xA9 2\n\xC3\xA9 3\n", b"\xC3\xA9 4\n"]),
 ]
 
-ROW_PROGRAM = r"""//! A run where one allocation is refused: standard input has the number of the run, how many allocations come before it, and
-//! whether allocations behind it are counted.
+ROW_PROGRAM = r"""//! One run of the tests' tables, by its number on the command line.
 #![tactic(auto)]
 
-mod playing;
 MODULES
 
 use ek_types::{ListOf, MemorySink, MemorySource};
@@ -75,69 +72,55 @@ use host_link::{Answer, Answers, Ask, Ended, Exchange, Host, MemoryHost, Play};
 use kernel_top::run;
 use playing::{Child, Row};
 use std::alloc::Global;
+use std::env;
 use std::io::{self, Read, Write};
 use std::test::Fail;
 
-const TABLES: [&[Row]; TABLE_COUNT] = [TABLE_NAMES];
-
-fn text(rt: &HostRuntime, bytes: &[u8]) {
+fn say(rt: &HostRuntime, bytes: &[u8]) {
     let _ = io::writer(rt).write_all(bytes);
 }
 
-fn number(rt: &HostRuntime, n: u64) {
-    let mut digits = [0u8; 20];
-    let mut at = 20;
-    let mut left = n;
-    loop {
-        at -= 1;
-        digits[at] = b'0' + (left % 10) as u8;
-        left /= 10;
-        if left == 0 {
-            break;
-        }
-    }
-    text(rt, &digits[at..]);
-}
-
-fn named(rt: &HostRuntime, word: &[u8], n: u64) {
-    text(rt, word);
-    number(rt, n);
-}
-
-fn show_ask(rt: &HostRuntime, ask: &Ask) {
+fn show_ask(rt: &HostRuntime, ask: &Ask) -> io::Result<()> {
     match ask {
-        Ask::Spawn(program, _) => {
-            text(rt, b"spawn ");
-            text(rt, program.as_slice());
-        }
-        Ask::Read(child) => named(rt, b"read ", u64::from(*child)),
-        Ask::End(child) => named(rt, b"end ", u64::from(*child)),
-        Ask::Send(child, _) => named(rt, b"send ", u64::from(*child)),
-        Ask::Close(child) => named(rt, b"close ", u64::from(*child)),
-        Ask::Kill(child) => named(rt, b"kill ", u64::from(*child)),
+        Ask::Spawn(_, _) => print!(rt; "spawn x"),
+        Ask::Read(child) => print!(rt; "read {child}"),
+        Ask::End(child) => print!(rt; "end {child}"),
+        Ask::Send(child, _) => print!(rt; "send {child}"),
+        Ask::Close(child) => print!(rt; "close {child}"),
+        Ask::Kill(child) => print!(rt; "kill {child}"),
     }
 }
 
-fn show_answer(rt: &HostRuntime, answer: &Answer) {
-    match answer {
-        Answer::Started(child) => named(rt, b"started ", u64::from(*child)),
-        Answer::Refused => text(rt, b"refused"),
-        Answer::Bytes(bytes) => {
-            text(rt, b"bytes");
-            for byte in bytes.as_slice() {
-                named(rt, b" ", u64::from(*byte));
-            }
-        }
-        Answer::Nothing => text(rt, b"nothing"),
-        Answer::End => text(rt, b"end"),
-        Answer::Code(code) => named(rt, b"code ", *code as u64),
-        Answer::Signal => text(rt, b"signal"),
-        Answer::Running => text(rt, b"running"),
-        Answer::Killed => text(rt, b"killed"),
-        Answer::Sent => text(rt, b"sent"),
-        Answer::Closed => text(rt, b"closed"),
-        _ => text(rt, b"another"),
+fn show_bytes(rt: &HostRuntime, bytes: &[u8]) -> io::Result<()> {
+    print!(rt; "bytes")?;
+    for byte in bytes {
+        print!(rt; " {byte}")?;
     }
+    Ok(())
+}
+
+fn show_answer(rt: &HostRuntime, answer: &Answer) -> io::Result<()> {
+    match answer {
+        Answer::Started(child) => print!(rt; "started {child}"),
+        Answer::Refused => print!(rt; "refused"),
+        Answer::Bytes(bytes) => show_bytes(rt, bytes.as_slice()),
+        Answer::Nothing => print!(rt; "nothing"),
+        Answer::End => print!(rt; "end"),
+        Answer::Code(code) => print!(rt; "code {code}"),
+        Answer::Signal => print!(rt; "signal"),
+        Answer::Running => print!(rt; "running"),
+        Answer::Killed => print!(rt; "killed"),
+        Answer::Sent => print!(rt; "sent"),
+        Answer::Closed => print!(rt; "closed"),
+        _ => print!(rt; "another"),
+    }
+}
+
+fn show(rt: &HostRuntime, exchange: &Exchange) -> io::Result<()> {
+    show_ask(rt, &exchange.ask)?;
+    print!(rt; ": ")?;
+    show_answer(rt, &exchange.answer)?;
+    print!(rt; "\n")
 }
 
 fn ended(ended: Ended) -> Answer {
@@ -165,89 +148,118 @@ fn play(alloc: Global, child: &Child) -> Result<Play, Fail> {
     Ok(Play { reads, ends })
 }
 
-fn run_row(rt: &HostRuntime, row: &Row, whole: bool) -> Result<(), Fail> {
-    let alloc = rt.alloc();
-    let mut plays = Vec::new(alloc);
-    for child in row.children {
-        plays.push(play(alloc, child)?)?;
-    }
+fn words_of(alloc: Global, script: &str) -> Result<Vec<String>, Fail> {
     let mut words = Vec::new(alloc);
-    if row.script == "drill" {
+    if script == "drill" {
         words.push(String::from_str(alloc, "drill")?)?;
         words.push(String::from_str(alloc, "10")?)?;
     } else {
         words.push(String::from_str(alloc, "run")?)?;
     }
+    Ok(words)
+}
+
+fn run_row(rt: &HostRuntime, row: &Row) -> Result<(), Fail> {
+    let alloc = rt.alloc();
+    let mut plays = Vec::new(alloc);
+    for child in row.children {
+        plays.push(play(alloc, child)?)?;
+    }
+    let words = words_of(alloc, row.script)?;
     let mut source = MemorySource::new(row.script.as_bytes().to_vec(alloc)?, 1000, Vec::new(alloc));
     let mut sink = MemorySink::new(alloc, 100_000, 1000, Vec::new(alloc))?;
     let mut host = MemoryHost::new(plays, Vec::new(alloc));
-    text(rt, b"set up\n");
-    if !whole {
-        return Ok(());
-    }
-    let status = run(alloc, words.as_slice(), &mut source, &mut sink, &mut host, &NoNatives);
-    let _ = println!(rt; "{status:?}");
+    say(rt, b"set up\n");
+    let status = run(
+        alloc,
+        words.as_slice(),
+        &mut source,
+        &mut sink,
+        &mut host,
+        &NoNatives,
+    );
+    say(rt, b"ran\n");
+    println!(rt; "{status:?}")?;
     if let Some(told) = host.told() {
-        for i in 0..told.len() {
-            let exchange: &Exchange = told.at(i);
-            show_ask(rt, &exchange.ask);
-            text(rt, b": ");
-            show_answer(rt, &exchange.answer);
-            text(rt, b"\n");
+        for exchange in told.as_slice() {
+            show(rt, exchange)?;
         }
     }
-    text(rt, b"written\n");
-    text(rt, sink.bytes());
-    text(rt, b"whole\n");
+    say(rt, b"written\n");
+    say(rt, sink.bytes());
+    say(rt, b"whole\n");
     Ok(())
+}
+
+fn row_in(rows: &'static [Row], which: usize) -> Option<&'static Row> {
+    rows.get(which)
 }
 
 fn row_at(which: usize) -> Option<&'static Row> {
     let mut left = which;
     for table in TABLES {
         if left < table.len() {
-            return Some(&table[left]);
+            return row_in(table, left);
         }
         left -= table.len();
     }
     None
 }
 
-/// Makes and drops so many allocations, up to one that is refused; answers how many came before that.
-fn allocate(rt: &HostRuntime, count: usize) -> usize {
-    for i in 0..count {
-        let one: Result<Vec<u8>, _> = Vec::with_capacity(rt.alloc(), 1);
-        if one.is_err() {
-            return i;
-        }
-    }
-    count
-}
+const TABLES: [&[Row]; TABLE_COUNT] = [TABLE_NAMES];
 
 fn main(rt: HostRuntime) -> Result<(), Fail> {
-    let mut numbers = [0usize; 3];
-    let mut line = [0u8; 32];
-    let Ok(count) = rt.reader().read(&mut line) else {
-        return Ok(());
-    };
-    let mut which = 0;
-    for byte in &line[..count] {
-        match *byte {
-            b' ' => which += 1,
-            digit => numbers[which] = numbers[which] * 10 + (digit - b'0') as usize,
+    for word in env::args(&rt)? {
+        if let Ok(which) = word.parse::<usize>() {
+            if let Some(row) = row_at(which) {
+                run_row(&rt, row)?;
+            }
         }
     }
-    let Some(row) = row_at(numbers[0]) else {
-        return Ok(());
-    };
-    allocate(&rt, numbers[1]);
-    run_row(&rt, row, numbers[2] != 1)?;
-    if numbers[2] > 0 {
-        let behind = allocate(&rt, MOST);
-        named(&rt, b"\nbehind ", behind as u64);
-        text(&rt, b"\n");
-    }
     Ok(())
+}
+"""
+
+# Loaded before libc: counts allocations between the two lines that the program writes, refuses one by its number, and tells the count.
+REFUSING = r"""
+#define _GNU_SOURCE
+#include <errno.h>
+#include <stdio.h>
+#include <stdlib.h>
+#include <string.h>
+#include <sys/syscall.h>
+#include <unistd.h>
+
+extern void *__libc_malloc(size_t);
+extern void *__libc_realloc(void *, size_t);
+extern void *__libc_calloc(size_t, size_t);
+extern void *__libc_memalign(size_t, size_t);
+
+static int counting;
+static long count, number;
+
+static int refused(void) { return counting && ++count == number && (errno = ENOMEM); }
+
+void *malloc(size_t size) { return refused() ? 0 : __libc_malloc(size); }
+void *realloc(void *old, size_t size) { return refused() ? 0 : __libc_realloc(old, size); }
+void *calloc(size_t many, size_t size) { return refused() ? 0 : __libc_calloc(many, size); }
+void *aligned_alloc(size_t by, size_t size) { return refused() ? 0 : __libc_memalign(by, size); }
+int posix_memalign(void **to, size_t by, size_t size) {
+    return refused() || !(*to = __libc_memalign(by, size)) ? ENOMEM : 0;
+}
+
+ssize_t write(int to, const void *bytes, size_t size) {
+    if (size >= 4 && !memcmp(bytes, "ran\n", 4)) {
+        char line[40];
+        counting = 0;
+        syscall(SYS_write, 2, line, snprintf(line, sizeof line, "%ld allocations\n", count));
+    }
+    long wrote = syscall(SYS_write, to, bytes, size);
+    if (size >= 7 && !memcmp(bytes, "set up\n", 7)) {
+        number = getenv("REFUSED") ? atol(getenv("REFUSED")) : 0;
+        counting = 1;
+    }
+    return wrote;
 }
 """
 
@@ -496,42 +508,69 @@ def copy_crates(work, needed):
         out.write(f"refused: {' '.join(needed)}\n")
 
 
+def put_together(work, needed, files):
+    """The folder of a program `refused`, with the crates that it needs beside it."""
+    copy_crates(work, needed)
+    os.makedirs(f"{work}/crates/refused/src")
+    for name, code in files.items():
+        with open(f"{work}/crates/refused/src/{name}.rt", "w") as out:
+            out.write(code)
+    return f"{work}/crates/refused"
+
+
+def said_in(command, folder):
+    """What a command prints in a folder. Where it fails, its last words end all."""
+    ran = subprocess.run(command, cwd=folder, stdout=subprocess.PIPE, stderr=subprocess.STDOUT)
+    if ran.returncode:
+        sys.exit(ran.stdout.decode(errors="replace")[-3000:])
+    return ran.stdout
+
+
 def outputs(needed, files, inputs, refused):
-    """What the program prints, by its standard input."""
+    """What the unproved program prints, by its standard input, where the allocation of this number is refused."""
     with tempfile.TemporaryDirectory(prefix="refused_allocations") as work:
-        copy_crates(work, needed)
-        os.makedirs(f"{work}/crates/refused/src")
-        for name, code in files.items():
-            with open(f"{work}/crates/refused/src/{name}.rt", "w") as out:
-                out.write(code)
+        folder = put_together(work, needed, files)
         os.makedirs(f"{work}/cases")
         for given in inputs:
-            with open(f"{work}/cases/{given.replace(' ', '-')}", "w") as out:
+            with open(f"{work}/cases/{given}", "w") as out:
                 out.write(given)
-        ran = subprocess.run(
-            ["rt", "try", "--fail-alloc", str(refused), "--cases", "../../cases"],
-            cwd=f"{work}/crates/refused", stdout=subprocess.PIPE, stderr=subprocess.STDOUT)
-    if b"\ncases=" not in ran.stdout:
-        sys.exit(ran.stdout.decode(errors="replace")[-3000:])
-    print(ran.stdout.decode(errors="replace").splitlines()[-1], flush=True)
-    parts = re.split(rb"^== ([0-9-]+)\n", ran.stdout, flags=re.M)
-    return {name.decode().replace("-", " "): out for name, out in zip(parts[1::2], parts[2::2])}
+        said = said_in(["rt", "try", "--fail-alloc", str(refused), "--cases", "../../cases"], folder)
+    print(said.decode(errors="replace").splitlines()[-1], flush=True)
+    parts = re.split(rb"^== ([0-9]+)\n", said, flags=re.M)
+    return {name.decode(): out for name, out in zip(parts[1::2], parts[2::2])}
+
+
+class Program:
+    """The proved program of all rows, and the library that refuses."""
+
+    def __init__(self, work, needed, files):
+        folder = put_together(work, needed, files)
+        self.library = f"{work}/refusing.so"
+        with open(f"{work}/refusing.c", "w") as out:
+            out.write(REFUSING)
+        said_in(["cc", "-O2", "-shared", "-fPIC", "-o", self.library, "refusing.c"], work)
+        os.environ["RT_SECONDS"] = "7200"
+        said_in(["rt", "fmt"], folder)
+        said_in(["rt", "run"], folder)
+        self.path = f"{folder}/out/refused"
+
+    def run(self, row, number):
+        """What a run prints where the allocation of this number is refused, none for 0, and how many allocations it made."""
+        env = os.environ | {"LD_PRELOAD": self.library, "REFUSED": str(number)}
+        ran = subprocess.run([self.path, str(row)], env=env, stdout=subprocess.PIPE, stderr=subprocess.PIPE)
+        counted = re.search(rb"^(\d+) allocations$", ran.stderr, re.M)
+        return ran.stdout, int(counted[1]) if counted else 0
 
 
 Ran = collections.namedtuple("Ran", "status exchanges written")
 
 
 def parsed(output):
-    """The status, the exchanges and the bytes written; None where memory was refused before the run."""
-    found = re.search(rb"^set up\n(\w+)\n((?:[^\n]*: [^\n]*\n)*)written\n(.*?)whole\n", output, re.M | re.S)
+    """The status, the exchanges and the bytes written; None where a run came to no end."""
+    found = re.search(rb"^set up\nran\n(\w+)\n((?:[^\n]*: [^\n]*\n)*)written\n(.*?)whole\n", output, re.M | re.S)
     if not found:
         return None
     return Ran(found[1].decode(), found[2].decode().splitlines(), found[3].decode())
-
-
-def behind(output):
-    """How many allocations could be made behind a run."""
-    return int(re.search(rb"^behind (\d+)$", output, re.M)[1])
 
 
 CODINGS = ["utf-8-unix", "utf-8-dos", "latin-1-unix"]
@@ -613,7 +652,7 @@ def entries_spell(ran, whole, names):
 
 def verdict(ran, whole, names):
     if ran is None:
-        return "refused before the run"
+        return "WRONG: no end"
     if ran.status == "Done":
         return "Done" if ran == whole else "WRONG: Done without all"
     if ran.status != "NoMemory":
@@ -629,36 +668,32 @@ def verdict(ran, whole, names):
     return "WRONG: NoMemory, " + ", ".join(faults) if faults else "NoMemory"
 
 
+def told_of(program, row, name):
+    """Refuses each allocation of a run in turn; answers how many these are, and whether all was as it must be."""
+    said, count = program.run(row, 0)
+    ample = parsed(said)
+    processes = re.findall(r"^process \d+ #<process (\S+)> ", ample.written, re.M)
+    with ThreadPoolExecutor(os.cpu_count()) as lanes:
+        runs = lanes.map(lambda number: program.run(row, number)[0], range(1, count + 1))
+        whats = [verdict(parsed(said), ample, processes) for said in runs]
+    told = ", ".join(f"{many} {what}" for what, many in collections.Counter(whats).items())
+    print(f"{name}: {len(ample.written.splitlines())} lines, {len(ample.exchanges)} exchanges: {told}", flush=True)
+    return count, ample.status == "Done" and not any(what.startswith("WRONG") for what in whats)
+
+
 def try_rows():
     tables = {name: test_table(name) for name in TABLES} | {"more": more_table()}
     names = names_of(tables.values())
     wanted = [row for row, name in enumerate(names) if WORD in name]
-    program = ROW_PROGRAM.replace("MODULES", "\n".join(f"mod {name};" for name in tables))
-    program = program.replace("TABLE_COUNT", str(len(tables))).replace("MOST", str(REFUSED[-1]))
+    program = ROW_PROGRAM.replace("MODULES", "\n".join(f"mod {name};" for name in [*tables, "playing"]))
+    program = program.replace("TABLE_COUNT", str(len(tables)))
     program = program.replace("TABLE_NAMES", ", ".join(f"&{name}::ROWS" for name in tables))
     files = tables | {"main": program, "playing": PLAYING}
-    needed = ["ek_types", "handler_code", "host_link", "kernel_top"]
-    said = outputs(needed, files, [f"{row} 0 {kind}" for row in wanted for kind in (1, 2)], REFUSED[-1])
-    # The allocations that each run makes, from the first one behind what sets it up, and one more.
-    tried, whole = {}, {}
-    for row in wanted:
-        set_up, last = (REFUSED[-1] - 1 - behind(said[f"{row} 0 {kind}"]) for kind in (1, 2))
-        refused = next(n for n in REFUSED if n > last + 1)
-        tried[row] = [(refused, f"{row} {refused - n} 0") for n in range(set_up + 1, last + 2)]
-        whole[row] = parsed(said[f"{row} 0 2"])
-    for number in REFUSED:
-        inputs = [given for row in wanted for refused, given in tried[row] if refused == number]
-        if inputs:
-            said |= outputs(needed, files, inputs, number)
-    right = True
-    for row in wanted:
-        ample = whole[row]
-        processes = re.findall(r"^process \d+ #<process (\S+)> ", ample.written, re.M)
-        whats = [verdict(parsed(said[given]), ample, processes) for _, given in tried[row]]
-        told = ", ".join(f"{count} {what}" for what, count in collections.Counter(whats).items())
-        print(f"{names[row]}: {len(ample.written.splitlines())} lines, {len(ample.exchanges)} exchanges: {told}")
-        right &= ample.status == "Done" and not any(what.startswith("WRONG") for what in whats)
-    print(f"{len(wanted)} runs, {sum(map(len, tried.values()))} refused allocations: {'none' if right else 'SOME'} judged wrong")
+    with tempfile.TemporaryDirectory(prefix="refused_allocations") as work:
+        made = Program(work, ["ek_types", "handler_code", "host_link", "kernel_top"], files)
+        told = [told_of(made, row, names[row]) for row in wanted]
+    right = all(holds for _, holds in told)
+    print(f"{len(told)} runs, {sum(count for count, _ in told)} refused allocations: {'none' if right else 'SOME'} judged wrong")
     return right
 
 
