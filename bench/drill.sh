@@ -2,7 +2,8 @@
 # How long the largest drill takes, and its peak of memory, beside the same work in Emacs where that is installed: a filter of
 # the same nine calls on the same 19,714 pieces of text, byte-compiled. Emacs makes the pieces itself and calls the filter
 # on each, with no child and no wait, so that it has less to do. Beside each stands what it takes to do nothing: the drill
-# of no lines, and a start of Emacs. The ratio is that of the processor's seconds without these.
+# of no lines, and a start of Emacs. The ratio is that of the processor's seconds without these. Where `rustc` is installed,
+# `drill_lines.rs` shows the least that it takes: a plain loop that puts the same lines together over a `Vec`.
 #
 #     bench/drill.sh [PROGRAM]     (what `rt run` leaves in crates/kernel_cli/out if none is given)
 set -eu
@@ -74,4 +75,8 @@ if command -v emacs > /dev/null; then
         awk '{ ours = $1 - $3; theirs = $5 - $7; printf "emacs takes %.1f times as long\n", theirs / (ours > 0 ? ours : 0.001) }'
 else
     echo "emacs is not installed here"
+fi
+if command -v rustc > /dev/null; then
+    rustc -O --edition 2021 -o "$work/drill_lines" "$top/bench/drill_lines.rs"
+    told plain $(measured "$work/drill_lines" 9999) $(measured "$work/drill_lines" 0 2> /dev/null)
 fi
