@@ -54,10 +54,12 @@ LISP
 # error
 measured() {
     python3 -c 'import resource, subprocess, sys
+before = resource.getrusage(resource.RUSAGE_CHILDREN)
 said = subprocess.run(sys.argv[1:], stdin=subprocess.DEVNULL, stdout=subprocess.PIPE, check=True).stdout
 sys.stderr.write(said.decode())
 took = resource.getrusage(resource.RUSAGE_CHILDREN)
-print(f"{took.ru_utime + took.ru_stime:.3f} {took.ru_maxrss // 1024}")' "$@"
+processor = took.ru_utime + took.ru_stime - before.ru_utime - before.ru_stime
+print(f"{processor:.3f} {took.ru_maxrss // 1024}")' "$@"
 }
 
 # told NAME SECONDS MIB SECONDS MIB: what some work took, and what doing nothing takes

@@ -53,20 +53,18 @@ cat > "$work/output.el" <<'LISP'
 LISP
 
 # measured SCRIPT COMMAND ..: how many seconds the command took, how many of them some processor's, and its peak of memory
-# in MiB. Python comes in this subshell's place at the end and asks what its children took, so that it doesn't count.
-measured() (
-    given=$1
-    shift
-    start=$(date +%s.%N)
-    "$@" < "$given" > /dev/null 2>&1 || {
-        echo "$1: status $?" >&2
-        exit 1
-    }
-    exec python3 -c 'import resource, sys
-start, end = map(float, sys.argv[1:])
+# in MiB. Python starts it and asks what its children took since then, so that nothing else counts: not what started Python.
+measured() {
+    python3 -c 'import resource, subprocess, sys, time
+start, before = time.time(), resource.getrusage(resource.RUSAGE_CHILDREN)
+with open(sys.argv[1]) as given:
+    ran = subprocess.run(sys.argv[2:], stdin=given, stdout=subprocess.DEVNULL, stderr=subprocess.DEVNULL)
 took = resource.getrusage(resource.RUSAGE_CHILDREN)
-print(f"{end - start:.2f} {took.ru_utime + took.ru_stime:.2f} {took.ru_maxrss // 1024}")' "$start" "$(date +%s.%N)"
-)
+if ran.returncode:
+    sys.exit(f"{sys.argv[2]}: status {ran.returncode}")
+processor = took.ru_utime + took.ru_stime - before.ru_utime - before.ru_stime
+print(f"{time.time() - start:.2f} {processor:.3f} {took.ru_maxrss // 1024}")' "$@"
+}
 
 # compared NAME LISP [SCRIPT]: the program on the script of this name, and the Lisp beside it on that script or another
 compared() {
@@ -75,7 +73,7 @@ compared() {
     if command -v emacs > /dev/null; then
         theirs=$(SCRIPT=${3:-$work/$1} OUTPUT=$output measured /dev/null emacs -Q --batch -l "$work/$2")
         printf '; emacs %6s s, %6s s, %4s MiB' ${theirs}
-        echo "$ours $theirs" | awk '{ printf "; ratio %.2f", $2 / ($5 ? $5 : 0.01) }'
+        echo "$ours $theirs" | awk '{ printf "; emacs takes %.1f times as long", $5 / ($2 ? $2 : 0.001) }'
     fi
     echo
 }
