@@ -4,7 +4,7 @@ ghost use Rattle.std.specs.Prelude.{IfOk, OnOk, OnErr, slice_get, IfSome, All, o
 ghost use Rattle.text_model.specs.Ordered.{IsValue};
 ghost use Rattle.machine_laws.specs.Boundaries.{KeepsBoundaries};
 ghost use Rattle.machine_laws.specs.Good.{Good};
-ghost use Rattle.text_model.specs.Undo.{lies_inside, passed, trial, Deleted};
+ghost use Rattle.text_model.specs.Undo.{lies_inside, pass, passed, trial, Deleted};
 ghost use Rattle.text_model.specs.Commit.{undo_one, undo_each, undone_groups, moves_behind};
 ghost use Rattle.text_model.specs.Commit.{deleted, set_point};
 ghost use Rattle.gap_text.specs.Text.{LiesIn};
@@ -261,10 +261,21 @@ impl Buffer {
         self.undo_groups(id, plan, marks, pool)
     }
 
+    /// Makes the records of a plan pending no longer. Nothing else changes.
+    fn pass(&mut self, plan: &Plan)
+        ensures rest { self.new ≡ record self.old { undo = self.new.undo } }
+        ensures groups { (groups min max : ℕ) → 1 ≤ groups →
+            planned groups min max self.old.undo.state ≡ Ok plan.now →
+            self.new.undo.state ≡ pass (passed groups self.old.undo.state) self.old.undo.state }
+    {
+        self.undo.pass(plan);
+    }
+
     /// The same, without what it means for undo.
     fn undo_groups(&mut self, id: u32, plan: &Plan, marks: &mut Marks, pool: &mut Pool) -> Mem<()>
         requires lies { LiesIn pool.old self.old.text }
         requires marks { AreWithin id (length self.old.sets) marks.old }
+        requires undoable { All (λ e. CanBeUndone e.what) self.old.undo.state.entries }
         requires plan { (groups : ℕ) × (1 ≤ groups) ×
             (planned groups self.old.begin self.old.end self.old.undo.state ≡ Ok plan.now) }
         ensures lies { LiesIn pool.new self.new.text }
@@ -280,9 +291,10 @@ impl Buffer {
     {
         let mut moved = marks.copy()?;
         let mut copy = self.copy(pool)?;
-        copy.undo.pass(plan);
-        let (first, end) = self.undo.passed(plan);
-        match copy.undo_each(id, &self.undo, first, end, &mut moved, pool) {
+        copy.pass(plan);
+        let records = self.undo();
+        let (first, end) = records.passed(plan);
+        match copy.undo_each(id, records, first, end, &mut moved, pool) {
             Ok(()) => {
                 let before = mem::replace(self, copy);
                 before.release(pool);

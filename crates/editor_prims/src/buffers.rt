@@ -1,13 +1,15 @@
 //! The calls on buffers.
-ghost use Rattle.std.specs.Prelude.{◌≡◌, map, IfOk, None};
-ghost use Rattle.editor_model.specs.Values.{TheBuffer, Answered};
-ghost use Rattle.editor_model.specs.Editor.{live, live_from, find, change_buffer, protected};
+ghost use Rattle.std.specs.Prelude.{◌≡◌, map, true, IfOk, OnOk, OnErr, None};
+ghost use Rattle.editor_model.specs.Values.{TheBuffer, Answered, plain};
+ghost use Rattle.editor_model.specs.Editor.{live, live_from, find, find_from, change_buffer, protected};
+ghost use Rattle.editor_model.specs.Editor.{renamed};
 ghost use Rattle.editor_model.specs.Arguments.{name_of};
 ghost use Rattle.editor_model.specs.BufferCalls as calls;
 ghost use Rattle.ek_types.specs.Listing.{items_of};
 ghost use Rattle.ek_call.specs.Meaning.{view};
 ghost use Rattle.buffer_table.specs.Kept.{editor_of};
 ghost use Rattle.editor_prims.specs.Meaning.{Answers, Applies};
+ghost use Rattle.editor_prims.specs.Names.{rivals};
 
 use crate::failure::Failure;
 use crate::kinds::{flag, must_be_buffer, must_be_buffer_or_nil, name as string_of_name};
@@ -17,8 +19,8 @@ use crate::objects;
 use crate::values::{buffer, list, plain, truth};
 use buffer_table::Editor;
 use ek_call::{Fault, Value, Values};
-use ek_types::Mem;
 use ek_types::limits::MOST_BUFFERS;
+use ek_types::{Chars, Mem};
 
 pub(crate) fn current_buffer(editor: &Editor) -> Result<Value, Failure>
     ensures { Answers result (Answered (TheBuffer (editor_of editor.now).current)) }
@@ -187,6 +189,20 @@ pub(crate) fn generate_new_buffer(editor: &mut Editor, v: &Value) -> Result<Valu
     Ok(Value::Buffer(id))
 }
 
+/// Gives the current buffer a name that no other live buffer has, and answers it. A refusal leaves the editor as it was.
+fn rename_current(editor: &mut Editor, name: &Chars) -> Mem<Value>
+    requires { find_from 0 (rivals true (editor_of editor.old)) name.now.items ≡ None }
+    ensures value { IfOk result (λ v. view v ≡ plain name.now.items) }
+    ensures ok { OnOk result (editor_of editor.new ≡
+        renamed (editor_of editor.old).current name.now.items (editor_of editor.old)) }
+    ensures err { OnErr result (editor_of editor.new ≡ editor_of editor.old) }
+{
+    let answer = plain(editor.allocator(), name)?;
+    let id = editor.current();
+    editor.rename(id, name)?;
+    Ok(answer)
+}
+
 pub(crate) fn rename_buffer(editor: &mut Editor, v: &Value) -> Result<Value, Failure>
     ensures { Applies result (editor_of editor.old) (editor_of editor.new)
         (calls.rename_buffer (editor_of editor.old) (view v.now)) }
@@ -194,8 +210,5 @@ pub(crate) fn rename_buffer(editor: &mut Editor, v: &Value) -> Result<Value, Fai
     let name = string_of_name(v)?;
     must_be_short(v)?;
     let free = free_name(editor, true, name.text())?;
-    let answer = plain(editor.allocator(), &free)?;
-    let id = editor.current();
-    editor.rename(id, &free)?;
-    Ok(answer)
+    Ok(rename_current(editor, &free)?)
 }

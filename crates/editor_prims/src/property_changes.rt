@@ -5,6 +5,7 @@ ghost use Rattle.text_model.specs.Commit.{property_records};
 ghost use Rattle.editor_model.specs.Answers.{prepared};
 ghost use Rattle.editor_model.specs.Arguments.{must_be_accessible};
 ghost use Rattle.editor_model.specs.Editor.{here};
+ghost use Rattle.editor_model.specs.Values.{truth};
 ghost use Rattle.editor_model.specs.PropertyCalls as calls;
 ghost use Rattle.ek_types.specs.Property.{number_of, prop_of};
 ghost use Rattle.ek_types.specs.Listing.{items_of};
@@ -23,19 +24,21 @@ use crate::properties::must_be_value_in_region;
 use crate::property_lists::{Pairs, must_be_pairs, names_of_pairs, nil_names, pairs, set_of_pairs};
 use crate::property_values::property_value;
 use crate::read_only::must_take_change;
+use crate::values::truth;
 use buffer_table::Editor;
 use ek_call::Value;
 use ek_types::{Mem, PropSet, PropVal, Sym, SymList};
 use prop_intervals::PropEdit;
 use std::alloc::Global;
 
-/// The change of the properties of a region, which may not be read-only; where it would change nothing, there is none.
+/// The change of the properties of a region, which may not be read-only; where it would change nothing, there is none. A
+/// change that is made may answer `t`.
 fn change(
     editor: &Editor,
     a: &Value,
     b: &Value,
     edit: PropEdit,
-    changed: Value,
+    told: bool,
 ) -> Result<Prepared, Failure>
     requires from { must_be_accessible (here (editor_of editor.now)) (editor_of editor.now)
         (view a.now) ≡ None }
@@ -43,7 +46,7 @@ fn change(
         (view b.now) ≡ None }
     ensures { Prepares result (prepared (calls.must_take_properties (editor_of editor.now)
         (view a.now) (view b.now) (edit_of edit) ∷ []) (calls.property_change
-        (editor_of editor.now) (view a.now) (view b.now) (edit_of edit) (view changed))) }
+        (editor_of editor.now) (view a.now) (view b.now) (edit_of edit) (truth told))) }
 {
     let buffer = editor.current();
     // Read for what it ensures: the accessible portion lies in the text.
@@ -59,7 +62,7 @@ fn change(
         from,
         to,
         what: What::Props(edit),
-        reply: changed,
+        reply: truth(told),
     }))
 }
 
@@ -93,7 +96,7 @@ pub(crate) fn put_text_property(
 {
     let name = must_be_value_in_region(editor, a, b, name, v)?;
     let edit = put_edit(editor.allocator(), name, property_value(v)?)?;
-    change(editor, a, b, edit, Value::Nil)
+    change(editor, a, b, edit, false)
 }
 
 /// The change that gives the properties of a list their values.
@@ -138,7 +141,7 @@ pub(crate) fn add_text_properties(
     must_be_accessible(editor.current(), editor, a)?;
     must_be_accessible(editor.current(), editor, b)?;
     let edit = adding(editor.allocator(), &list)?;
-    change(editor, a, b, edit, Value::T)
+    change(editor, a, b, edit, true)
 }
 
 pub(crate) fn remove_text_properties(
@@ -156,7 +159,7 @@ pub(crate) fn remove_text_properties(
     must_be_accessible(editor.current(), editor, a)?;
     must_be_accessible(editor.current(), editor, b)?;
     let edit = removing(editor.allocator(), &list)?;
-    change(editor, a, b, edit, Value::T)
+    change(editor, a, b, edit, true)
 }
 
 pub(crate) fn set_text_properties(
@@ -174,5 +177,5 @@ pub(crate) fn set_text_properties(
     must_be_accessible(editor.current(), editor, a)?;
     must_be_accessible(editor.current(), editor, b)?;
     let edit = replacing(editor.allocator(), &list)?;
-    change(editor, a, b, edit, Value::T)
+    change(editor, a, b, edit, true)
 }

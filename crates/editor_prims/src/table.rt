@@ -47,12 +47,17 @@ pub fn nil() -> Value
 // CALLS THAT ONLY ASK
 
 /// What a call on buffers answers that only asks; `None` for any other call.
-fn ask_buffers(editor: &Editor, prim: Prim, args: &Values) -> Option<Result<Value, Failure>>
+fn ask_buffers(
+    editor: &Editor,
+    prim: Prim,
+    args: &Values,
+    nil: &Value,
+) -> Option<Result<Value, Failure>>
+    requires { view nil.now ≡ Nil }
     ensures { Asks result (asks_of_buffers (prim_of prim))
         (query (editor_of editor.now) (prim_of prim) (map view (items_of args.now))) }
 {
-    let nil = nil();
-    let a = arg(args, 0, &nil);
+    let a = arg(args, 0, nil);
     match prim {
         Prim::CurrentBuffer => Some(buffers::current_buffer(editor)),
         Prim::GetBuffer => Some(buffers::get_buffer(editor, a)),
@@ -66,13 +71,18 @@ fn ask_buffers(editor: &Editor, prim: Prim, args: &Values) -> Option<Result<Valu
 }
 
 /// What a call on texts answers that only asks; `None` for any other call.
-fn ask_texts(editor: &Editor, prim: Prim, args: &Values) -> Option<Result<Value, Failure>>
+fn ask_texts(
+    editor: &Editor,
+    prim: Prim,
+    args: &Values,
+    nil: &Value,
+) -> Option<Result<Value, Failure>>
+    requires { view nil.now ≡ Nil }
     ensures { Asks result (asks_of_texts (prim_of prim))
         (query (editor_of editor.now) (prim_of prim) (map view (items_of args.now))) }
 {
-    let nil = nil();
-    let a = arg(args, 0, &nil);
-    let b = arg(args, 1, &nil);
+    let a = arg(args, 0, nil);
+    let b = arg(args, 1, nil);
     match prim {
         Prim::Point => Some(texts::point(editor)),
         Prim::PointMin => Some(texts::point_min(editor)),
@@ -90,12 +100,17 @@ fn ask_texts(editor: &Editor, prim: Prim, args: &Values) -> Option<Result<Value,
 }
 
 /// What a call on markers answers that only asks; `None` for any other call.
-fn ask_markers(editor: &Editor, prim: Prim, args: &Values) -> Option<Result<Value, Failure>>
+fn ask_markers(
+    editor: &Editor,
+    prim: Prim,
+    args: &Values,
+    nil: &Value,
+) -> Option<Result<Value, Failure>>
+    requires { view nil.now ≡ Nil }
     ensures { Asks result (asks_of_markers (prim_of prim))
         (query (editor_of editor.now) (prim_of prim) (map view (items_of args.now))) }
 {
-    let nil = nil();
-    let a = arg(args, 0, &nil);
+    let a = arg(args, 0, nil);
     match prim {
         Prim::MarkerPosition => Some(markers::marker_position(editor, a)),
         Prim::MarkerBuffer => Some(markers::marker_buffer(editor, a)),
@@ -105,15 +120,20 @@ fn ask_markers(editor: &Editor, prim: Prim, args: &Values) -> Option<Result<Valu
 }
 
 /// What a call on text properties answers that only asks; `None` for any other call.
-fn ask_properties(editor: &Editor, prim: Prim, args: &Values) -> Option<Result<Value, Failure>>
+fn ask_properties(
+    editor: &Editor,
+    prim: Prim,
+    args: &Values,
+    nil: &Value,
+) -> Option<Result<Value, Failure>>
+    requires { view nil.now ≡ Nil }
     ensures { Asks result (asks_of_properties (prim_of prim))
         (query (editor_of editor.now) (prim_of prim) (map view (items_of args.now))) }
 {
-    let nil = nil();
-    let a = arg(args, 0, &nil);
-    let b = arg(args, 1, &nil);
-    let c = arg(args, 2, &nil);
-    let d = arg(args, 3, &nil);
+    let a = arg(args, 0, nil);
+    let b = arg(args, 1, nil);
+    let c = arg(args, 2, nil);
+    let d = arg(args, 3, nil);
     match prim {
         Prim::GetTextProperty => Some(properties::get_text_property(editor, a, b)),
         Prim::TextPropertiesAt => Some(properties::text_properties_at(editor, a)),
@@ -132,13 +152,18 @@ fn ask_properties(editor: &Editor, prim: Prim, args: &Values) -> Option<Result<V
 }
 
 /// What a call on overlays answers that only asks; `None` for any other call.
-fn ask_overlays(editor: &Editor, prim: Prim, args: &Values) -> Option<Result<Value, Failure>>
+fn ask_overlays(
+    editor: &Editor,
+    prim: Prim,
+    args: &Values,
+    nil: &Value,
+) -> Option<Result<Value, Failure>>
+    requires { view nil.now ≡ Nil }
     ensures { Asks result (asks_of_overlays (prim_of prim))
         (query (editor_of editor.now) (prim_of prim) (map view (items_of args.now))) }
 {
-    let nil = nil();
-    let a = arg(args, 0, &nil);
-    let b = arg(args, 1, &nil);
+    let a = arg(args, 0, nil);
+    let b = arg(args, 1, nil);
     match prim {
         Prim::OverlayStart => Some(overlays::overlay_start(editor, a)),
         Prim::OverlayEnd => Some(overlays::overlay_end(editor, a)),
@@ -170,19 +195,29 @@ pub fn query(editor: &Editor, prim: Prim, args: &Values) -> Mem<Reply>
     ensures { IfOk result (λ r. reply_of r ≡ query (editor_of editor.now) (prim_of prim)
         (map view (items_of args.now))) }
 {
-    if let Some(answer) = ask_buffers(editor, prim, args) {
+    let nil = nil();
+    query_with(editor, prim, args, &nil)
+}
+
+/// What such a call answers, with nil at hand for the arguments that were left out.
+fn query_with(editor: &Editor, prim: Prim, args: &Values, nil: &Value) -> Mem<Reply>
+    requires { view nil.now ≡ Nil }
+    ensures { IfOk result (λ r. reply_of r ≡ query (editor_of editor.now) (prim_of prim)
+        (map view (items_of args.now))) }
+{
+    if let Some(answer) = ask_buffers(editor, prim, args, nil) {
         return reply(answer);
     }
-    if let Some(answer) = ask_texts(editor, prim, args) {
+    if let Some(answer) = ask_texts(editor, prim, args, nil) {
         return reply(answer);
     }
-    if let Some(answer) = ask_markers(editor, prim, args) {
+    if let Some(answer) = ask_markers(editor, prim, args, nil) {
         return reply(answer);
     }
-    if let Some(answer) = ask_properties(editor, prim, args) {
+    if let Some(answer) = ask_properties(editor, prim, args, nil) {
         return reply(answer);
     }
-    if let Some(answer) = ask_overlays(editor, prim, args) {
+    if let Some(answer) = ask_overlays(editor, prim, args, nil) {
         return reply(answer);
     }
     if let Some(answer) = ask_undo(editor, prim) {
@@ -194,13 +229,18 @@ pub fn query(editor: &Editor, prim: Prim, args: &Values) -> Mem<Reply>
 // CALLS THAT SET STATE WITHOUT HOOKS
 
 /// Does a call on buffers that sets state and is heard by no hook; does nothing, and gives `None`, for any other call.
-fn set_buffers(editor: &mut Editor, prim: Prim, args: &Values) -> Option<Result<Value, Failure>>
+fn set_buffers(
+    editor: &mut Editor,
+    prim: Prim,
+    args: &Values,
+    nil: &Value,
+) -> Option<Result<Value, Failure>>
+    requires { view nil.now ≡ Nil }
     ensures { Sets result (sets_in_buffers (prim_of prim)) (editor_of editor.old)
         (editor_of editor.new) (apply (editor_of editor.old) (prim_of prim)
         (map view (items_of args.now))) }
 {
-    let nil = nil();
-    let a = arg(args, 0, &nil);
+    let a = arg(args, 0, nil);
     match prim {
         Prim::SetBuffer => Some(buffers::set_buffer(editor, a)),
         Prim::GetBufferCreate => Some(buffers::get_buffer_create(editor, a)),
@@ -213,14 +253,19 @@ fn set_buffers(editor: &mut Editor, prim: Prim, args: &Values) -> Option<Result<
 }
 
 /// Does a call on texts that sets state and is heard by no hook; does nothing, and gives `None`, for any other call.
-fn set_texts(editor: &mut Editor, prim: Prim, args: &Values) -> Option<Result<Value, Failure>>
+fn set_texts(
+    editor: &mut Editor,
+    prim: Prim,
+    args: &Values,
+    nil: &Value,
+) -> Option<Result<Value, Failure>>
+    requires { view nil.now ≡ Nil }
     ensures { Sets result (sets_in_texts (prim_of prim)) (editor_of editor.old)
         (editor_of editor.new) (apply (editor_of editor.old) (prim_of prim)
         (map view (items_of args.now))) }
 {
-    let nil = nil();
-    let a = arg(args, 0, &nil);
-    let b = arg(args, 1, &nil);
+    let a = arg(args, 0, nil);
+    let b = arg(args, 1, nil);
     match prim {
         Prim::GotoChar => Some(texts::goto_char(editor, a)),
         Prim::NarrowToRegion => Some(texts::narrow_to_region(editor, a, b)),
@@ -230,15 +275,20 @@ fn set_texts(editor: &mut Editor, prim: Prim, args: &Values) -> Option<Result<Va
 }
 
 /// Does a call on markers that sets state and is heard by no hook; does nothing, and gives `None`, for any other call.
-fn set_markers(editor: &mut Editor, prim: Prim, args: &Values) -> Option<Result<Value, Failure>>
+fn set_markers(
+    editor: &mut Editor,
+    prim: Prim,
+    args: &Values,
+    nil: &Value,
+) -> Option<Result<Value, Failure>>
+    requires { view nil.now ≡ Nil }
     ensures { Sets result (sets_in_markers (prim_of prim)) (editor_of editor.old)
         (editor_of editor.new) (apply (editor_of editor.old) (prim_of prim)
         (map view (items_of args.now))) }
 {
-    let nil = nil();
-    let a = arg(args, 0, &nil);
-    let b = arg(args, 1, &nil);
-    let c = arg(args, 2, &nil);
+    let a = arg(args, 0, nil);
+    let b = arg(args, 1, nil);
+    let c = arg(args, 2, nil);
     match prim {
         Prim::MakeMarker => Some(markers::make_marker(editor)),
         Prim::PointMarker => Some(markers::point_marker(editor)),
@@ -250,17 +300,22 @@ fn set_markers(editor: &mut Editor, prim: Prim, args: &Values) -> Option<Result<
 }
 
 /// Does a call on overlays that sets state and is heard by no hook; does nothing, and gives `None`, for any other call.
-fn set_overlays(editor: &mut Editor, prim: Prim, args: &Values) -> Option<Result<Value, Failure>>
+fn set_overlays(
+    editor: &mut Editor,
+    prim: Prim,
+    args: &Values,
+    nil: &Value,
+) -> Option<Result<Value, Failure>>
+    requires { view nil.now ≡ Nil }
     ensures { Sets result (sets_in_overlays (prim_of prim)) (editor_of editor.old)
         (editor_of editor.new) (apply (editor_of editor.old) (prim_of prim)
         (map view (items_of args.now))) }
 {
-    let nil = nil();
-    let a = arg(args, 0, &nil);
-    let b = arg(args, 1, &nil);
-    let c = arg(args, 2, &nil);
-    let d = arg(args, 3, &nil);
-    let e = arg(args, 4, &nil);
+    let a = arg(args, 0, nil);
+    let b = arg(args, 1, nil);
+    let c = arg(args, 2, nil);
+    let d = arg(args, 3, nil);
+    let e = arg(args, 4, nil);
     match prim {
         Prim::MakeOverlay => Some(overlays::make_overlay(editor, a, b, c, d, e)),
         Prim::OverlayPut => Some(overlays::overlay_put(editor, a, b, c)),
@@ -294,16 +349,30 @@ pub fn apply(editor: &mut Editor, prim: Prim, args: &Values) -> Mem<Reply>
         (map view (items_of args.now))) }
     ensures err { OnErr result (editor_of editor.new ≡ editor_of editor.old) }
 {
-    if let Some(answer) = set_buffers(editor, prim, args) {
+    let nil = nil();
+    apply_with(editor, prim, args, &nil)
+}
+
+/// Does such a call, with nil at hand for the arguments that were left out.
+fn apply_with(editor: &mut Editor, prim: Prim, args: &Values, nil: &Value) -> Mem<Reply>
+    requires { view nil.now ≡ Nil }
+    ensures ok { IfOk result (λ r. record {
+      editor = editor_of editor.new;
+      reply = reply_of r;
+    } ≡ apply (editor_of editor.old) (prim_of prim)
+        (map view (items_of args.now))) }
+    ensures err { OnErr result (editor_of editor.new ≡ editor_of editor.old) }
+{
+    if let Some(answer) = set_buffers(editor, prim, args, nil) {
         return reply(answer);
     }
-    if let Some(answer) = set_texts(editor, prim, args) {
+    if let Some(answer) = set_texts(editor, prim, args, nil) {
         return reply(answer);
     }
-    if let Some(answer) = set_markers(editor, prim, args) {
+    if let Some(answer) = set_markers(editor, prim, args, nil) {
         return reply(answer);
     }
-    if let Some(answer) = set_overlays(editor, prim, args) {
+    if let Some(answer) = set_overlays(editor, prim, args, nil) {
         return reply(answer);
     }
     if let Some(answer) = set_undo(editor, prim) {
@@ -315,14 +384,19 @@ pub fn apply(editor: &mut Editor, prim: Prim, args: &Values) -> Mem<Reply>
 // CALLS THAT CHANGE A TEXT
 
 /// Prepares a call on texts that changes a text; `None` for any other call.
-fn prepare_texts(editor: &Editor, prim: Prim, args: &Values) -> Option<Result<Prepared, Failure>>
+fn prepare_texts(
+    editor: &Editor,
+    prim: Prim,
+    args: &Values,
+    nil: &Value,
+) -> Option<Result<Prepared, Failure>>
+    requires { view nil.now ≡ Nil }
     ensures { Plans result (changes_of_texts (prim_of prim))
         (prepare (editor_of editor.now) (prim_of prim) (map view (items_of args.now))) }
 {
-    let nil = nil();
-    let a = arg(args, 0, &nil);
-    let b = arg(args, 1, &nil);
-    let c = arg(args, 2, &nil);
+    let a = arg(args, 0, nil);
+    let b = arg(args, 1, nil);
+    let c = arg(args, 2, nil);
     match prim {
         Prim::Insert => Some(inserts::insert(editor, false, false, args)),
         Prim::InsertAndInherit => Some(inserts::insert(editor, false, true, args)),
@@ -341,15 +415,16 @@ fn prepare_properties(
     editor: &Editor,
     prim: Prim,
     args: &Values,
+    nil: &Value,
 ) -> Option<Result<Prepared, Failure>>
+    requires { view nil.now ≡ Nil }
     ensures { Plans result (changes_of_properties (prim_of prim))
         (prepare (editor_of editor.now) (prim_of prim) (map view (items_of args.now))) }
 {
-    let nil = nil();
-    let a = arg(args, 0, &nil);
-    let b = arg(args, 1, &nil);
-    let c = arg(args, 2, &nil);
-    let d = arg(args, 3, &nil);
+    let a = arg(args, 0, nil);
+    let b = arg(args, 1, nil);
+    let c = arg(args, 2, nil);
+    let d = arg(args, 3, nil);
     match prim {
         Prim::PutTextProperty => Some(property_changes::put_text_property(editor, a, b, c, d)),
         Prim::AddTextProperties => Some(property_changes::add_text_properties(editor, a, b, c)),
@@ -362,12 +437,17 @@ fn prepare_properties(
 }
 
 /// Prepares a call on undo that changes a text; `None` for any other call.
-fn prepare_undo(editor: &Editor, prim: Prim, args: &Values) -> Option<Result<Prepared, Failure>>
+fn prepare_undo(
+    editor: &Editor,
+    prim: Prim,
+    args: &Values,
+    nil: &Value,
+) -> Option<Result<Prepared, Failure>>
+    requires { view nil.now ≡ Nil }
     ensures { Plans result (changes_of_undo (prim_of prim))
         (prepare (editor_of editor.now) (prim_of prim) (map view (items_of args.now))) }
 {
-    let nil = nil();
-    let a = arg(args, 0, &nil);
+    let a = arg(args, 0, nil);
     match prim {
         Prim::UndoMore => Some(undo_more::undo_more(editor, a)),
         _ => None,
@@ -375,18 +455,28 @@ fn prepare_undo(editor: &Editor, prim: Prim, args: &Values) -> Option<Result<Pre
 }
 
 /// Prepares a call that changes a text, and changes nothing yet. Any other call is refused as a wrong type.
-#[tactic(auto, using(crate::proofs::Others::nobody_changes))]
 pub fn prepare(editor: &Editor, prim: Prim, args: &Values) -> Mem<Prepared>
     ensures { IfOk result (λ p. prepared_of p ≡
         prepare (editor_of editor.now) (prim_of prim) (map view (items_of args.now))) }
 {
-    if let Some(change) = prepare_texts(editor, prim, args) {
+    let nil = nil();
+    prepare_with(editor, prim, args, &nil)
+}
+
+/// Prepares such a call, with nil at hand for the arguments that were left out.
+#[tactic(auto, using(crate::proofs::Others::nobody_changes))]
+fn prepare_with(editor: &Editor, prim: Prim, args: &Values, nil: &Value) -> Mem<Prepared>
+    requires { view nil.now ≡ Nil }
+    ensures { IfOk result (λ p. prepared_of p ≡
+        prepare (editor_of editor.now) (prim_of prim) (map view (items_of args.now))) }
+{
+    if let Some(change) = prepare_texts(editor, prim, args, nil) {
         return prepared(change);
     }
-    if let Some(change) = prepare_properties(editor, prim, args) {
+    if let Some(change) = prepare_properties(editor, prim, args, nil) {
         return prepared(change);
     }
-    if let Some(change) = prepare_undo(editor, prim, args) {
+    if let Some(change) = prepare_undo(editor, prim, args, nil) {
         return prepared(change);
     }
     Ok(Prepared::Fault(Fault::WrongType))

@@ -1,6 +1,6 @@
 //! The undo list as it is shown ("Undo" in the GNU Emacs Lisp Reference Manual).
 ghost use Rattle.std.specs.Prelude.{◌≡◌, ◌<◌, [], ◌∷◌, ◌++◌, map, length, IfOk, OnOk, option_map};
-ghost use Rattle.text_model.specs.Undo.{Prop};
+ghost use Rattle.text_model.specs.Undo.{Inserted, Deleted, Prop};
 ghost use Rattle.editor_model.specs.Values.{Dotted, values};
 ghost use Rattle.editor_model.specs.Editor.{here};
 ghost use Rattle.editor_model.specs.UndoCalls as calls;
@@ -15,7 +15,7 @@ use crate::failure::Failure;
 use crate::values::{at_place, dotted, list, of_prop, symbol};
 use buffer_table::Editor;
 use ek_call::{Value, Values};
-use ek_types::{Copied, Mem, PropVal, Sym};
+use ek_types::{Copied, Mem, Piece, PropVal, Sym};
 use std::alloc::Global;
 use undo_list::Rec;
 
@@ -47,6 +47,22 @@ fn property_record(
     dotted(items, at_place(to)?)
 }
 
+/// A record of text that was put in.
+fn inserted_record(alloc: Global, from: usize, to: usize) -> Mem<Value>
+    ensures { IfOk result (λ v. view v ≡ calls.record_value (Inserted from to)) }
+{
+    let from = at_place(from)?;
+    pair(alloc, from, at_place(to)?)
+}
+
+/// A record of text that was deleted.
+fn deleted_record(alloc: Global, piece: &Piece, place: usize) -> Mem<Value>
+    ensures { IfOk result (λ v. view v ≡ calls.record_value (Deleted piece.now place)) }
+{
+    let place = at_place(place)?;
+    pair(alloc, Value::Str(piece.copy()?), place)
+}
+
 /// A record as a value.
 fn record_value(alloc: Global, rec: &Rec) -> Mem<Value>
     ensures { IfOk result (λ v. view v ≡ calls.record_value (rec_of rec.now)) }
@@ -54,8 +70,8 @@ fn record_value(alloc: Global, rec: &Rec) -> Mem<Value>
     match rec {
         Rec::Boundary => Ok(Value::Nil),
         Rec::Point(place) => at_place(*place),
-        Rec::Inserted(from, to) => pair(alloc, at_place(*from)?, at_place(*to)?),
-        Rec::Deleted(piece, place) => pair(alloc, Value::Str(piece.copy()?), at_place(*place)?),
+        Rec::Inserted(from, to) => inserted_record(alloc, *from, *to),
+        Rec::Deleted(piece, place) => deleted_record(alloc, piece, *place),
         Rec::Prop(name, old, from, to) => property_record(alloc, *name, old.as_ref(), *from, *to),
         Rec::First => pair(alloc, Value::T, Value::Int(0)),
         Rec::Moved(marker, by) => pair(alloc, Value::Marker(*marker), Value::Int(*by)),

@@ -1,6 +1,6 @@
 //! Names and their numbers.
 ghost use Rattle.std.specs.Prelude.{◌≡◌, ℕ, ◌+◌, ◌<◌, ◌^◌, length, List, [], ◌∷◌, ◌++◌, map, Some};
-ghost use Rattle.std.specs.Prelude.{None, IfOk, OnOk, OnErr, slice_get, string_bytes};
+ghost use Rattle.std.specs.Prelude.{None, IfOk, OnOk, OnErr, slice_get, string_bytes, fold, take};
 ghost use Rattle.std.specs.Option.{option_map};
 ghost use Rattle.text_model.specs.Names.{first_symbols, with_name};
 ghost use Rattle.ek_types.specs.Property.{number_of};
@@ -10,6 +10,27 @@ use crate::memory::Mem;
 use indexmap::IndexSet;
 use std::alloc::Global;
 use std::marker::Model;
+
+/// The names that have a number in every script.
+const FIRST_NAMES: [&str; 17] = [
+    "front-sticky",
+    "rear-nonsticky",
+    "evaporate",
+    "priority",
+    "before-change-functions",
+    "after-change-functions",
+    "run",
+    "exit",
+    "signal",
+    "failed",
+    "read-only",
+    "invisible",
+    "before-string",
+    "after-string",
+    "utf-8-unix",
+    "utf-8-dos",
+    "latin-1-unix",
+];
 
 /// A symbol: the number of its name among the `Symbols`.
 #[derive(Clone, Copy, Debug, PartialEq, Eq)]
@@ -41,23 +62,7 @@ impl Symbols {
         let mut symbols = Symbols {
             names: IndexSet::new(alloc),
         };
-        symbols.intern("front-sticky")?;
-        symbols.intern("rear-nonsticky")?;
-        symbols.intern("evaporate")?;
-        symbols.intern("priority")?;
-        symbols.intern("before-change-functions")?;
-        symbols.intern("after-change-functions")?;
-        symbols.intern("run")?;
-        symbols.intern("exit")?;
-        symbols.intern("signal")?;
-        symbols.intern("failed")?;
-        symbols.intern("read-only")?;
-        symbols.intern("invisible")?;
-        symbols.intern("before-string")?;
-        symbols.intern("after-string")?;
-        symbols.intern("utf-8-unix")?;
-        symbols.intern("utf-8-dos")?;
-        symbols.intern("latin-1-unix")?;
+        symbols.intern_all(&FIRST_NAMES)?;
         Ok(symbols)
     }
 
@@ -105,6 +110,21 @@ impl Symbols {
                 Ok(Sym(number))
             }
         }
+    }
+
+    /// Gives each of these names a number in turn, where it has none. They and the names before are fewer than 2^32. Want
+    /// of memory leaves some of the first of them in.
+    pub fn intern_all(&mut self, names: &[&str]) -> Mem<()>
+        requires { length self.old + length names.now < 2 ^ 32 }
+        ensures ok { OnOk result
+            (self.new ≡ fold with_name self.old (map (λ name. name.now) names.now)) }
+        ensures err { OnErr result ((k : ℕ) ×
+            (self.new ≡ fold with_name self.old (map (λ name. name.now) (take k names.now)))) }
+    {
+        for name in names {
+            self.intern(name)?;
+        }
+        Ok(())
     }
 
     /// Gives a name that has no number the next one.

@@ -1,6 +1,9 @@
 -- Codes read as characters.
 use Rattle.std.proofs.Common.{◌≡◌, ℕ, zero, suc, ◌+◌, ◌-◌, ◌<◌, ◌≤◌, Bool, true, false, List, [], ◌∷◌, ◌++◌, length, get_or, take, drop, map, refl, ap, subst, arith, Option, Some, None, IsSome, slice_get, filter_map, if◌then◌else◌, sym, ◌∙◌}
 use Rattle.std.proofs.lemmas.Bool.Decides.{nat_tests}
+use Rattle.std.proofs.lemmas.Option.{slice_get-get_or}
+use Rattle.std.proofs.lemmas.List.Elements.{filter_map-append}
+use Rattle.ek_types.proofs.Listed.{take_one_more}
 use Rattle.std.specs.Char.{IsScalar}
 use Rattle.text_model.specs.Characters.{Ch, Scalar, Raw, IsCharacter, code, from_code, is_scalar_code, is_raw_code}
 use Rattle.ek_types.specs.Seen.{AreCharacters}
@@ -131,3 +134,9 @@ part_of_read at n xs h =
     let behind : AreCodes (drop at xs) = are_codes_back at xs h in
     sym (codes_of_read (take n (drop at xs)) (are_codes_front n (drop at xs) behind))
     ∙ ap (map code) (take-read n (drop at xs) behind ∙ ap (take n) (drop-read at xs h))
+
+-- one more code that is read
+pub read_more : (xs : List ℕ) (i : ℕ) (c : Ch) → i < length xs → from_code (get_or xs i 0) ≡ Some c → filter_map from_code (take (i + 1) xs) ≡ filter_map from_code (take i xs) ++ c ∷ []
+read_more xs i c l e =
+    let one : filter_map from_code (get_or xs i 0 ∷ []) ≡ c ∷ [] = rw e refl in
+    rw (take_one_more xs i (get_or xs i 0) (slice_get-get_or xs i 0 l), filter_map-append from_code (take i xs) (get_or xs i 0 ∷ []), one) refl

@@ -1,9 +1,8 @@
 -- What the calls of a text do to its codes and characters.
-use Rattle.std.proofs.Common.{◌≡◌, ℕ, ◌+◌, ◌-◌, ◌*◌, ◌<◌, ◌≤◌, List, [], ◌∷◌, ◌++◌, length, get_or, take, drop, map, filter_map, refl, sym, ap, ◌∙◌, subst, arith, append_assoc, slice_get, Some}
-use Rattle.std.proofs.lemmas.List.{length-append, length-take-le, length-drop, take_at, drop_at, drop-append-le, get_or_append_left, get_or-append_right, get_or-take, get_or-drop}
-use Rattle.std.proofs.lemmas.Option.{slice_get_within}
-use Rattle.ek_types.proofs.Listed.{take_one_more}
+use Rattle.std.proofs.Common.{◌≡◌, ℕ, ◌+◌, ◌-◌, ◌*◌, ◌<◌, ◌≤◌, List, ◌++◌, length, get_or, take, drop, map, filter_map, refl, sym, ap, ◌∙◌, subst, arith, append_assoc}
+use Rattle.std.proofs.lemmas.List.{length-append, length-take-le, length-drop, take_at, drop_at, drop-append-le, take-append-drop, take-take, get_or_append_left, get_or-append_right, get_or-take, get_or-drop}
 use Rattle.std.proofs.lemmas.List.Elements.{filter_map-append}
+use Rattle.std.proofs.Math.Seq.{take-append-add}
 use Rattle.text_model.specs.Characters.{Ch, code, from_code}
 use Rattle.ek_types.specs.Seen.{AreCharacters}
 use Rattle.text_pool.specs.Pool.{Pooled}
@@ -71,12 +70,25 @@ filled cells new i spare count text fits room written behind =
     let rest : drop (i + spare) new ≡ drop (i + spare) cells = behind (i + spare) (omega arith) in
     rw (written, end, rest, front, back) (append_assoc (take i cells) text (drop (i + spare) cells))
 
--- one more character copied
-pub part_more : (text : List Ch) (from i : ℕ) (c : Ch) → from ≤ i → slice_get text i ≡ Some c → drop from (take (i + 1) text) ≡ drop from (take i text) ++ c ∷ []
-part_more text from i c h at =
-    let in' : i < length text = slice_get_within text i c at in
-    let n : length (take i text) ≡ i = length-take-le i text (omega arith) in
-    ap (λ l. drop from l) (take_one_more text i c at) ∙ drop-append-le from (take i text) (c ∷ []) (omega arith)
+-- more characters copied
+pub part_grows : (text : List Ch) (from i n : ℕ) → from ≤ i → i ≤ length text → drop from (take (i + n) text) ≡ drop from (take i text) ++ take n (drop i text)
+part_grows text from i n h l =
+    let front : length (take i text) ≡ i = length-take-le i text l in
+    let whole : take i text ++ drop i text ≡ text = take-append-drop i text in
+    let cut : take (i + n) text ≡ take i text ++ take n (drop i text) = ap (λ t. take (i + n) t) (sym whole)
+    ∙ ap (λ k. take (k + n) (take i text ++ drop i text)) (sym front) ∙ take-append-add (take i text) (drop i text) n in
+    ap (λ t. drop from t) cut ∙ drop-append-le from (take i text) (take n (drop i text)) (omega arith)
+
+-- a front of the codes that are lent is that of the characters there
+pub lent_front : (xs lent : List ℕ) (at n : ℕ) → AreCodes xs → lent ≡ map code (take (length lent) (drop at (filter_map from_code xs))) → n ≤ length lent
+    → AreCodes (take n lent) × (filter_map from_code (take n lent) ≡ take n (drop at (filter_map from_code xs)))
+lent_front xs lent at n h e l =
+    let part : lent ≡ take (length lent) (drop at xs) = e ∙ sym (part_of_read at (length lent) xs h) in
+    let front : take n lent ≡ take n (drop at xs) = ap (λ t. take n t) part ∙ take-take n (length lent) (drop at xs) l in
+    let behind : AreCodes (drop at xs) = are_codes_back at xs h in (
+      subst AreCodes (sym front) (are_codes_front n (drop at xs) behind),
+      ap (λ t. filter_map from_code t) front ∙ take-read n (drop at xs) behind ∙ ap (λ t. take n t) (drop-read at xs h),
+    )
 
 -- a text in a pool with these characters
 pub record Spliced (pool : Pooled) (text : Gapped) (expected : List Ch) : Type 0 where

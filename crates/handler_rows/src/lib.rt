@@ -4,6 +4,8 @@
 #[cfg(test)]
 mod boxes;
 #[cfg(test)]
+mod checking;
+#[cfg(test)]
 mod hooks;
 #[cfg(test)]
 mod natives;

@@ -1,10 +1,11 @@
 //! The two natives of a line session reply by reply, and the script.
+use crate::checking::{holds, is};
 use ek_call::{Arg, Call, Fault, Form, Primitive, Replies, Reply, Value, Values};
 use ek_types::{Ch, Chars, ListOf, Mem, Piece, Sym};
 use handler_code::{Natives, Next};
 use line_session::LineSession;
 use std::alloc::Global;
-use std::test::Fail;
+use std::process::Abort;
 
 /// A session of `make -k`.
 fn session(alloc: Global, limit: u32) -> Mem<LineSession> {
@@ -110,148 +111,148 @@ fn restarting(alloc: Global, last: i64, count: usize) -> Mem<Option<Step>> {
     sentinel(alloc, b"exited abnormally with code 3\n", &past)
 }
 
-#[test]
-fn the_filter_puts_its_text_at_the_end_of_the_buffer(rt: HostRuntime) -> Result<(), Fail> {
-    let alloc = rt.alloc();
-    let past = |count| looked(alloc, count, 98);
-    assert_eq!(rt;
-        filter(alloc, &past(0)?)?,
-        asked(Primitive::ProcessBuffer, 4, -1)
-    );
-    assert_eq!(rt;
-        filter(alloc, &past(1)?)?,
-        asked(Primitive::SetBuffer, 1, -1)
-    );
-    assert_eq!(rt;
-        filter(alloc, &past(2)?)?,
-        asked(Primitive::PointMax, -1, -1)
-    );
-    assert_eq!(rt;
-        filter(alloc, &past(3)?)?,
-        asked(Primitive::GotoChar, 7, -1)
-    );
-    assert_eq!(rt;
-        filter(alloc, &past(4)?)?,
-        asked(Primitive::Insert, 102, -1)
-    );
-    assert_eq!(rt; filter(alloc, &past(5)?)?, None);
-    assert_eq!(rt; filter(alloc, &past(6)?)?, None);
-    Ok(())
+/// The filter does this next, behind so many answers.
+fn filters(rt: &impl Abort, alloc: Global, count: usize, step: Option<Step>) {
+    let past = looked(alloc, count, 98).expect(rt, "memory");
+    is(rt, filter(alloc, &past).expect(rt, "memory"), step);
 }
 
 #[test]
-fn a_refused_insertion_switches_reading_off(rt: HostRuntime) -> Result<(), Fail> {
+fn the_filter_puts_its_text_at_the_end_of_the_buffer(rt: HostRuntime) {
     let alloc = rt.alloc();
-    let mut past = looked(alloc, 4, 98)?;
-    past.push(Reply::Fault(Fault::BufferFull))?;
-    assert_eq!(rt;
-        filter(alloc, &past)?,
-        asked(Primitive::SetProcessFilter, 4, 0)
-    );
-    past.push(Reply::Value(Value::T))?;
-    assert_eq!(rt; filter(alloc, &past)?, None);
-    let mut past = looked(alloc, 5, 98)?;
-    past.push(Reply::Fault(Fault::BufferFull))?;
-    assert_eq!(rt;
-        sentinel(alloc, b"killed\n", &past)?,
-        asked(Primitive::SetProcessFilter, 4, 0)
-    );
-    past.push(Reply::Fault(Fault::BufferFull))?;
-    assert_eq!(rt; sentinel(alloc, b"killed\n", &past)?, None);
-    Ok(())
+    filters(&rt, alloc, 0, asked(Primitive::ProcessBuffer, 4, -1));
+    filters(&rt, alloc, 1, asked(Primitive::SetBuffer, 1, -1));
+    filters(&rt, alloc, 2, asked(Primitive::PointMax, -1, -1));
+    filters(&rt, alloc, 3, asked(Primitive::GotoChar, 7, -1));
+    filters(&rt, alloc, 4, asked(Primitive::Insert, 102, -1));
+    filters(&rt, alloc, 5, None);
+    filters(&rt, alloc, 6, None);
+}
+
+/// So many answers up to the end of the buffer, where `code` stands, and one more.
+fn looked_and(rt: &impl Abort, alloc: Global, count: usize, code: i64, last: Reply) -> Replies {
+    let mut past = looked(alloc, count, code).expect(rt, "memory");
+    past.push(last).expect(rt, "memory");
+    past
+}
+
+/// The filter does this next.
+fn filters_behind(rt: &impl Abort, alloc: Global, past: &Replies, step: Option<Step>) {
+    is(rt, filter(alloc, past).expect(rt, "memory"), step);
+}
+
+/// The sentinel does this next, told these words.
+fn tells(rt: &impl Abort, alloc: Global, told: &[u8], past: &Replies, step: Option<Step>) {
+    is(rt, sentinel(alloc, told, past).expect(rt, "memory"), step);
 }
 
 #[test]
-fn a_fault_on_the_way_to_the_end_ends_both(rt: HostRuntime) -> Result<(), Fail> {
+fn a_refused_insertion_by_the_filter_switches_reading_off(rt: HostRuntime) {
     let alloc = rt.alloc();
-    for count in 0..5 {
-        let mut past = looked(alloc, count, 98)?;
-        past.push(Reply::Fault(Fault::BufferKilled))?;
-        if count < 4 {
-            assert_eq!(rt; filter(alloc, &past)?, None);
-        }
-        assert_eq!(rt; sentinel(alloc, b"killed\n", &past)?, None);
+    let mut past = looked_and(&rt, alloc, 4, 98, Reply::Fault(Fault::BufferFull));
+    let off = asked(Primitive::SetProcessFilter, 4, 0);
+    filters_behind(&rt, alloc, &past, off);
+    past.push(Reply::Value(Value::T)).expect(&rt, "memory");
+    filters_behind(&rt, alloc, &past, None);
+}
+
+#[test]
+fn a_refused_insertion_by_the_sentinel_switches_reading_off(rt: HostRuntime) {
+    let alloc = rt.alloc();
+    let mut past = looked_and(&rt, alloc, 5, 98, Reply::Fault(Fault::BufferFull));
+    let off = asked(Primitive::SetProcessFilter, 4, 0);
+    tells(&rt, alloc, b"killed\n", &past, off);
+    past.push(Reply::Fault(Fault::BufferFull))
+        .expect(&rt, "memory");
+    tells(&rt, alloc, b"killed\n", &past, None);
+}
+
+#[test]
+fn a_fault_on_the_way_to_the_end_ends_the_filter(rt: HostRuntime) {
+    for count in 0..4 {
+        let fault = Reply::Fault(Fault::BufferKilled);
+        let past = looked_and(&rt, rt.alloc(), count, 98, fault);
+        filters_behind(&rt, rt.alloc(), &past, None);
     }
-    Ok(())
 }
 
 #[test]
-fn the_sentinel_closes_an_open_line(rt: HostRuntime) -> Result<(), Fail> {
+fn a_fault_on_the_way_to_the_end_ends_the_sentinel(rt: HostRuntime) {
+    for count in 0..5 {
+        let fault = Reply::Fault(Fault::BufferKilled);
+        let past = looked_and(&rt, rt.alloc(), count, 98, fault);
+        tells(&rt, rt.alloc(), b"killed\n", &past, None);
+    }
+}
+
+#[test]
+fn the_sentinel_closes_an_open_line(rt: HostRuntime) {
     let alloc = rt.alloc();
     let told = b"finished\n";
-    let past = looked(alloc, 4, 98)?;
-    assert_eq!(rt;
-        sentinel(alloc, told, &past)?,
-        asked(Primitive::CharAfter, 6, -1)
-    );
-    let mut past = looked(alloc, 5, 98)?;
-    assert_eq!(rt;
-        sentinel(alloc, told, &past)?,
-        asked(Primitive::Insert, 101, -1)
-    );
-    past.push(Reply::Value(Value::Nil))?;
-    assert_eq!(rt; sentinel(alloc, told, &past)?, None);
-    let past = looked(alloc, 5, 10)?;
-    assert_eq!(rt; sentinel(alloc, told, &past)?, None);
-    let mut past = looked(alloc, 4, 10)?;
-    past.push(Reply::Value(Value::Nil))?;
-    assert_eq!(rt; sentinel(alloc, told, &past)?, None);
-    Ok(())
+    let past = looked(alloc, 4, 98).expect(&rt, "memory");
+    tells(&rt, alloc, told, &past, asked(Primitive::CharAfter, 6, -1));
+    let mut past = looked(alloc, 5, 98).expect(&rt, "memory");
+    tells(&rt, alloc, told, &past, asked(Primitive::Insert, 101, -1));
+    past.push(Reply::Value(Value::Nil)).expect(&rt, "memory");
+    tells(&rt, alloc, told, &past, None);
 }
 
 #[test]
-fn a_child_that_ended_otherwise_is_started_again(rt: HostRuntime) -> Result<(), Fail> {
+fn the_sentinel_leaves_a_closed_line(rt: HostRuntime) {
+    let alloc = rt.alloc();
+    let told = b"finished\n";
+    let past = looked(alloc, 5, 10).expect(&rt, "memory");
+    tells(&rt, alloc, told, &past, None);
+    let past = looked_and(&rt, alloc, 4, 10, Reply::Value(Value::Nil));
+    tells(&rt, alloc, told, &past, None);
+}
+
+/// A sentinel does this next behind an end with code 3, as `restarting` says.
+fn restarts(rt: &impl Abort, alloc: Global, last: i64, count: usize, step: Option<Step>) {
+    is(
+        rt,
+        restarting(alloc, last, count).expect(rt, "memory"),
+        step,
+    );
+}
+
+#[test]
+fn a_child_that_ended_otherwise_is_started_again(rt: HostRuntime) {
     let alloc = rt.alloc();
     let set = Primitive::SetProcessSentinel;
-    assert_eq!(rt;
-        restarting(alloc, 10, 0)?,
-        asked(Primitive::ProcessFilter, 4, -1)
-    );
-    assert_eq!(rt;
-        restarting(alloc, 10, 1)?,
-        asked(Primitive::ProcessSentinel, 4, -1)
-    );
-    assert_eq!(rt;
-        restarting(alloc, 10, 2)?,
-        asked(Primitive::StartProcess, 107, 109)
-    );
-    assert_eq!(rt;
-        restarting(alloc, 10, 3)?,
-        asked(Primitive::SetProcessFilter, 9, 18)
-    );
-    assert_eq!(rt; restarting(alloc, 10, 4)?, asked(set, 9, 19));
-    assert_eq!(rt; restarting(alloc, 10, 5)?, None);
-    assert_eq!(rt;
-        restarting(alloc, 98, 0)?,
-        asked(Primitive::Insert, 101, -1)
-    );
-    assert_eq!(rt;
-        restarting(alloc, 98, 1)?,
-        asked(Primitive::ProcessFilter, 4, -1)
-    );
-    Ok(())
+    restarts(&rt, alloc, 10, 0, asked(Primitive::ProcessFilter, 4, -1));
+    restarts(&rt, alloc, 10, 1, asked(Primitive::ProcessSentinel, 4, -1));
+    restarts(&rt, alloc, 10, 2, asked(Primitive::StartProcess, 107, 109));
+    restarts(&rt, alloc, 10, 3, asked(Primitive::SetProcessFilter, 9, 18));
+    restarts(&rt, alloc, 10, 4, asked(set, 9, 19));
+    restarts(&rt, alloc, 10, 5, None);
+    restarts(&rt, alloc, 98, 0, asked(Primitive::Insert, 101, -1));
+    restarts(&rt, alloc, 98, 1, asked(Primitive::ProcessFilter, 4, -1));
 }
 
 #[test]
-fn a_refused_start_ends_the_session(rt: HostRuntime) -> Result<(), Fail> {
+fn a_refused_start_ends_the_session(rt: HostRuntime) {
     let alloc = rt.alloc();
-    let mut past = looked(alloc, 5, 10)?;
-    started(&mut past, 2)?;
-    past.push(Reply::Fault(Fault::SpawnFailed))?;
-    assert_eq!(rt; sentinel(alloc, b"killed\n", &past)?, None);
-    Ok(())
+    let mut past = looked(alloc, 5, 10).expect(&rt, "memory");
+    started(&mut past, 2).expect(&rt, "memory");
+    past.push(Reply::Fault(Fault::SpawnFailed))
+        .expect(&rt, "memory");
+    tells(&rt, alloc, b"killed\n", &past, None);
 }
 
-#[test]
-fn there_are_no_more_restarts_than_the_limit(rt: HostRuntime) -> Result<(), Fail> {
-    let alloc = rt.alloc();
+/// What a sentinel of a session with at most so many restarts does next, where one ends the fifth time.
+fn limited(alloc: Global, limit: u32) -> Mem<Option<Step>> {
     let args = arguments(alloc, b"killed\n")?;
     let past = looked(alloc, 5, 10)?;
-    let last = session(alloc, 5)?.next(1, &args, &past)?;
-    assert_eq!(rt; shown(&last), asked(Primitive::ProcessFilter, 4, -1));
-    let over = session(alloc, 4)?.next(1, &args, &past)?;
-    assert_eq!(rt; shown(&over), None);
-    Ok(())
+    let next = session(alloc, limit)?.next(1, &args, &past)?;
+    Ok(shown(&next))
+}
+
+#[test]
+fn there_are_no_more_restarts_than_the_limit(rt: HostRuntime) {
+    let last = limited(rt.alloc(), 5).expect(&rt, "memory");
+    is(&rt, last, asked(Primitive::ProcessFilter, 4, -1));
+    is(&rt, limited(rt.alloc(), 4).expect(&rt, "memory"), None);
 }
 
 /// Whether a value is a string of these characters.
@@ -285,51 +286,59 @@ fn outline(form: &Form) -> Option<(Primitive, usize)> {
 }
 
 #[test]
-fn the_script_starts_the_child_and_waits(rt: HostRuntime) -> Result<(), Fail> {
-    let script = session(rt.alloc(), 2)?.script()?;
+fn the_script_starts_the_child_and_waits(rt: HostRuntime) {
+    let session = session(rt.alloc(), 2).expect(&rt, "memory");
+    let script = session.script().expect(&rt, "memory");
     let forms = script.forms.as_slice();
-    assert_eq!(rt; script.symbols.count(), 20);
-    assert!(rt; script.symbols.find("session-sentinel") == Some(Sym(19)));
-    assert_eq!(rt; script.handlers.len(), 0);
+    is(&rt, script.symbols.count(), 20);
+    is(&rt, script.symbols.find("session-sentinel"), Some(Sym(19)));
+    is(&rt, script.handlers.len(), 0);
     assert_eq!(rt; forms.len(), 65_539);
-    assert_eq!(rt; outline(&forms[0]), Some((Primitive::StartProcess, 4)));
-    assert_eq!(rt; outline(&forms[1]), Some((Primitive::SetProcessFilter, 2)));
-    assert_eq!(rt;
+    is(&rt, outline(&forms[0]), Some((Primitive::StartProcess, 4)));
+    is(
+        &rt,
+        outline(&forms[1]),
+        Some((Primitive::SetProcessFilter, 2)),
+    );
+    is(
+        &rt,
         outline(&forms[2]),
-        Some((Primitive::SetProcessSentinel, 2))
+        Some((Primitive::SetProcessSentinel, 2)),
     );
-    assert_eq!(rt;
+    is(
+        &rt,
         outline(&forms[3]),
-        Some((Primitive::AcceptProcessOutput, 0))
+        Some((Primitive::AcceptProcessOutput, 0)),
     );
-    assert_eq!(rt;
+    is(
+        &rt,
         outline(&forms[65_538]),
-        Some((Primitive::AcceptProcessOutput, 0))
+        Some((Primitive::AcceptProcessOutput, 0)),
     );
-    Ok(())
 }
 
 #[test]
-fn a_word_is_decoded(rt: HostRuntime) -> Result<(), Fail> {
-    let alloc = rt.alloc();
-    let session = LineSession::new(alloc, 0, "é€😀", &[])?;
-    let script = session.script()?;
-    let start = script.forms.as_slice().first().ok_or("no form")?;
-    let call = call_of(start).ok_or("no call")?;
+fn a_word_is_decoded(rt: HostRuntime) {
+    let session = LineSession::new(rt.alloc(), 0, "é€😀", &[]).expect(&rt, "memory");
+    let script = session.script().expect(&rt, "memory");
+    let Some(start) = script.forms.as_slice().first() else {
+        panic!(rt; "no form");
+    };
+    let Some(call) = call_of(start) else {
+        panic!(rt; "no call");
+    };
     assert_eq!(rt; call.args.len(), 3);
     let Arg::Const(program) = call.args.at(2) else {
-        return Err(Fail::from("no value"));
+        panic!(rt; "no value");
     };
-    assert!(rt; is_text(program, &['é', '€', '😀']));
-    Ok(())
+    holds(&rt, is_text(program, &['é', '€', '😀']));
 }
 
 #[test]
-fn the_natives_have_their_names(rt: HostRuntime) -> Result<(), Fail> {
-    let session = session(rt.alloc(), 2)?;
-    assert_eq!(rt; session.count(), 2);
-    assert_eq!(rt; session.name(0), "session-filter");
-    assert_eq!(rt; session.name(1), "session-sentinel");
-    assert_eq!(rt; session.name(2), "");
-    Ok(())
+fn the_natives_have_their_names(rt: HostRuntime) {
+    let session = session(rt.alloc(), 2).expect(&rt, "memory");
+    is(&rt, session.count(), 2);
+    is(&rt, session.name(0), "session-filter");
+    is(&rt, session.name(1), "session-sentinel");
+    is(&rt, session.name(2), "");
 }

@@ -2,6 +2,9 @@
 //!
 //! A read waits for the pipe and the question how a child has ended waits for the child, so this host never answers
 //! `Nothing` or `Running`. It tells no exchanges. A child that is killed, or that has ended when it is asked, is reaped.
+//!
+//! The lines so far are handed on before each call but a kill. Where that fails no child is asked, and the answer is a fault;
+//! only an input is closed all the same. The next line can't be written then, which ends the run.
 ghost use Rattle.std.specs.Prelude.{◌≡◌, ◌<◌, ◌-◌, ◌^◌, ℕ, List, [], map, length, None, Some, false, true, slice_get, slice_set, string_bytes, IsSome, IsTrue, IfSome, IfOk, OnOk, OnErr};
 ghost use Rattle.std.specs.Io.KnownBytes.{Keeps};
 ghost use Rattle.std.specs.Process.{child_status, command_program, command_args, command_var, command_dir, clears_env};
@@ -9,6 +12,7 @@ ghost use Rattle.plain_machine.specs.Exchanges.{Spawn, Read, AskEnd, Send, Close
 ghost use Rattle.host_link.specs.Hosts.{Asked, Exchanged, Fits, IsNumbered, after_spawn, is_fault, spawned_answer, got_answer, ended_answer, send_answer, kill_answer};
 ghost use Rattle.kernel_cli.specs.Answers.{untold, IsChildCall, Gives, InputTakes, EndsAs};
 
+use crate::output::Output;
 use ek_types::Mem;
 use host_link::{Ended, Exchanges, Got, Host, KillAnswer, SendAnswer, Spawned};
 use std::alloc::{AllocError, Global};
@@ -17,15 +21,16 @@ use std::marker::Model;
 use std::process::{Child, Command, OpenProcess, Processes, Stdio};
 
 /// The children that this process has started, by number, with the count of the calls on them that failed.
-pub struct RealHost<'a, R: Processes> {
+pub struct RealHost<'a, R: Processes, W: Write + Drop> {
     rt: &'a R,
     alloc: Global,
+    output: &'a Output<W>,
     children: Vec<Child<R::Started>>,
     kills: Vec<bool>,
     faults: u64,
 }
 
-impl<'a, R: Processes> Model for RealHost<'a, R> {
+impl<'a, R: Processes, W: Write + Drop> Model for RealHost<'a, R, W> {
     ghost use Rattle.std.specs.Prelude.{◌≡◌, vec_len};
     ghost use Rattle.std.specs.declared.process.child.Child.{Child};
     ghost use Rattle.kernel_cli.specs.Answers.{Children};
@@ -37,28 +42,36 @@ impl<'a, R: Processes> Model for RealHost<'a, R> {
     ghost invariant = { λ h. vec_len h.kills ≡ vec_len h.children };
 }
 
-impl<'a, R: Processes> RealHost<'a, R> {
-    /// A host that has started no child.
-    pub fn new(alloc: Global, rt: &'a R) -> RealHost<'a, R>
+impl<'a, R: Processes, W: Write + Drop> RealHost<'a, R, W> {
+    /// A host that has started no child, beside the output that lines go to.
+    pub fn new(alloc: Global, rt: &'a R, output: &'a Output<W>) -> RealHost<'a, R, W>
         ensures { result ≡ record { children = []; kills = []; faults = 0 } }
     {
         RealHost {
             rt,
             alloc,
+            output,
             children: Vec::new(alloc),
             kills: Vec::new(alloc),
             faults: 0,
         }
     }
+
+    /// Starts a child of a command.
+    fn start(&self, command: &mut Command) -> io::Result<Child<R::Started>> {
+        self.output.hand_on()?;
+        command.spawn(self.rt)
+    }
 }
 
 /// Reaps what is left: children that were never killed, whose end couldn't be had, or that couldn't be killed. One that
 /// can't be killed now either, since it runs as another user, loses its pipes and isn't waited for.
-impl<R: Processes> Drop for RealHost<'_, R> {
+impl<R: Processes, W: Write + Drop> Drop for RealHost<'_, R, W> {
     fn drop(self) {
         let RealHost {
             rt: _,
             alloc: _,
+            output: _,
             mut children,
             kills: _,
             faults: _,
@@ -101,16 +114,21 @@ fn command_of(alloc: Global, program: &str, args: &[String]) -> Result<Command, 
     Ok(command)
 }
 
-/// One read of a child's output.
-fn got_from<R: Read>(output: &mut R, room: &mut [u8]) -> io::Result<Got>
+/// One read of what a child wrote.
+fn got_from<R: Read, W: Write + Drop>(
+    output: &Output<W>,
+    wrote: &mut R,
+    room: &mut [u8],
+) -> io::Result<Got>
     requires { 0 < length room.old }
-    ensures got { IfOk result (λ got. Gives (R.remaining output.old) (R.remaining output.new)
+    ensures got { IfOk result (λ got. Gives (R.remaining wrote.old) (R.remaining wrote.new)
         (length room.old) (got_answer room.new got)) }
     ensures fits { IfOk result (Fits (length room.new)) }
     ensures no_fault { IfOk result (λ got. is_fault (got_answer room.new got) ≡ false) }
-    ensures err { OnErr result (Keeps (R.remaining output.old) (R.remaining output.new)) }
+    ensures err { OnErr result (Keeps (R.remaining wrote.old) (R.remaining wrote.new)) }
 {
-    match output.read(room)? {
+    output.hand_on()?;
+    match wrote.read(room)? {
         0 => Ok(Got::End),
         n => Ok(Got::Bytes(n)),
     }
@@ -118,23 +136,32 @@ fn got_from<R: Read>(output: &mut R, room: &mut [u8]) -> io::Result<Got>
 
 /// Puts all bytes into a child's input, and answers whether they went there. They didn't where it was closed, here or by
 /// the child.
-fn is_sent<W: Write>(input: &mut Option<W>, bytes: &[u8]) -> bool
-    ensures { IsTrue result → InputTakes W.contents input.old input.new bytes.now }
+fn is_sent<I: Write, W: Write + Drop>(
+    output: &Output<W>,
+    input: &mut Option<I>,
+    bytes: &[u8],
+) -> bool
+    ensures { IsTrue result → InputTakes I.contents input.old input.new bytes.now }
 {
     match input {
-        Some(input) => input.write_all(bytes).is_ok(),
+        Some(input) => output.hand_on().is_ok() && input.write_all(bytes).is_ok(),
         None => false,
     }
 }
 
 /// Closes a child's input, waits for its end, which reaps it, and closes its output.
-fn waited_for<P: OpenProcess>(child: &mut Child<P>) -> io::Result<Ended>
+fn waited_for<P: OpenProcess, W: Write + Drop>(
+    output: &Output<W>,
+    child: &mut Child<P>,
+) -> io::Result<Ended>
     ensures ended { IfOk result (λ ended. EndsAs (child_status child.new) (ended_answer ended)) }
     ensures no_fault { IfOk result (λ ended. is_fault (ended_answer ended) ≡ false) }
     ensures reaped { OnOk result (IsSome (child_status child.new)) }
     ensures again { IfSome (child_status child.old) (λ s. child_status child.new ≡ Some s) }
     ensures closed { child.new.stdin ≡ None }
 {
+    child.stdin = None;
+    output.hand_on()?;
     let status = child.wait()?;
     child.stdout = None;
     match status.code() {
@@ -143,7 +170,7 @@ fn waited_for<P: OpenProcess>(child: &mut Child<P>) -> io::Result<Ended>
     }
 }
 
-impl<'a, R: Processes> Host for RealHost<'a, R> {
+impl<'a, R: Processes, W: Write + Drop> Host for RealHost<'a, R, W> {
     ghost state = { untold };
 
     ghost made = { IsChildCall R.Started.Stdout.remaining R.Started.Stdin.contents };
@@ -161,7 +188,7 @@ impl<'a, R: Processes> Host for RealHost<'a, R> {
         let mut command = command_of(self.alloc, program, args)?;
         self.children.reserve(1)?;
         self.kills.reserve(1)?;
-        match command.spawn(self.rt) {
+        match self.start(&mut command) {
             Ok(child) => {
                 let number = self.children.len() as u32;
                 self.children.push_reserved(child);
@@ -189,7 +216,7 @@ impl<'a, R: Processes> Host for RealHost<'a, R> {
         let Some(stdout) = &mut self.children[child as usize].stdout else {
             return Ok(Got::End);
         };
-        match got_from(stdout, into) {
+        match got_from(self.output, stdout, into) {
             Ok(got) => Ok(got),
             Err(_) => {
                 self.faults = self.faults.saturating_add(1);
@@ -206,7 +233,7 @@ impl<'a, R: Processes> Host for RealHost<'a, R> {
             self.old self.new (AskEnd child) 0 (ended_answer ended)) }
         ensures unchanged { OnErr result (self.new ≡ self.old) }
     {
-        match waited_for(&mut self.children[child as usize]) {
+        match waited_for(self.output, &mut self.children[child as usize]) {
             Ok(ended) => Ok(ended),
             Err(_) => {
                 self.faults = self.faults.saturating_add(1);
@@ -223,7 +250,7 @@ impl<'a, R: Processes> Host for RealHost<'a, R> {
             self.old self.new (Send child bytes.now) 0 (send_answer sent)) }
         ensures unchanged { OnErr result (self.new ≡ self.old) }
     {
-        if is_sent(&mut self.children[child as usize].stdin, bytes) {
+        if is_sent(self.output, &mut self.children[child as usize].stdin, bytes) {
             Ok(SendAnswer::Sent)
         } else {
             self.faults = self.faults.saturating_add(1);
@@ -239,6 +266,7 @@ impl<'a, R: Processes> Host for RealHost<'a, R> {
             self.old self.new (Close child) 0 Closed) }
         ensures unchanged { OnErr result (self.new ≡ self.old) }
     {
+        let _ = self.output.hand_on();
         self.children[child as usize].stdin = None;
         Ok(())
     }

@@ -6,6 +6,7 @@ ghost use Rattle.std.specs.Prelude.{◌≡◌, ◌^◌, ◌≤◌, [], Some, len
 
 mod children;
 mod failure;
+mod output;
 mod shipped;
 mod standard;
 
@@ -13,10 +14,11 @@ use children::RealHost;
 use failure::{Failure, result_of};
 use host_link::{Host, Recorder};
 use kernel_top::{drill, drill_of};
+use output::{Hand, Output};
 use shipped::run_shipped;
 use standard::{ReaderSource, WriterSink};
 use std::env;
-use std::io::{self, LineWriter};
+use std::io::{self, Write};
 use std::process::ExitCode;
 
 /// The words behind the program's name. One that isn't UTF-8 is none that the program knows.
@@ -29,14 +31,18 @@ fn words(rt: &HostRuntime) -> Result<Vec<String>, Failure> {
         .map_err(|_| Failure::Memory)
 }
 
-/// Runs with standard input and output, over a host. Children that the host still has are dropped with it.
-fn work_over<H: Host + Drop>(rt: &HostRuntime, words: &[String], mut host: H) -> Result<(), Failure>
+/// Runs with standard input and an output, over a host. Children that the host still has are dropped with it.
+fn work_over<W: Write + Drop, H: Host + Drop>(
+    rt: &HostRuntime,
+    words: &[String],
+    output: &Output<W>,
+    mut host: H,
+) -> Result<(), Failure>
     requires few { length (H.state host).kills ≤ 2 ^ 31 }
     requires told { (H.state host).told ≡ Some [] }
 {
     let mut source = ReaderSource::new(rt.reader());
-    let lines = LineWriter::new(rt.alloc(), io::writer(rt)).map_err(|_| Failure::Memory)?;
-    let mut sink = WriterSink::new(lines);
+    let mut sink = WriterSink::new(Hand { output });
     let status = run_shipped(rt.alloc(), words, &mut source, &mut sink, &mut host).map_err(
         |_| Failure::Memory,
     )?;
@@ -49,14 +55,16 @@ fn work_over<H: Host + Drop>(rt: &HostRuntime, words: &[String], mut host: H) ->
 /// A drill is run over its own host, and all else over real children.
 fn work(rt: &HostRuntime) -> Result<(), Failure> {
     let words = words(rt)?;
+    let output = Output::new(rt.alloc(), io::writer(rt)).map_err(|_| Failure::Memory)?;
     match drill_of(words.as_slice()) {
         Some(lines) => {
             let (_, host) = drill(rt.alloc(), lines).map_err(|_| Failure::Memory)?;
-            work_over(rt, words.as_slice(), host)
+            work_over(rt, words.as_slice(), &output, host)
         }
         None => {
-            let host = Recorder::new(rt.alloc(), RealHost::new(rt.alloc(), rt));
-            work_over(rt, words.as_slice(), host)
+            let children = RealHost::new(rt.alloc(), rt, &output);
+            let host = Recorder::new(rt.alloc(), children);
+            work_over(rt, words.as_slice(), &output, host)
         }
     }
 }

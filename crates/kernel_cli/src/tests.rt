@@ -42,7 +42,8 @@ fn written_over<H: Host>(
 
 /// What a run with real children writes.
 fn written(rt: &HostRuntime, script: &str) -> Result<(Status, Vec<u8>), Fail> {
-    let mut host = Recorder::new(rt.alloc(), RealHost::new(rt.alloc(), rt));
+    let nowhere = Output::new(rt.alloc(), io::sink())?;
+    let mut host = Recorder::new(rt.alloc(), RealHost::new(rt.alloc(), rt, &nowhere));
     written_over(rt.alloc(), script, &mut host)
 }
 
@@ -260,7 +261,8 @@ fn a_long_output_is_read_to_its_end(rt: HostRuntime) -> Result<(), Fail> {
 fn a_recorded_child_is_replayed(rt: HostRuntime) -> Result<(), Fail> {
     let script = br#"(setq p (start-process "c" "out" "printf" "hi"))
 (set-process-filter p 'insert-filter)(accept-process-output p)(accept-process-output p)"#;
-    let mut host = Recorder::new(rt.alloc(), RealHost::new(rt.alloc(), &rt));
+    let nowhere = Output::new(rt.alloc(), io::sink())?;
+    let mut host = Recorder::new(rt.alloc(), RealHost::new(rt.alloc(), &rt, &nowhere));
     let (status, session) = written_by(rt.alloc(), &["record"], script, &mut host)?;
     assert_eq!(rt; status, Status::Done);
     assert!(rt; session.starts_with(b"spawn 7072696e7466 6869 -> started 0\n"));
@@ -279,7 +281,8 @@ fn a_recorded_child_is_replayed(rt: HostRuntime) -> Result<(), Fail> {
 /// A real child that ends badly is started again, as often as it may be, and its last line is closed each time.
 #[test]
 fn a_real_child_is_started_again(rt: HostRuntime) -> Result<(), Fail> {
-    let mut host = Recorder::new(rt.alloc(), RealHost::new(rt.alloc(), &rt));
+    let nowhere = Output::new(rt.alloc(), io::sink())?;
+    let mut host = Recorder::new(rt.alloc(), RealHost::new(rt.alloc(), &rt, &nowhere));
     let words = ["session", "2", "sh", "-c", "printf 'a\\nb'; exit 3"];
     let (status, text) = written_by(rt.alloc(), &words, b"", &mut host)?;
     assert_eq!(rt; status, Status::Done);

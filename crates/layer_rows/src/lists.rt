@@ -42,7 +42,7 @@ fn characters_and_their_copy(rt: HostRuntime) {
 }
 
 /// The number, where the value is one.
-fn number(value: Option<&PropVal>) -> Option<i64> {
+pub fn number(value: Option<&PropVal>) -> Option<i64> {
     match value {
         Some(PropVal::Int(i)) => Some(*i),
         _ => None,

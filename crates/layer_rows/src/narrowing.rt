@@ -18,13 +18,13 @@ fn bounds(start: usize, end: usize, point: usize) -> Bounds
 fn point_goes_to_the_nearer_end(rt: HostRuntime) {
     let mut portion = bounds(1, 3, 2);
     portion.goto(9);
-    assert_eq!(rt; portion, bounds(1, 3, 3));
+    is(&rt, portion, bounds(1, 3, 3));
     portion.goto(3);
-    assert_eq!(rt; portion, bounds(1, 3, 2));
+    is(&rt, portion, bounds(1, 3, 2));
     portion.goto(1);
-    assert_eq!(rt; portion, bounds(1, 3, 1));
+    is(&rt, portion, bounds(1, 3, 1));
     portion.goto(i64::MIN);
-    assert_eq!(rt; portion, bounds(1, 3, 1));
+    is(&rt, portion, bounds(1, 3, 1));
 }
 
 #[test]

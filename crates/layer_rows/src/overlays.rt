@@ -2,7 +2,8 @@
 ghost use Rattle.std.specs.Prelude.{◌≤◌, ◌<◌, ◌+◌, ◌-◌, ◌^◌, All, IfOk};
 ghost use Rattle.layer_rows.specs.Upto.{EndsUpto};
 
-use crate::checking::{holds, is};
+use crate::checking::is;
+use crate::lists::number;
 use ek_types::{Mem, PropVal, Sym};
 use overlay_set::{Numbers, Overlays};
 use std::alloc::Global;
@@ -152,12 +153,7 @@ fn an_overlay_moves_to_another_buffer_and_is_killed_with_it(rt: HostRuntime) {
     is(&rt, span(&rt, &copy, a), Some((1, 4, 6)));
     is(&rt, span(&rt, &copy, b), Some((0, 1, 3)));
     assert!(rt; a < overlays.count() && a < copy.count());
-    holds(
-        &rt,
-        overlays
-            .get(a, FACE)
-            .is_some_and(|v| matches!(v, PropVal::Int(7))),
-    );
+    is(&rt, number(overlays.get(a, FACE)), Some(7));
     is(&rt, copy.props(a).len(), 1);
     overlays.put(a, FACE, None).expect(&rt, "memory");
     is(&rt, overlays.get(a, FACE).is_none(), true);

@@ -7,14 +7,19 @@ use std::process::Abort;
 
 const FACE: Sym = Sym(14);
 
-/// The face of each character, and 0 where it has none.
+/// The face of a set, and 0 where it has none.
+fn face_of(set: &PropSet) -> i64 {
+    match set.get(FACE) {
+        Some(PropVal::Int(face)) => *face,
+        _ => 0,
+    }
+}
+
+/// The face of each character.
 fn faces(alloc: Global, piece: &Piece) -> Mem<Vec<i64>> {
     let mut faces = Vec::new(alloc);
     for i in 0..piece.len() {
-        faces.push(match piece.props(i).get(FACE) {
-            Some(PropVal::Int(face)) => *face,
-            _ => 0,
-        })?;
+        faces.push(face_of(piece.props(i)))?;
     }
     Ok(faces)
 }

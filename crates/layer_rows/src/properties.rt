@@ -5,8 +5,8 @@ use crate::checking::is;
 use ek_types::{Ch, Chars, Mem, Piece, PropSet, PropVal, Sym, SymList};
 use prop_intervals::{PropEdit, Props};
 use std::alloc::Global;
+use std::process::Abort;
 use std::slice;
-use std::test::Fail;
 
 const FACE: Sym = Sym(20);
 
@@ -36,15 +36,32 @@ fn faces(alloc: Global, props: &Props, size: usize) -> Mem<Vec<i64>>
     Ok(faces)
 }
 
-/// Characters without properties.
-fn bare_text(alloc: Global, size: usize) -> Mem<Piece>
-    ensures { IfOk result (λ p. length p ≡ size) }
+fn are(rt: &impl Abort, found: Mem<Vec<i64>>, expected: &[i64]) {
+    assert_eq!(rt; found.expect(rt, "memory").as_slice(), expected);
+}
+
+fn letters(alloc: Global, size: usize) -> Mem<Chars>
+    ensures { IfOk result (λ text. length text.items ≡ size) }
 {
     let mut text = Chars::new(alloc);
     for _ in 0..size {
         text.push(Ch::Scalar('x'))?;
     }
-    Ok(Piece::plain(alloc, text))
+    Ok(text)
+}
+
+/// The text without properties.
+fn bare(alloc: Global, text: Chars) -> Piece
+    ensures { length result ≡ length text.items }
+{
+    Piece::plain(alloc, text)
+}
+
+/// Characters without properties.
+fn bare_text(alloc: Global, size: usize) -> Mem<Piece>
+    ensures { IfOk result (λ p. length p ≡ size) }
+{
+    Ok(bare(alloc, letters(alloc, size)?))
 }
 
 /// A text with a face from one place to another.
@@ -58,6 +75,16 @@ fn with_face(alloc: Global, size: usize, from: usize, to: usize) -> Mem<Props>
     let mut props = Props::new(alloc);
     props.splice(0, 0, slice::from_ref(&text))?;
     Ok(props)
+}
+
+/// Characters whose first has a face.
+fn with_first_face(alloc: Global, size: usize) -> Mem<Piece>
+    requires { 0 < size }
+    ensures { IfOk result (λ p. length p ≡ size) }
+{
+    let mut text = bare_text(alloc, size)?;
+    text.put(0, 1, &face(alloc, 2)?)?;
+    Ok(text)
 }
 
 /// A change of a text, which keeps its length.
@@ -112,11 +139,7 @@ fn next_changes_and_a_change_to_what_is_there(rt: HostRuntime) {
         changed(&mut props, 1, 4, &again).expect(&rt, "memory"),
         true,
     );
-    is(
-        &rt,
-        faces(alloc, &props, 4).expect(&rt, "memory").as_slice(),
-        [0i64, 1, 1, 1].as_slice(),
-    );
+    are(&rt, faces(alloc, &props, 4), &[0, 1, 1, 1]);
 }
 
 #[test]
@@ -141,11 +164,7 @@ fn adding_with_nil_takes_away(rt: HostRuntime) {
         changed(&mut props, 0, 3, &add).expect(&rt, "memory"),
         true,
     );
-    is(
-        &rt,
-        faces(alloc, &props, 3).expect(&rt, "memory").as_slice(),
-        [3i64, 3, 3].as_slice(),
-    );
+    are(&rt, faces(alloc, &props, 3), &[3, 3, 3]);
     is(&rt, props.at(1).len(), 1);
     is(&rt, props.run_end(0), 3);
 }
@@ -193,28 +212,18 @@ fn changes_of_one_property(rt: HostRuntime) {
 }
 
 #[test]
-fn a_part_replaced(rt: HostRuntime) -> Result<(), Fail> {
+fn a_part_replaced(rt: HostRuntime) {
     let alloc = rt.alloc();
-    let mut props = with_face(alloc, 6, 2, 4)?;
-    let copy = props.copy()?;
-    let mut text = bare_text(alloc, 2)?;
-    text.put(0, 1, &face(alloc, 2)?)?;
-    let n = replaced(&mut props, 1, 3, &text, 6)?;
-    assert_eq!(rt;
-        faces(alloc, &props, n)?.as_slice(),
-        [0i64, 2, 0, 1, 0, 0].as_slice()
-    );
-    let n = replaced(&mut props, 1, 4, &bare_text(alloc, 0)?, n)?;
-    assert_eq!(rt;
-        faces(alloc, &props, n)?.as_slice(),
-        [0i64, 0, 0].as_slice()
-    );
-    assert_eq!(rt; props.run_end(0), 3);
-    assert_eq!(rt;
-        faces(alloc, &copy, 6)?.as_slice(),
-        [0i64, 0, 1, 1, 0, 0].as_slice()
-    );
-    Ok(())
+    let mut props = with_face(alloc, 6, 2, 4).expect(&rt, "memory");
+    let copy = props.copy().expect(&rt, "memory");
+    let text = with_first_face(alloc, 2).expect(&rt, "memory");
+    let n = replaced(&mut props, 1, 3, &text, 6).expect(&rt, "memory");
+    are(&rt, faces(alloc, &props, n), &[0, 2, 0, 1, 0, 0]);
+    let none = bare_text(alloc, 0).expect(&rt, "memory");
+    let n = replaced(&mut props, 1, 4, &none, n).expect(&rt, "memory");
+    are(&rt, faces(alloc, &props, n), &[0, 0, 0]);
+    is(&rt, props.run_end(0), 3);
+    are(&rt, faces(alloc, &copy, 6), &[0, 0, 1, 1, 0, 0]);
 }
 
 const RUNS: usize = 131_072;

@@ -28,19 +28,20 @@ fn keeps_letters(rt: &impl Abort, alloc: Global, n: usize) {
     text.reserve(&mut pool, n).expect(rt, "room");
     text.insert(&mut pool, 0, &letters);
     assert_eq!(rt; text.len(), n);
-    assert_eq!(rt;
+    is(
+        rt,
         text.len() as u128 + text.spare() as u128,
-        256 * pool.live() as u128
+        256 * pool.live() as u128,
     );
     let copied = text.copy_out(&pool, 0, n).expect(rt, "a copy");
     assert_eq!(rt; copied.len(), n);
     for i in 0..n {
-        assert_eq!(rt; copied.at(i), letters.at(i));
+        is(rt, copied.at(i), letters.at(i));
     }
     text.delete(&mut pool, 0, n);
-    assert_eq!(rt; text.len(), 0);
+    is(rt, text.len(), 0);
     text.release(&mut pool);
-    assert_eq!(rt; pool.live(), 0);
+    is(rt, pool.live(), 0);
 }
 
 #[test]
@@ -63,17 +64,17 @@ fn goes_in_at(rt: &impl Abort, alloc: Global, place: usize) {
     text.insert(&mut pool, 0, &letters);
     text.insert(&mut pool, place, &one);
     assert_eq!(rt; text.len(), 601);
-    assert_eq!(rt; text.at(&pool, place), Ch::Scalar('a'));
+    is(rt, text.at(&pool, place), Ch::Scalar('a'));
     if place > 0 {
-        assert_eq!(rt; text.at(&pool, place - 1), letters.at(place - 1));
+        is(rt, text.at(&pool, place - 1), letters.at(place - 1));
     }
     if place < 600 {
-        assert_eq!(rt; text.at(&pool, place + 1), letters.at(place));
+        is(rt, text.at(&pool, place + 1), letters.at(place));
     }
     text.delete(&mut pool, place, place + 1);
     assert_eq!(rt; text.len(), 600);
     for i in 0..600 {
-        assert_eq!(rt; text.at(&pool, i), letters.at(i));
+        is(rt, text.at(&pool, i), letters.at(i));
     }
     text.release(&mut pool);
 }
@@ -96,14 +97,14 @@ fn keeps(rt: &impl Abort, alloc: Global, c: Ch) {
     let Some(again) = Ch::from_code(c.code()) else {
         return;
     };
-    assert_eq!(rt; again, c);
+    is(rt, again, c);
     one.push(again).expect(rt, "a character");
     let mut pool = Pool::new(alloc);
     let mut text = Text::new(alloc);
     text.reserve(&mut pool, 1).expect(rt, "room");
     text.insert(&mut pool, 0, &one);
     assert_eq!(rt; text.len(), 1);
-    assert_eq!(rt; text.at(&pool, 0), c);
+    is(rt, text.at(&pool, 0), c);
     text.release(&mut pool);
 }
 

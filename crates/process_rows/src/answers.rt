@@ -3,7 +3,7 @@ ghost use Rattle.std.specs.Prelude.{◌≡◌, ◌<◌, ◌≤◌, [], length};
 ghost use Rattle.handler_run.specs.Answers.{IsRead};
 
 use super::processes::one;
-use crate::checking::{holds, is};
+use crate::checking::{holds, is, is_text};
 use ek_call::{Value, Values};
 use ek_types::{Ch, Sym};
 use handler_run::{Entry, ended, enter, ready};
@@ -38,11 +38,8 @@ fn are_arguments(rt: &impl Abort, args: &Values, text: &[Ch]) {
     assert_eq!(rt; args.len(), 2);
     match (args.at(0), args.at(1)) {
         (Value::Process(p), Value::Str(given)) => {
-            assert_eq!(rt; *p, 0);
-            assert_eq!(rt; given.len(), text.len());
-            for i in 0..given.len() {
-                assert_eq!(rt; given.ch(i), text[i]);
-            }
+            is(rt, *p, 0);
+            is_text(rt, given.text(), text);
         }
         _ => panic!(rt; "a process and a text"),
     }
@@ -52,7 +49,7 @@ fn are_arguments(rt: &impl Abort, args: &Values, text: &[Ch]) {
 fn is_filter(rt: &impl Abort, entry: &Entry, name: Option<Sym>, text: &[Ch]) {
     match entry {
         Entry::Filter(handler, args) => {
-            assert_eq!(rt; *handler, name);
+            is(rt, *handler, name);
             are_arguments(rt, args, text);
         }
         _ => panic!(rt; "a filter"),
@@ -73,11 +70,11 @@ fn held_tail(rt: &impl Abort, alloc: Global, tail: &[u8], raw: &[Ch], how: Got)
 {
     let mut table = one(rt, alloc);
     let entry = read(rt, alloc, &mut table, Got::Bytes(tail.len()), tail);
-    assert!(rt; is_none(&entry));
+    holds(rt, is_none(&entry));
     let entry = read(rt, alloc, &mut table, how, &[]);
     is_filter(rt, &entry, None, raw);
-    assert!(rt; table.get(0).drained());
-    assert!(rt; table.get(0).held().is_empty());
+    holds(rt, table.get(0).drained());
+    holds(rt, table.get(0).held().is_empty());
 }
 
 #[test]
@@ -116,12 +113,12 @@ fn is_told(rt: &impl Abort, alloc: Global, how: Ended, text: &[u8], status: Stat
     }
     match end(rt, alloc, &mut table, how) {
         Entry::Sentinel(handler, args) => {
-            assert_eq!(rt; handler, Some(Sym(31)));
+            is(rt, handler, Some(Sym(31)));
             are_arguments(rt, &args, told.as_slice());
         }
         _ => panic!(rt; "a sentinel"),
     }
-    assert_eq!(rt; table.get(0).status(), status);
+    is(rt, table.get(0).status(), status);
 }
 
 #[test]

@@ -1,6 +1,7 @@
 //! Comparing. Each comparison is a call, so a test that makes many of them branches at none. They tell nothing to what comes
 //! behind them: where a later call rests on what is tested, an assert stands in the test itself.
 
+use ek_types::{Ch, Chars};
 use std::fmt::Debug;
 use std::process::Abort;
 
@@ -11,4 +12,12 @@ pub fn is<T: PartialEq + Debug + Drop>(rt: &impl Abort, found: T, expected: T) {
 
 pub fn holds(rt: &impl Abort, condition: bool) {
     assert!(rt; condition);
+}
+
+/// The characters are these.
+pub fn is_text(rt: &impl Abort, out: &Chars, text: &[Ch]) {
+    assert_eq!(rt; out.len(), text.len());
+    for i in 0..out.len() {
+        is(rt, out.at(i), text[i]);
+    }
 }

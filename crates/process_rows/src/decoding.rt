@@ -1,5 +1,6 @@
 //! What runs: the edges of the Unicode Standard's Table 3-7, cuts at each place, line ends and single bytes, and a long text
 //! in pieces.
+use crate::checking::{holds, is, is_text};
 use ek_types::{Ch, Chars};
 use std::alloc::Global;
 use std::process::Abort;
@@ -23,15 +24,15 @@ fn is_one(rt: &impl Abort, alloc: Global, bytes: &[u8], code: u32) {
     let mut out = Chars::new(alloc);
     let mut decoder = Decoder::new();
     feed(rt, &mut decoder, bytes, &mut out);
-    assert!(rt; decoder.held().is_empty());
+    holds(rt, decoder.held().is_empty());
     for byte in bytes {
         feed(rt, &mut decoder, &[*byte], &mut out);
     }
     finish(rt, &mut decoder, &mut out);
-    assert_eq!(rt; out.len(), 2);
-    for i in 0..2 {
-        assert_eq!(rt; char::from_u32(code).map(Ch::Scalar), Some(out.at(i)));
-    }
+    let Some(c) = char::from_u32(code) else {
+        panic!(rt; "no character");
+    };
+    is_text(rt, &out, &[Ch::Scalar(c), Ch::Scalar(c)]);
 }
 
 /// Each of the bytes is a character of its own.
@@ -43,10 +44,8 @@ fn are_apart(rt: &impl Abort, alloc: Global, bytes: &[u8]) {
     assert_eq!(rt; out.len(), bytes.len());
     for i in 0..out.len() {
         let byte = bytes[i];
-        assert_eq!(rt;
-            out.at(i),
-            Ch::raw(byte).unwrap_or(Ch::Scalar(char::from(byte)))
-        );
+        let c = Ch::raw(byte).unwrap_or(Ch::Scalar(char::from(byte)));
+        is(rt, out.at(i), c);
     }
 }
 
@@ -155,12 +154,11 @@ fn is_held(rt: &impl Abort, alloc: Global, bytes: &[u8], c: char) {
         let mut out = Chars::new(alloc);
         let mut decoder = Decoder::new();
         feed(rt, &mut decoder, front, &mut out);
-        assert!(rt; out.is_empty());
-        assert_eq!(rt; decoder.held().len(), cut);
+        holds(rt, out.is_empty());
+        is(rt, decoder.held().len(), cut);
         feed(rt, &mut decoder, rest, &mut out);
-        assert_eq!(rt; out.len(), 1);
-        assert_eq!(rt; out.at(0), Ch::Scalar(c));
-        assert!(rt; decoder.held().is_empty());
+        is_text(rt, &out, &[Ch::Scalar(c)]);
+        holds(rt, decoder.held().is_empty());
         are_apart(rt, alloc, front);
     }
 }
@@ -180,16 +178,16 @@ fn a_held_part_that_goes_wrong(rt: HostRuntime) {
     let mut decoder = Decoder::new();
     feed(&rt, &mut decoder, b"\xF0\x9F", &mut out);
     feed(&rt, &mut decoder, b"\xC3", &mut out);
-    assert_eq!(rt; out.len(), 2);
-    assert_eq!(rt; decoder.held().len(), 1);
+    is(&rt, out.len(), 2);
+    is(&rt, decoder.held().len(), 1);
     feed(&rt, &mut decoder, b"\xA9\xE2", &mut out);
     assert_eq!(rt; out.len(), 3);
-    assert_eq!(rt; out.at(0), Ch::Raw(0xF0));
-    assert_eq!(rt; out.at(1), Ch::Raw(0x9F));
-    assert_eq!(rt; out.at(2), Ch::Scalar('\u{E9}'));
+    is(&rt, out.at(0), Ch::Raw(0xF0));
+    is(&rt, out.at(1), Ch::Raw(0x9F));
+    is(&rt, out.at(2), Ch::Scalar('\u{E9}'));
     finish(&rt, &mut decoder, &mut out);
     assert_eq!(rt; out.len(), 4);
-    assert_eq!(rt; out.at(3), Ch::Raw(0xE2));
+    is(&rt, out.at(3), Ch::Raw(0xE2));
 }
 
 /// The letter a, é, € and a face, a byte of no sequence, and a part of one.
@@ -221,19 +219,12 @@ fn becomes(
         let mut decoder = Decoder::with(coding);
         feed(rt, &mut decoder, front, &mut out);
         feed(rt, &mut decoder, rest, &mut out);
-        assert!(rt; decoder.coding() == coding);
-        assert_eq!(rt; decoder.held().len(), held);
+        holds(rt, decoder.coding() == coding);
+        is(rt, decoder.held().len(), held);
         is_text(rt, &out, open);
         finish(rt, &mut decoder, &mut out);
-        assert!(rt; decoder.held().is_empty());
+        holds(rt, decoder.held().is_empty());
         is_text(rt, &out, all);
-    }
-}
-
-fn is_text(rt: &impl Abort, out: &Chars, text: &[Ch]) {
-    assert_eq!(rt; out.len(), text.len());
-    for i in 0..out.len() {
-        assert_eq!(rt; out.at(i), text[i]);
     }
 }
 
@@ -355,7 +346,7 @@ fn comes_through(rt: &impl Abort, alloc: Global, least: usize, most: usize) {
     finish(rt, &mut decoder, &mut out);
     assert_eq!(rt; out.len(), 7 * times);
     for i in 0..out.len() {
-        assert_eq!(rt; out.at(i), CHARACTERS[i % 7]);
+        is(rt, out.at(i), CHARACTERS[i % 7]);
     }
 }
 

@@ -1,10 +1,11 @@
 //! A host in memory and a recorder: every kind of call with its line, calls that fail, and spawns that are refused.
 ghost use Rattle.std.specs.Prelude.{◌≡◌, [], IfOk};
 
+use crate::checking::is;
 use ek_types::{Copied, ListOf, Mem, NoMemory};
 use host_link::{Answer, Answers, ByteList, Exchanges, Host, MemoryHost, Play, Recorder, Spawned};
 use std::alloc::Global;
-use std::test::Fail;
+use std::process::Abort;
 
 fn list_of(alloc: Global, bytes: &[u8]) -> Mem<ByteList> {
     let mut list = ListOf::new(alloc);
@@ -81,42 +82,40 @@ end 0: code 0
 kill 0: killed
 ";
 
-#[test]
-fn a_child_is_played_in_order(rt: HostRuntime) -> Result<(), Fail> {
-    let mut host = host(rt.alloc(), Vec::new(rt.alloc()))?;
-    let told = all_calls(rt.alloc(), &mut host)?;
-    assert_eq!(rt; told.as_str(), ALL);
-    Ok(())
+/// What a host tells of every kind of call.
+fn tells<H: Host>(rt: &impl Abort, alloc: Global, host: &mut H, expected: &str)
+    requires { (H.state host.old).kills ≡ [] }
+{
+    let told = all_calls(alloc, host).expect(rt, "memory");
+    assert_eq!(rt; told.as_str(), expected);
 }
 
 #[test]
-fn exchanges_and_their_copy(rt: HostRuntime) -> Result<(), Fail> {
-    let mut host = host(rt.alloc(), Vec::new(rt.alloc()))?;
-    let _ = all_calls(rt.alloc(), &mut host)?;
+fn a_child_is_played_in_order(rt: HostRuntime) {
+    let mut host = host(rt.alloc(), Vec::new(rt.alloc())).expect(&rt, "memory");
+    tells(&rt, rt.alloc(), &mut host, ALL);
+}
+
+#[test]
+fn exchanges_and_their_copy(rt: HostRuntime) {
+    let mut host = host(rt.alloc(), Vec::new(rt.alloc())).expect(&rt, "memory");
+    let _ = all_calls(rt.alloc(), &mut host).expect(&rt, "memory");
     let Some(list) = host.told() else {
-        return Err(Fail::from("the host tells nothing"));
+        panic!(rt; "the host tells nothing");
     };
-    assert_eq!(rt; shown(rt.alloc(), &list.copy()?)?.as_str(), ALL);
-    Ok(())
+    let copy = list.copy().expect(&rt, "memory");
+    let told = shown(rt.alloc(), &copy).expect(&rt, "memory");
+    is(&rt, told.as_str(), ALL);
 }
 
 #[test]
-fn a_recorder_tells_what_its_inner_host_answers(rt: HostRuntime) -> Result<(), Fail> {
-    let inner = host(rt.alloc(), Vec::new(rt.alloc()))?;
+fn a_recorder_tells_what_its_inner_host_answers(rt: HostRuntime) {
+    let inner = host(rt.alloc(), Vec::new(rt.alloc())).expect(&rt, "memory");
     let mut recorder = Recorder::new(rt.alloc(), inner);
-    let told = all_calls(rt.alloc(), &mut recorder)?;
-    assert_eq!(rt; told.as_str(), ALL);
-    Ok(())
+    tells(&rt, rt.alloc(), &mut recorder, ALL);
 }
 
-#[test]
-fn calls_that_fail_use_up_no_answer(rt: HostRuntime) -> Result<(), Fail> {
-    let fails = vec![in rt.alloc(); 1, 3, 5, 7, 9, 10]?;
-    let mut host = host(rt.alloc(), fails)?;
-    let told = all_calls(rt.alloc(), &mut host)?;
-    assert_eq!(rt;
-        told.as_str(),
-        "spawn cat -u: started 0
+const FAILING: &str = "spawn cat -u: started 0
 read 0: failed
 read 0: bytes ab
 read 0: failed
@@ -127,23 +126,24 @@ end 0: failed
 end 0: running
 end 0: failed
 kill 0: failed
-"
-    );
-    Ok(())
+";
+
+#[test]
+fn calls_that_fail_use_up_no_answer(rt: HostRuntime) {
+    let fails = vec![in rt.alloc(); 1, 3, 5, 7, 9, 10].expect(&rt, "memory");
+    let mut host = host(rt.alloc(), fails).expect(&rt, "memory");
+    tells(&rt, rt.alloc(), &mut host, FAILING);
 }
 
 #[test]
-fn a_spawn_past_the_last_play_is_refused(rt: HostRuntime) -> Result<(), Fail> {
+fn a_spawn_past_the_last_play_is_refused(rt: HostRuntime) {
     let mut host = MemoryHost::new(Vec::new(rt.alloc()), Vec::new(rt.alloc()));
-    let told = all_calls(rt.alloc(), &mut host)?;
-    assert_eq!(rt; told.as_str(), "spawn cat -u: refused\n");
-    Ok(())
+    tells(&rt, rt.alloc(), &mut host, "spawn cat -u: refused\n");
 }
 
 #[test]
-fn a_spawn_that_fails_starts_no_child(rt: HostRuntime) -> Result<(), Fail> {
-    let mut host = host(rt.alloc(), vec![in rt.alloc(); 0]?)?;
-    let told = all_calls(rt.alloc(), &mut host)?;
-    assert_eq!(rt; told.as_str(), "spawn cat -u: refused\n");
-    Ok(())
+fn a_spawn_that_fails_starts_no_child(rt: HostRuntime) {
+    let fails = vec![in rt.alloc(); 0].expect(&rt, "memory");
+    let mut host = host(rt.alloc(), fails).expect(&rt, "memory");
+    tells(&rt, rt.alloc(), &mut host, "spawn cat -u: refused\n");
 }

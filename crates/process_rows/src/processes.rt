@@ -12,18 +12,14 @@ use utf8_stream::Coding;
 /// Characters of one byte each.
 fn text(rt: &impl Abort, alloc: Global, bytes: &[u8]) -> Chars {
     let mut chars = Chars::new(alloc);
-    for byte in bytes {
-        chars
-            .push(Ch::Scalar(char::from(*byte)))
-            .expect(rt, "a character");
-    }
+    chars.extend_bytes(bytes).expect(rt, "a character");
     chars
 }
 
-fn is_text(rt: &impl Abort, chars: &Chars, bytes: &[u8]) {
+fn is_name(rt: &impl Abort, chars: &Chars, bytes: &[u8]) {
     assert_eq!(rt; chars.len(), bytes.len());
     for i in 0..bytes.len() {
-        assert_eq!(rt; chars.at(i), Ch::Scalar(char::from(bytes[i])));
+        is(rt, chars.at(i), Ch::Scalar(char::from(bytes[i])));
     }
 }
 
@@ -34,13 +30,13 @@ fn start(rt: &impl Abort, alloc: Global, table: &mut Processes, name: &[u8], bec
 {
     let given = text(rt, alloc, name);
     let free = table.free_name(&given).expect(rt, "a name");
-    is_text(rt, &free, becomes);
+    is_name(rt, &free, becomes);
     assert!(rt; table.count() < 256);
     let child = 100 + table.count();
     let place = table.reserve(&free).expect(rt, "a place");
     let p = table.add_reserved(place, child, Some(3), 7);
-    is_text(rt, table.get(p).name(), becomes);
-    assert_eq!(rt; table.get(p).child(), child);
+    is_name(rt, table.get(p).name(), becomes);
+    is(rt, table.get(p).child(), child);
     p
 }
 
@@ -102,8 +98,8 @@ fn what_is_held_at_the_end_of_output(rt: HostRuntime) {
     let mut out = Chars::new(rt.alloc());
     feed(&rt, &mut table, b"\xF0\x9F", &mut out);
     feed(&rt, &mut table, b"\x98", &mut out);
-    assert!(rt; out.is_empty());
-    assert!(rt; !table.get(0).drained());
+    holds(&rt, out.is_empty());
+    holds(&rt, !table.get(0).drained());
     let held = table.get(0).held().len();
     out.reserve(held).expect(&rt, "room");
     table.drain(0, &mut out);
@@ -111,7 +107,7 @@ fn what_is_held_at_the_end_of_output(rt: HostRuntime) {
     is(&rt, out.at(0), Ch::Raw(0xF0));
     is(&rt, out.at(1), Ch::Raw(0x9F));
     is(&rt, out.at(2), Ch::Raw(0x98));
-    assert!(rt; table.get(0).drained());
+    holds(&rt, table.get(0).drained());
     assert!(rt; table.get(0).held().is_empty());
     table.drain(0, &mut out);
     is(&rt, out.len(), 3);
@@ -122,13 +118,13 @@ fn a_coding_until_bytes_are_read(rt: HostRuntime) {
     let mut table = one(&rt, rt.alloc());
     let mut out = Chars::new(rt.alloc());
     is(&rt, table.get(0).coding(), Coding::Utf8);
-    assert!(rt; table.set_coding(0, Coding::Latin1));
-    assert!(rt; table.set_coding(0, Coding::Utf8Dos));
-    assert!(rt; !table.get(0).fed());
+    holds(&rt, table.set_coding(0, Coding::Latin1));
+    holds(&rt, table.set_coding(0, Coding::Utf8Dos));
+    holds(&rt, !table.get(0).fed());
     feed(&rt, &mut table, b"a\r", &mut out);
     is(&rt, table.get(0).held(), b"\r".as_slice());
-    assert!(rt; table.get(0).fed());
-    assert!(rt; !table.set_coding(0, Coding::Latin1));
+    holds(&rt, table.get(0).fed());
+    holds(&rt, !table.set_coding(0, Coding::Latin1));
     is(&rt, table.get(0).coding(), Coding::Utf8Dos);
     is(&rt, table.get(0).held(), b"\r".as_slice());
     feed(&rt, &mut table, b"\n", &mut out);
@@ -143,8 +139,8 @@ fn a_coding_behind_the_end_of_output(rt: HostRuntime) {
     let held = table.get(0).held().len();
     out.reserve(held).expect(&rt, "room");
     table.drain(0, &mut out);
-    assert!(rt; out.is_empty());
-    assert!(rt; table.set_coding(0, Coding::Latin1));
+    holds(&rt, out.is_empty());
+    holds(&rt, table.set_coding(0, Coding::Latin1));
     is(&rt, table.get(0).coding(), Coding::Latin1);
 }
 
@@ -213,15 +209,15 @@ fn is_new(rt: &impl Abort, table: &Processes, p: u32)
     requires { p < length table.now }
 {
     let process = table.get(p);
-    assert_eq!(rt; process.status(), Status::Run);
-    assert_eq!(rt; process.buffer(), Some(3));
-    assert_eq!(rt; process.mark(), 7);
-    assert_eq!(rt; process.filter(), Filter::Default);
-    assert_eq!(rt; process.sentinel(), None);
-    assert!(rt; process.held().is_empty());
-    assert!(rt; !process.drained());
-    assert!(rt; !process.closed());
-    assert!(rt; process.listed());
+    is(rt, process.status(), Status::Run);
+    is(rt, process.buffer(), Some(3));
+    is(rt, process.mark(), 7);
+    is(rt, process.filter(), Filter::Default);
+    is(rt, process.sentinel(), None);
+    holds(rt, process.held().is_empty());
+    holds(rt, !process.drained());
+    holds(rt, !process.closed());
+    holds(rt, process.listed());
 }
 
 #[test]

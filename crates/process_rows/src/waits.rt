@@ -1,10 +1,11 @@
 //! Worked cases of waits: whom they ask, in which order, and what they answer.
 ghost use Rattle.std.specs.Prelude.{◌≡◌, ◌+◌, ◌<◌, ◌≤◌, length, IfOk, OnOk};
 
+use crate::checking::is;
 use ek_types::{Chars, Mem};
 use process_table::{Filter, Processes, Status};
 use std::alloc::Global;
-use std::test::Fail;
+use std::process::Abort;
 use wait_loop::{Step, Wait};
 
 /// A process that just started.
@@ -45,93 +46,78 @@ fn asked(alloc: Global, wait: &mut Wait, table: &Processes, most: usize) -> Mem<
     Ok(list)
 }
 
-#[test]
-fn a_wait_for_just_one_process_asks_no_other(rt: HostRuntime) -> Result<(), Fail> {
-    let table = table_of(rt.alloc(), 2)?;
-    let mut wait = Wait::new(rt.alloc(), Some(0), 3, true, 256)?;
-    let list = asked(rt.alloc(), &mut wait, &table, 9)?;
-    assert_eq!(rt; list.as_slice(), [0, 0, 0].as_slice());
-    assert_eq!(rt; wait.next(&table), Step::Done(false));
-    Ok(())
+fn are(rt: &impl Abort, list: Mem<Vec<u32>>, expected: &[u32]) {
+    assert_eq!(rt; list.expect(rt, "memory").as_slice(), expected);
 }
 
 #[test]
-fn a_wait_for_a_process_asks_the_others_too(rt: HostRuntime) -> Result<(), Fail> {
-    let table = table_of(rt.alloc(), 2)?;
-    let mut wait = Wait::new(rt.alloc(), Some(0), 2, false, 256)?;
-    let list = asked(rt.alloc(), &mut wait, &table, 9)?;
-    assert_eq!(rt; list.as_slice(), [0, 1, 0, 1].as_slice());
-    assert_eq!(rt; wait.next(&table), Step::Done(false));
-    Ok(())
+fn a_wait_for_just_one_process_asks_no_other(rt: HostRuntime) {
+    let table = table_of(rt.alloc(), 2).expect(&rt, "memory");
+    let mut wait = Wait::new(rt.alloc(), Some(0), 3, true, 256).expect(&rt, "memory");
+    are(&rt, asked(rt.alloc(), &mut wait, &table, 9), &[0, 0, 0]);
+    is(&rt, wait.next(&table), Step::Done(false));
 }
 
 #[test]
-fn the_target_is_asked_first(rt: HostRuntime) -> Result<(), Fail> {
-    let table = table_of(rt.alloc(), 4)?;
-    let mut wait = Wait::new(rt.alloc(), Some(2), 1, false, 4)?;
-    let list = asked(rt.alloc(), &mut wait, &table, 9)?;
-    assert_eq!(rt; list.as_slice(), [2, 0, 1, 3].as_slice());
-    Ok(())
+fn a_wait_for_a_process_asks_the_others_too(rt: HostRuntime) {
+    let table = table_of(rt.alloc(), 2).expect(&rt, "memory");
+    let mut wait = Wait::new(rt.alloc(), Some(0), 2, false, 256).expect(&rt, "memory");
+    are(&rt, asked(rt.alloc(), &mut wait, &table, 9), &[0, 1, 0, 1]);
+    is(&rt, wait.next(&table), Step::Done(false));
 }
 
 #[test]
-fn a_process_that_ends_in_the_middle_of_a_round_is_passed_over(
-    rt: HostRuntime,
-) -> Result<(), Fail> {
-    let mut table = table_of(rt.alloc(), 3)?;
-    let mut wait = Wait::new(rt.alloc(), None, 2, false, 256)?;
-    assert_eq!(rt; wait.next(&table), Step::Ask(0));
+fn the_target_is_asked_first(rt: HostRuntime) {
+    let table = table_of(rt.alloc(), 4).expect(&rt, "memory");
+    let mut wait = Wait::new(rt.alloc(), Some(2), 1, false, 4).expect(&rt, "memory");
+    are(&rt, asked(rt.alloc(), &mut wait, &table, 9), &[2, 0, 1, 3]);
+}
+
+#[test]
+fn a_process_that_ends_in_the_middle_of_a_round_is_passed_over(rt: HostRuntime) {
+    let mut table = table_of(rt.alloc(), 3).expect(&rt, "memory");
+    let mut wait = Wait::new(rt.alloc(), None, 2, false, 256).expect(&rt, "memory");
+    is(&rt, wait.next(&table), Step::Ask(0));
     table.note_end(1, Status::Exit(0));
-    let list = asked(rt.alloc(), &mut wait, &table, 9)?;
-    assert_eq!(rt; list.as_slice(), [2, 0, 2].as_slice());
-    Ok(())
+    are(&rt, asked(rt.alloc(), &mut wait, &table, 9), &[2, 0, 2]);
 }
 
 #[test]
-fn a_process_that_starts_in_the_middle_of_a_round_joins_the_next(
-    rt: HostRuntime,
-) -> Result<(), Fail> {
-    let mut table = table_of(rt.alloc(), 2)?;
-    let mut wait = Wait::new(rt.alloc(), None, 2, false, 256)?;
-    assert_eq!(rt; wait.next(&table), Step::Ask(0));
-    start(rt.alloc(), &mut table)?;
-    let list = asked(rt.alloc(), &mut wait, &table, 9)?;
-    assert_eq!(rt; list.as_slice(), [1, 0, 1, 2].as_slice());
-    Ok(())
+fn a_process_that_starts_in_the_middle_of_a_round_joins_the_next(rt: HostRuntime) {
+    let mut table = table_of(rt.alloc(), 2).expect(&rt, "memory");
+    let mut wait = Wait::new(rt.alloc(), None, 2, false, 256).expect(&rt, "memory");
+    is(&rt, wait.next(&table), Step::Ask(0));
+    start(rt.alloc(), &mut table).expect(&rt, "memory");
+    are(&rt, asked(rt.alloc(), &mut wait, &table, 9), &[1, 0, 1, 2]);
 }
 
 #[test]
-fn bytes_of_the_target_end_a_wait_for_it(rt: HostRuntime) -> Result<(), Fail> {
-    let mut table = table_of(rt.alloc(), 2)?;
-    let mut wait = Wait::new(rt.alloc(), Some(1), 1000, false, 256)?;
+fn bytes_of_the_target_end_a_wait_for_it(rt: HostRuntime) {
+    let mut table = table_of(rt.alloc(), 2).expect(&rt, "memory");
+    let mut wait = Wait::new(rt.alloc(), Some(1), 1000, false, 256).expect(&rt, "memory");
     wait.note(0, true);
     wait.note(1, false);
-    assert_eq!(rt; wait.next(&table), Step::Ask(1));
+    is(&rt, wait.next(&table), Step::Ask(1));
     wait.note(1, true);
     table.note_end(1, Status::Signal);
-    assert_eq!(rt; wait.next(&table), Step::Done(true));
-    Ok(())
+    is(&rt, wait.next(&table), Step::Done(true));
 }
 
 #[test]
-fn bytes_of_any_process_end_a_wait_for_none(rt: HostRuntime) -> Result<(), Fail> {
-    let table = table_of(rt.alloc(), 2)?;
-    let mut wait = Wait::new(rt.alloc(), None, 1000, true, 256)?;
-    let list = asked(rt.alloc(), &mut wait, &table, 2)?;
-    assert_eq!(rt; list.as_slice(), [0, 1].as_slice());
+fn bytes_of_any_process_end_a_wait_for_none(rt: HostRuntime) {
+    let table = table_of(rt.alloc(), 2).expect(&rt, "memory");
+    let mut wait = Wait::new(rt.alloc(), None, 1000, true, 256).expect(&rt, "memory");
+    are(&rt, asked(rt.alloc(), &mut wait, &table, 2), &[0, 1]);
     wait.note(1, true);
-    assert_eq!(rt; wait.next(&table), Step::Done(true));
-    Ok(())
+    is(&rt, wait.next(&table), Step::Done(true));
 }
 
 #[test]
-fn a_wait_for_a_process_that_is_not_heard_is_over(rt: HostRuntime) -> Result<(), Fail> {
-    let mut table = table_of(rt.alloc(), 2)?;
+fn a_wait_for_a_process_that_is_not_heard_is_over(rt: HostRuntime) {
+    let mut table = table_of(rt.alloc(), 2).expect(&rt, "memory");
     table.set_filter(0, Filter::Off);
-    let mut wait = Wait::new(rt.alloc(), Some(0), 1000, false, 256)?;
-    assert_eq!(rt; wait.next(&table), Step::Done(false));
-    let mut wait = Wait::new(rt.alloc(), None, 1, false, 256)?;
-    let list = asked(rt.alloc(), &mut wait, &table, 9)?;
-    assert_eq!(rt; list.as_slice(), [1].as_slice());
-    Ok(())
+    let mut wait = Wait::new(rt.alloc(), Some(0), 1000, false, 256).expect(&rt, "memory");
+    is(&rt, wait.next(&table), Step::Done(false));
+    let mut wait = Wait::new(rt.alloc(), None, 1, false, 256).expect(&rt, "memory");
+    are(&rt, asked(rt.alloc(), &mut wait, &table, 9), &[1]);
 }

@@ -36,7 +36,32 @@ size-grown at n (x ∷ xs) h = by_test (λ g. size g ≡ size (x ∷ xs) + n) (n
 
 pub ruleset size_steps = (size-append)
 
-pub ruleset grow_steps = (size-append, grown-front, grown-behind, grown-here, grown-next, size-grown)
+-- in a node
+pub grown-left : (at n front : ℕ) (left new : List Run) (x : Run) (right : List Run) → front ≡ size left → at < front → new ≡ grown at n left → new ++ x ∷ right ≡ grown at n (left ++ x ∷ right)
+grown-left at n front left new x right e h k = ap (λ r. r ++ x ∷ right) k ∙ sym (grown-front at n left (x ∷ right) (omega arith))
+
+pub grown-own : (at n front : ℕ) (left : List Run) (x : Run) (right : List Run) → front ≡ size left → front ≤ at → at - front < x.1 → left ++ (x.0, x.1 + n) ∷ right ≡ grown at n (left ++ x ∷ right)
+grown-own at n front left x right e h k =
+    sym (grown-behind at n left (x ∷ right) (omega arith) ∙ ap (λ r. left ++ r) (grown-here (at - size left) n x right (omega arith)))
+
+pub grown-right : (at n front : ℕ) (left : List Run) (x : Run) (right new : List Run) → front ≡ size left → front ≤ at → x.1 ≤ at - front → new ≡ grown (at - front - x.1) n right → left ++ x ∷ new ≡ grown at n (left ++ x ∷ right)
+grown-right at n front left x right new e h k g =
+    let same : at - size left - x.1 ≡ at - front - x.1 = omega arith in
+    sym (grown-behind at n left (x ∷ right) (omega arith) ∙ ap (λ r. left ++ r) (grown-next (at - size left) n x right (omega arith) ∙ ap (λ i. x ∷ grown i n right) same ∙ ap (λ r. x ∷ r) (sym g)))
+
+pub total-left : (at n front total : ℕ) (left new : List Run) (x : Run) (right : List Run) → front ≡ size left → at < front → new ≡ grown at n left → total ≡ size (left ++ x ∷ right) → total + n ≡ size (new ++ x ∷ right)
+total-left at n front total left new x right e h k own =
+    omega (arith, size-append left (x ∷ right), size-append new (x ∷ right), ap size k, size-grown at n left (omega arith))
+
+pub total-own : (n total : ℕ) (left : List Run) (x : Run) (right : List Run) → total ≡ size (left ++ x ∷ right) → total + n ≡ size (left ++ (x.0, x.1 + n) ∷ right)
+total-own n total left x right own = omega (arith, size-append left (x ∷ right), size-append left ((x.0, x.1 + n) ∷ right))
+
+pub total-right : (at n front total : ℕ) (left : List Run) (x : Run) (right new : List Run) → front ≡ size left → front ≤ at → x.1 ≤ at - front → at < size (left ++ x ∷ right) → new ≡ grown (at - front - x.1) n right →
+    total ≡ size (left ++ x ∷ right) → total + n ≡ size (left ++ x ∷ new)
+total-right at n front total left x right new e h k within g own =
+    let all = size-append left (x ∷ right) in
+    let size-new = size-grown (at - front - x.1) n right (omega arith) in
+    omega (arith, size-append left (x ∷ new), ap size g)
 
 -- CUT
 pub before-front : (at : ℕ) (xs ys : List Run) → at < size xs → before at (xs ++ ys) ≡ before at xs
@@ -132,7 +157,37 @@ set_at-here at x ys s h k = first_by (nat_lt at x.1) (x.0 ≡ s) (SetAt ys (at -
 pub set_at-next : (at : ℕ) (x : Run) (ys : List Run) (s : PropSet) → x.1 ≤ at → SetAt (x ∷ ys) at s → SetAt ys (at - x.1) s
 set_at-next at x ys s h k = second_by (nat_lt at x.1) (x.0 ≡ s) (SetAt ys (at - x.1) s) (le-ltb at x.1 h) k
 
-pub ruleset cut_steps = (before-between, set_at-front, set_at-behind, set_at-here, set_at-next, size-append, before-front, before-behind, before-here, before-start, before-next, behind-front, behind-behind, behind-here, behind-start, behind-next, size-before, size-behind)
+-- in a node
+pub set_at-right : (at front own : ℕ) (left : List Run) (x : Run) (right : List Run) (s : PropSet) → front ≡ size left → own ≡ x.1 → front ≤ at → own ≤ at - front → SetAt (left ++ x ∷ right) at s → SetAt right (at - front - own) s
+set_at-right at front own left x right s e o h l k =
+    let same : at - front - own ≡ at - size left - x.1 = omega arith in
+    rw same (set_at-next (at - size left) x right s (omega arith) (set_at-behind at left (x ∷ right) s (omega arith) k))
+
+pub before-right : (at front own : ℕ) (left : List Run) (x : Run) (right new : List Run) → front ≡ size left → own ≡ x.1 → front ≤ at → own ≤ at - front → new ≡ before (at - front - own) right → left ++ x ∷ new ≡ before at (left ++ x ∷ right)
+before-right at front own left x right new e o h l g =
+    let same : at - size left - x.1 ≡ at - front - own = omega arith in
+    sym (before-behind at left (x ∷ right) (omega arith) ∙ ap (λ r. left ++ r) (before-next (at - size left) x right (omega arith) ∙ ap (λ i. x ∷ before i right) same ∙ ap (λ r. x ∷ r) (sym g)))
+
+pub behind-right : (at front own : ℕ) (left : List Run) (x : Run) (right new : List Run) → front ≡ size left → own ≡ x.1 → front ≤ at → own ≤ at - front → new ≡ behind (at - front - own) right → new ≡ behind at (left ++ x ∷ right)
+behind-right at front own left x right new e o h l g =
+    let same : at - size left - x.1 ≡ at - front - own = omega arith in
+    g ∙ sym (behind-behind at left (x ∷ right) (omega arith) ∙ behind-next (at - size left) x right (omega arith) ∙ ap (λ i. behind i right) same)
+
+pub behind-between : (at : ℕ) (left : List Run) (x : Run) (right : List Run) → at ≡ size left → 0 < x.1 → behind at (left ++ x ∷ right) ≡ x ∷ right
+behind-between at left x right h k =
+    let e : at - size left ≡ 0 = omega arith in
+    behind-behind at left (x ∷ right) (omega arith) ∙ ap (λ i. behind i (x ∷ right)) e ∙ behind-start x right k
+
+pub before-within : (at front : ℕ) (left : List Run) (x : Run) (right : List Run) → front ≡ size left → front < at → at - front < x.1 → left ++ (x.0, at - front) ∷ [] ≡ before at (left ++ x ∷ right)
+before-within at front left x right e h k =
+    let same : at - size left ≡ at - front = omega arith in
+    sym (before-behind at left (x ∷ right) (omega arith) ∙ ap (λ i. left ++ before i (x ∷ right)) same ∙ ap (λ r. left ++ r) (before-here (at - front) x right k (omega arith)))
+
+pub behind-within : (at front : ℕ) (left : List Run) (x : Run) (right : List Run) (s : PropSet) → front ≡ size left → front < at → at - front < x.1 → SetAt (left ++ x ∷ right) at s → (s, x.1 - (at - front)) ∷ right ≡ behind at (left ++ x ∷ right)
+behind-within at front left x right s e h k set =
+    let same : at - size left ≡ at - front = omega arith in
+    let own : x.0 ≡ s = set_at-here (at - size left) x right s (omega arith) (set_at-behind at left (x ∷ right) s (omega arith) set) in
+    sym (behind-behind at left (x ∷ right) (omega arith) ∙ ap (λ i. behind i (x ∷ right)) same ∙ behind-here (at - front) x right k ∙ ap (λ (r : PropSet). (r, x.1 - (at - front)) ∷ right) own)
 
 -- A SHORTER RUN
 pub shrunk-front : (at n : ℕ) (xs ys : List Run) → at < size xs → shrunk at n (xs ++ ys) ≡ shrunk at n xs ++ ys
@@ -188,7 +243,40 @@ size-shrunk at n (x ∷ xs) k = go (size-shrunk (at - x.1) n xs) (nat_lt at x.1)
     go ih true e = let own = e.1 in omega arith
     go ih false e = let rest = ih e in omega arith
 
-pub ruleset shrink_steps = (size-append, shrunk-front, shrunk-behind, shrunk-here, shrunk-next, size-shrunk, part-front, part-behind, part-here, part-next, part-size)
+-- in a node
+pub part-left : (at n front : ℕ) (left : List Run) (x : Run) (right : List Run) → front ≡ size left → at < front → IsPartOfRun at n (left ++ x ∷ right) → IsPartOfRun at n left
+part-left at n front left x right e h k = part-front at n left (x ∷ right) (omega arith) k
+
+pub part-own : (at n front : ℕ) (left : List Run) (x : Run) (right : List Run) → front ≡ size left → front ≤ at → at - front < x.1 → IsPartOfRun at n (left ++ x ∷ right) → n < x.1
+part-own at n front left x right e h l k = part-here (at - size left) n x right (omega arith) (part-behind at n left (x ∷ right) (omega arith) k)
+
+pub part-right : (at n front : ℕ) (left : List Run) (x : Run) (right : List Run) → front ≡ size left → front ≤ at → x.1 ≤ at - front → IsPartOfRun at n (left ++ x ∷ right) → IsPartOfRun (at - front - x.1) n right
+part-right at n front left x right e h l k =
+    let same : at - front - x.1 ≡ at - size left - x.1 = omega arith in
+    rw same (part-next (at - size left) n x right (omega arith) (part-behind at n left (x ∷ right) (omega arith) k))
+
+pub shrunk-left : (at n front : ℕ) (left new : List Run) (x : Run) (right : List Run) → front ≡ size left → at < front → new ≡ shrunk at n left → new ++ x ∷ right ≡ shrunk at n (left ++ x ∷ right)
+shrunk-left at n front left new x right e h k = ap (λ r. r ++ x ∷ right) k ∙ sym (shrunk-front at n left (x ∷ right) (omega arith))
+
+pub shrunk-own : (at n front : ℕ) (left : List Run) (x : Run) (right : List Run) → front ≡ size left → front ≤ at → at - front < x.1 → left ++ (x.0, x.1 - n) ∷ right ≡ shrunk at n (left ++ x ∷ right)
+shrunk-own at n front left x right e h k =
+    sym (shrunk-behind at n left (x ∷ right) (omega arith) ∙ ap (λ r. left ++ r) (shrunk-here (at - size left) n x right (omega arith)))
+
+pub shrunk-right : (at n front : ℕ) (left : List Run) (x : Run) (right new : List Run) → front ≡ size left → front ≤ at → x.1 ≤ at - front → new ≡ shrunk (at - front - x.1) n right → left ++ x ∷ new ≡ shrunk at n (left ++ x ∷ right)
+shrunk-right at n front left x right new e h k g =
+    let same : at - size left - x.1 ≡ at - front - x.1 = omega arith in
+    sym (shrunk-behind at n left (x ∷ right) (omega arith) ∙ ap (λ r. left ++ r) (shrunk-next (at - size left) n x right (omega arith) ∙ ap (λ i. x ∷ shrunk i n right) same ∙ ap (λ r. x ∷ r) (sym g)))
+
+pub less-left : (at n total : ℕ) (left new : List Run) (x : Run) (right : List Run) → IsPartOfRun at n left → new ≡ shrunk at n left → total ≡ size (left ++ x ∷ right) → total - n ≡ size (new ++ x ∷ right)
+less-left at n total left new x right h k own =
+    omega (arith, size-append left (x ∷ right), size-append new (x ∷ right), ap size k, size-shrunk at n left h)
+
+pub less-own : (n total : ℕ) (left : List Run) (x : Run) (right : List Run) → n < x.1 → total ≡ size (left ++ x ∷ right) → total - n ≡ size (left ++ (x.0, x.1 - n) ∷ right)
+less-own n total left x right h own = omega (arith, size-append left (x ∷ right), size-append left ((x.0, x.1 - n) ∷ right))
+
+pub less-right : (at n total : ℕ) (left : List Run) (x : Run) (right new : List Run) → IsPartOfRun at n right → new ≡ shrunk at n right → total ≡ size (left ++ x ∷ right) → total - n ≡ size (left ++ x ∷ new)
+less-right at n total left x right new h k own =
+    omega (arith, size-append left (x ∷ right), size-append left (x ∷ new), ap size k, size-shrunk at n right h)
 
 -- GLUED
 pub glued-push : (xs : List Run) (x : Run) (ys : List Run) → glued (xs ++ x ∷ []) ys ≡ xs ++ in_front x ys

@@ -8,7 +8,7 @@ use crate::tree::{Link, Node, Tree, take_sides};
 
 /// The runs in front of a place, and those from it on. The spare, which has the set that stands at the place, takes
 /// the second part of a run that is cut.
-#[tactic(auto, using(crate::proofs::RunLemmas::cut_steps))]
+#[tactic(auto, using(crate::proofs::RunLemmas::size_steps))]
 pub(crate) fn cut(tree: Tree, at: usize, spare: Box<Node>) -> (Tree, Tree)
     requires { SetAt tree at spare.value.set }
     ensures front { result.0 ≡ before at tree }

@@ -150,7 +150,7 @@ impl Tree {
     }
 
     /// Makes the run at a place longer.
-    #[tactic(auto, using(crate::proofs::RunLemmas::grow_steps))]
+    #[tactic(auto, using(crate::proofs::RunLemmas::size_steps))]
     pub(crate) fn grow(&mut self, at: usize, n: usize)
         requires within { at < size self.old }
         requires fits { size self.old + n < 2 ^ 64 }
@@ -176,7 +176,7 @@ impl Tree {
     }
 
     /// Makes the run at a place shorter. It is longer than that.
-    #[tactic(auto, using(crate::proofs::RunLemmas::shrink_steps))]
+    #[tactic(auto, using(crate::proofs::RunLemmas::size_steps))]
     pub(crate) fn shrink(&mut self, at: usize, n: usize)
         requires { IsPartOfRun at n self.old }
         ensures { self.new ≡ shrunk at n self.old }

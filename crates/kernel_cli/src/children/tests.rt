@@ -1,6 +1,7 @@
 ghost use Rattle.std.specs.Prelude.{◌≡◌, ◌<◌, ◌-◌, ◌^◌, length, IfOk};
 
 use super::*;
+use crate::output::Hand;
 use std::test::Fail;
 
 fn words(alloc: Global, script: &str) -> Result<Vec<String>, AllocError> {
@@ -48,8 +49,9 @@ fn children_are_heard_out(rt: HostRuntime) -> Result<(), Fail> {
         ("head -c 1048576 /dev/zero", 1_048_576, Ended::Code(0)),
         ("exec 1>&-; exit 7", 0, Ended::Code(7)),
     ];
+    let nowhere = Output::new(rt.alloc(), io::sink())?;
     for (script, size, ended) in cases {
-        let mut host = RealHost::new(rt.alloc(), &rt);
+        let mut host = RealHost::new(rt.alloc(), &rt, &nowhere);
         let heard = heard_out(rt.alloc(), &mut host, script)?;
         assert_eq!(rt; heard, Some((size, ended)), "{script}");
         assert_eq!(rt; host.faults, 0, "{script}");
@@ -59,7 +61,8 @@ fn children_are_heard_out(rt: HostRuntime) -> Result<(), Fail> {
 
 #[test]
 fn a_program_that_is_not_there_is_refused(rt: HostRuntime) -> Result<(), Fail> {
-    let mut host = RealHost::new(rt.alloc(), &rt);
+    let nowhere = Output::new(rt.alloc(), io::sink())?;
+    let mut host = RealHost::new(rt.alloc(), &rt, &nowhere);
     assert_eq!(rt; host.spawn("no-such-program", &[])?, Spawned::Refused);
     assert_eq!(rt; host.faults, 1);
     Ok(())
@@ -67,7 +70,8 @@ fn a_program_that_is_not_there_is_refused(rt: HostRuntime) -> Result<(), Fail> {
 
 #[test]
 fn what_is_sent_comes_back_and_the_input_is_closed(rt: HostRuntime) -> Result<(), Fail> {
-    let mut host = RealHost::new(rt.alloc(), &rt);
+    let nowhere = Output::new(rt.alloc(), io::sink())?;
+    let mut host = RealHost::new(rt.alloc(), &rt, &nowhere);
     let mut room = [0u8; 16];
     let Spawned::Started(child) = host.spawn("cat", &[])? else {
         return Err(Fail::from("refused"));
@@ -85,7 +89,8 @@ fn what_is_sent_comes_back_and_the_input_is_closed(rt: HostRuntime) -> Result<()
 
 #[test]
 fn an_input_that_the_child_closed_is_broken(rt: HostRuntime) -> Result<(), Fail> {
-    let mut host = RealHost::new(rt.alloc(), &rt);
+    let nowhere = Output::new(rt.alloc(), io::sink())?;
+    let mut host = RealHost::new(rt.alloc(), &rt, &nowhere);
     let words = words(rt.alloc(), "exec 0<&-; echo ready; exec sleep 30")?;
     let mut room = [0u8; 16];
     let Spawned::Started(child) = host.spawn("sh", words.as_slice())? else {
@@ -99,11 +104,36 @@ fn an_input_that_the_child_closed_is_broken(rt: HostRuntime) -> Result<(), Fail>
 
 #[test]
 fn a_child_that_is_never_read_is_killed(rt: HostRuntime) -> Result<(), Fail> {
-    let mut host = RealHost::new(rt.alloc(), &rt);
+    let nowhere = Output::new(rt.alloc(), io::sink())?;
+    let mut host = RealHost::new(rt.alloc(), &rt, &nowhere);
     let Spawned::Started(child) = host.spawn("yes", &[])? else {
         return Err(Fail::from("refused"));
     };
     assert_eq!(rt; host.kill(child), KillAnswer::Killed);
     assert_eq!(rt; host.faults, 0);
+    Ok(())
+}
+
+/// A child that can't be asked, since the lines before couldn't be handed on, is told as a fault. Its input is closed all the
+/// same, and it is killed.
+#[test]
+fn no_child_is_asked_behind_a_line_that_is_lost(rt: HostRuntime) -> Result<(), Fail> {
+    let mut full = [0u8; 1];
+    let output = Output::new(rt.alloc(), full.as_mut_slice())?;
+    let mut host = RealHost::new(rt.alloc(), &rt, &output);
+    let mut room = [0u8; 16];
+    let Spawned::Started(child) = host.spawn("cat", &[])? else {
+        return Err(Fail::from("refused"));
+    };
+    assert_eq!(rt; host.send(child, b"hi")?, SendAnswer::Sent);
+    Hand { output: &output }.write_all(b"two")?;
+    assert_eq!(rt; host.read(child, &mut room)?, Got::Failed);
+    assert_eq!(rt; host.send(child, b"hi")?, SendAnswer::Broken);
+    assert!(rt; Hand { output: &output }.write(b"x").is_err());
+    host.close(child)?;
+    assert_eq!(rt; host.end(child)?, Ended::Failed);
+    assert_eq!(rt; host.kill(child), KillAnswer::Killed);
+    assert_eq!(rt; host.spawn("cat", &[])?, Spawned::Refused);
+    assert_eq!(rt; host.faults, 4);
     Ok(())
 }

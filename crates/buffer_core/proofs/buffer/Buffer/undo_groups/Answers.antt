@@ -5,6 +5,7 @@ use Rattle.text_pool.specs.Pool.{live}
 use Rattle.gap_text.specs.Blocks.{SameOutside}
 use Rattle.gap_text.specs.Text.{LiesIn}
 use Rattle.undo_list.specs.Plans.{planned}
+use Rattle.undo_list.specs.State.{Recording}
 use Rattle.buffer_core.specs.Blocks.{ChangesBlocks}
 use Rattle.buffer_core.specs.Meaning.{Stored, buffer_of, site_of}
 use Rattle.buffer_core.proofs.BlockLemmas.{then_changed}
@@ -14,15 +15,15 @@ use Rattle.buffer_core.proofs.buffer.Buffer.undo_groups.Goals as goal
 
 pub release-requires : goal.release-requires
 release-requires c =
-    let made : ChangesBlocks [] c.copy-3.inside.text.blocks c.args.pool.now c.copy-2.new.pool = subst (λ (b : Stored). ChangesBlocks [] b.text.blocks c.args.pool.now c.copy-2.new.pool) (sym c.copy-3.view_is) c.in_ok-copy.ensures.blocks in
-    let copied = then_changed [] c.copy-3.inside.text.blocks c.undo_each.new.self.text.blocks c.args.pool.now c.copy-2.new.pool c.undo_each.new.pool made c.in-Ok.ensures.blocks in
+    let made : ChangesBlocks [] c.pass.new.self.text.blocks c.args.pool.now c.copy-2.new.pool = subst (λ (b : Stored). ChangesBlocks [] b.text.blocks c.args.pool.now c.copy-2.new.pool) (sym c.pass.ensures.rest) c.in_ok-copy.ensures.blocks in
+    let copied = then_changed [] c.pass.new.self.text.blocks c.undo_each.new.self.text.blocks c.args.pool.now c.copy-2.new.pool c.undo_each.new.pool made c.in-Ok.ensures.blocks in
     let stay = stays_beside c.undo_each.new.self.text.blocks c.args.pool.now c.undo_each.new.pool c.args.self.now.text copied c.requires.lies in
     subst (λ (b : Stored). LiesIn c.undo_each.new.pool b.text) (sym c.replace-before.ensures.value) stay.lies
 
 pub returns-in-Ok-clause-lies : goal.returns-in-Ok-clause-lies
 returns-in-Ok-clause-lies c =
-    let made : ChangesBlocks [] c.copy-3.inside.text.blocks c.args.pool.now c.copy-2.new.pool = subst (λ (b : Stored). ChangesBlocks [] b.text.blocks c.args.pool.now c.copy-2.new.pool) (sym c.copy-3.view_is) c.in_ok-copy.ensures.blocks in
-    let copied = then_changed [] c.copy-3.inside.text.blocks c.undo_each.new.self.text.blocks c.args.pool.now c.copy-2.new.pool c.undo_each.new.pool made c.in-Ok.ensures.blocks in
+    let made : ChangesBlocks [] c.pass.new.self.text.blocks c.args.pool.now c.copy-2.new.pool = subst (λ (b : Stored). ChangesBlocks [] b.text.blocks c.args.pool.now c.copy-2.new.pool) (sym c.pass.ensures.rest) c.in_ok-copy.ensures.blocks in
+    let copied = then_changed [] c.pass.new.self.text.blocks c.undo_each.new.self.text.blocks c.args.pool.now c.copy-2.new.pool c.undo_each.new.pool made c.in-Ok.ensures.blocks in
     let others = subst (λ (b : Stored). SameOutside b.text.blocks c.undo_each.new.pool c.release.new.pool) c.replace-before.ensures.value c.release.ensures.others in
     let count = subst (λ (b : Stored). live c.release.new.pool + length b.text.blocks ≡ live c.undo_each.new.pool) c.replace-before.ensures.value c.release.ensures.count in
     let gave = released c.args.self.now.text.blocks c.undo_each.new.pool c.release.new.pool others count in
@@ -31,37 +32,37 @@ returns-in-Ok-clause-lies c =
 
 pub returns-in-Ok-clause-ok : goal.returns-in-Ok-clause-ok
 returns-in-Ok-clause-ok c = λ groups some h.
-    let made : ChangesBlocks [] c.copy-3.inside.text.blocks c.args.pool.now c.copy-2.new.pool = subst (λ (b : Stored). ChangesBlocks [] b.text.blocks c.args.pool.now c.copy-2.new.pool) (sym c.copy-3.view_is) c.in_ok-copy.ensures.blocks in
-    let copied = then_changed [] c.copy-3.inside.text.blocks c.undo_each.new.self.text.blocks c.args.pool.now c.copy-2.new.pool c.undo_each.new.pool made c.in-Ok.ensures.blocks in
+    let made : ChangesBlocks [] c.pass.new.self.text.blocks c.args.pool.now c.copy-2.new.pool = subst (λ (b : Stored). ChangesBlocks [] b.text.blocks c.args.pool.now c.copy-2.new.pool) (sym c.pass.ensures.rest) c.in_ok-copy.ensures.blocks in
+    let copied = then_changed [] c.pass.new.self.text.blocks c.undo_each.new.self.text.blocks c.args.pool.now c.copy-2.new.pool c.undo_each.new.pool made c.in-Ok.ensures.blocks in
     let others = subst (λ (b : Stored). SameOutside b.text.blocks c.undo_each.new.pool c.release.new.pool) c.replace-before.ensures.value c.release.ensures.others in
     let count = subst (λ (b : Stored). live c.release.new.pool + length b.text.blocks ≡ live c.undo_each.new.pool) c.replace-before.ensures.value c.release.ensures.count in
     let gave = released c.args.self.now.text.blocks c.undo_each.new.pool c.release.new.pool others count in
     let stay = copy_stays c.args.pool.now c.undo_each.new.pool c.release.new.pool c.args.self.now.text c.undo_each.new.self.text copied gave c.requires.lies c.in-Ok.ensures.lies in
     let state = c.args.self.now.undo.state in
-    let copy : Stored = record { text = c.copy-3.inside.text; sets = c.copy-3.inside.props; begin = c.copy-3.inside.bounds.start; end = c.copy-3.inside.bounds.end; point = c.copy-3.inside.bounds.point; modified = c.copy-3.inside.modified; undo = c.copy-3.inside.undo } in
-    let same : buffer_of c.copy-2.new.pool copy ≡ buffer_of c.args.pool.now c.args.self.now = ap (buffer_of c.copy-2.new.pool) c.copy-3.view_is ∙ c.in_ok-copy.ensures.buffer in
-    let same_undo : c.copy-3.inside.undo.state ≡ state = ap (λ (b : Buffer). b.undo) same in
-    let passes : c.pass.new.self.state ≡ pass (passed groups state) c.copy-3.inside.undo.state =
-    c.pass.ensures.groups groups c.args.self.now.begin c.args.self.now.end some (ap (planned groups c.args.self.now.begin c.args.self.now.end) same_undo ∙ h) ∙ ap (λ (u : Undo). pass (passed groups u) c.copy-3.inside.undo.state) same_undo in
-    let seen : c.self.inside.undo.state ≡ state = ap (λ (b : Stored). b.undo.state) c.self.view_is in
+    let copy : Stored = c.in_ok-copy.copy in
+    let same_undo : copy.undo.state ≡ state = ap (λ (b : Buffer). b.undo) c.in_ok-copy.ensures.buffer in
+    let passes : c.pass.new.self.undo.state ≡ pass (passed groups state) copy.undo.state =
+    c.pass.ensures.groups groups c.args.self.now.begin c.args.self.now.end some (ap (planned groups c.args.self.now.begin c.args.self.now.end) same_undo ∙ h) ∙ ap (λ (u : Undo). pass (passed groups u) copy.undo.state) same_undo in
+    let seen : c.undo-records.result.now.state ≡ state = ap (λ (u : Recording). u.state) c.undo-records.ensures in
     let records = c.passed-first.ensures.records groups c.args.self.now.begin c.args.self.now.end some (ap (planned groups c.args.self.now.begin c.args.self.now.end) seen ∙ h) ∙ ap (passed groups) seen in
-    let undone = c.in-Ok.ensures.site ∙ ap (λ l. undo_each c.args.id l (site_of c.copy-2.new.pool (record copy { undo = c.pass.new.self }) c.in_ok-moved.moved)) records in
+    let undone = c.in-Ok.ensures.site ∙ ap (λ l. undo_each c.args.id l (site_of c.copy-2.new.pool c.pass.new.self c.in_ok-moved.moved)) records
+    ∙ ap (λ (b : Stored). undo_each c.args.id (passed groups state) (site_of c.copy-2.new.pool b c.in_ok-moved.moved)) c.pass.ensures.rest in
     subst (λ (b : Stored). site_of c.release.new.pool b c.undo_each.new.marks ≡ undone_groups c.args.id (passed groups state) (site_of c.args.pool.now c.args.self.now c.args.marks.now)) (sym c.replace-before.ensures.after)
-    (applied c.args.id (passed groups state) c.args.pool.now c.copy-2.new.pool c.undo_each.new.pool c.release.new.pool c.args.self.now copy c.undo_each.new.self c.pass.new.self c.args.marks.now c.in_ok-moved.moved c.undo_each.new.marks
-    same passes c.in_ok-moved.ensures undone stay.characters)
+    (applied c.args.id (passed groups state) c.args.pool.now c.copy-2.new.pool c.undo_each.new.pool c.release.new.pool c.args.self.now copy c.undo_each.new.self c.pass.new.self.undo c.args.marks.now c.in_ok-moved.moved c.undo_each.new.marks
+    c.in_ok-copy.ensures.buffer passes c.in_ok-moved.ensures undone stay.characters)
 
 pub returns-in-Err-clause-lies : goal.returns-in-Err-clause-lies
 returns-in-Err-clause-lies c =
-    let made : ChangesBlocks [] c.copy-3.inside.text.blocks c.args.pool.now c.copy-2.new.pool = subst (λ (b : Stored). ChangesBlocks [] b.text.blocks c.args.pool.now c.copy-2.new.pool) (sym c.copy-3.view_is) c.in_ok-copy.ensures.blocks in
-    let copied = then_changed [] c.copy-3.inside.text.blocks c.undo_each.new.self.text.blocks c.args.pool.now c.copy-2.new.pool c.undo_each.new.pool made c.in-Err.ensures.blocks in
+    let made : ChangesBlocks [] c.pass.new.self.text.blocks c.args.pool.now c.copy-2.new.pool = subst (λ (b : Stored). ChangesBlocks [] b.text.blocks c.args.pool.now c.copy-2.new.pool) (sym c.pass.ensures.rest) c.in_ok-copy.ensures.blocks in
+    let copied = then_changed [] c.pass.new.self.text.blocks c.undo_each.new.self.text.blocks c.args.pool.now c.copy-2.new.pool c.undo_each.new.pool made c.in-Err.ensures.blocks in
     let gave = released c.undo_each.new.self.text.blocks c.undo_each.new.pool c.release-in-Err.new.pool c.release-in-Err.ensures.others c.release-in-Err.ensures.count in
     let back = then_changed [] c.undo_each.new.self.text.blocks [] c.args.pool.now c.undo_each.new.pool c.release-in-Err.new.pool copied gave in
     (stays_beside [] c.args.pool.now c.release-in-Err.new.pool c.args.self.now.text back c.requires.lies).lies
 
 pub returns-in-Err-clause-err : goal.returns-in-Err-clause-err
 returns-in-Err-clause-err c =
-    let made : ChangesBlocks [] c.copy-3.inside.text.blocks c.args.pool.now c.copy-2.new.pool = subst (λ (b : Stored). ChangesBlocks [] b.text.blocks c.args.pool.now c.copy-2.new.pool) (sym c.copy-3.view_is) c.in_ok-copy.ensures.blocks in
-    let copied = then_changed [] c.copy-3.inside.text.blocks c.undo_each.new.self.text.blocks c.args.pool.now c.copy-2.new.pool c.undo_each.new.pool made c.in-Err.ensures.blocks in
+    let made : ChangesBlocks [] c.pass.new.self.text.blocks c.args.pool.now c.copy-2.new.pool = subst (λ (b : Stored). ChangesBlocks [] b.text.blocks c.args.pool.now c.copy-2.new.pool) (sym c.pass.ensures.rest) c.in_ok-copy.ensures.blocks in
+    let copied = then_changed [] c.pass.new.self.text.blocks c.undo_each.new.self.text.blocks c.args.pool.now c.copy-2.new.pool c.undo_each.new.pool made c.in-Err.ensures.blocks in
     let gave = released c.undo_each.new.self.text.blocks c.undo_each.new.pool c.release-in-Err.new.pool c.release-in-Err.ensures.others c.release-in-Err.ensures.count in
     let back = then_changed [] c.undo_each.new.self.text.blocks [] c.args.pool.now c.undo_each.new.pool c.release-in-Err.new.pool copied gave in
     same_characters c.args.pool.now c.release-in-Err.new.pool c.args.self.now c.args.marks.now (stays_beside [] c.args.pool.now c.release-in-Err.new.pool c.args.self.now.text back c.requires.lies).characters

@@ -9,7 +9,7 @@ use Rattle.ek_call.specs.Primitives.{prim_of}
 use Rattle.buffer_table.specs.Kept.{editor_of}
 use Rattle.editor_prims.specs.Meaning.{Applies}
 use Rattle.editor_prims.proofs.Others.{nobody_sets}
-use Rattle.editor_prims.proofs.table.apply.Goals as goal
+use Rattle.editor_prims.proofs.table.apply_with.Goals as goal
 
 pub returns-in-Some-clause-ok : goal.returns-in-Some-clause-ok
 returns-in-Some-clause-ok c =

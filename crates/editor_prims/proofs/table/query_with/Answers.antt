@@ -5,7 +5,7 @@ use Rattle.ek_call.specs.Meaning.{view}
 use Rattle.ek_call.specs.Primitives.{prim_of}
 use Rattle.buffer_table.specs.Kept.{editor_of}
 use Rattle.editor_prims.proofs.Others.{nobody_asks}
-use Rattle.editor_prims.proofs.table.query.Goals as goal
+use Rattle.editor_prims.proofs.table.query_with.Goals as goal
 
 pub returns-in-Some : goal.returns-in-Some
 returns-in-Some c =
