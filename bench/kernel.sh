@@ -1,7 +1,8 @@
 #!/bin/sh
 # How long the whole program takes, and its peak of memory: on 70,000 short forms, on the longest script of insertions, and
 # with a child that writes 8 MiB. The child is heard once into the buffer, whose text ends at 4,194,304 characters, so
-# that what comes later is refused, and once with no buffer. Where emacs is installed, `emacs -Q --batch` does the same
+# that what comes later is refused, and once with no buffer; and 4,194,303 bytes of it with no records of undo, which shows
+# what memory a text takes. Where `rustc` is installed, `plain_forms.rs` shows the least that forms and insertions take. Where emacs is installed, `emacs -Q --batch` does the same
 # work beside it: it evaluates the same forms and prints the same answers, or takes the same output into a buffer. The
 # ratio is that of the processor's seconds, which other work on the machine changes little.
 #
@@ -28,10 +29,18 @@ with_child() {
     repeated 8000 '(accept-process-output)'
 }
 
+# text_alone: all of a text of the greatest length, put in by the default filter
+text_alone() {
+    echo '(buffer-disable-undo)'
+    echo '(start-process "c" "*scratch*" "sh" "-c" "head -c 4194303 /dev/zero | tr -c a a")'
+    repeated 4200 '(accept-process-output)'
+}
+
 repeated 70000 '(goto-char 1)' > "$work/forms"
 repeated 80659 '(insert "a")' > "$work/insertions"
 with_child '"*scratch*"' > "$work/child"
 with_child nil > "$work/unkept"
+text_alone > "$work/text"
 
 cat > "$work/forms.el" <<'LISP'
 (let ((script (generate-new-buffer "script")) (form nil))
@@ -66,11 +75,12 @@ processor = took.ru_utime + took.ru_stime - before.ru_utime - before.ru_stime
 print(f"{time.time() - start:.2f} {processor:.3f} {took.ru_maxrss // 1024}")' "$@"
 }
 
-# compared NAME LISP [SCRIPT]: the program on the script of this name, and the Lisp beside it on that script or another
+# compared NAME LISP [SCRIPT]: the program on the script of this name, and the Lisp, if any, beside it on that script or
+# another
 compared() {
     ours=$(measured "$work/$1" "$program" run)
     printf '%-11s kernel %6s s, %6s s of a processor, %4s MiB' "$1" ${ours}
-    if command -v emacs > /dev/null; then
+    if [ -n "$2" ] && command -v emacs > /dev/null; then
         theirs=$(SCRIPT=${3:-$work/$1} OUTPUT=$output measured /dev/null emacs -Q --batch -l "$work/$2")
         printf '; emacs %6s s, %6s s, %4s MiB' ${theirs}
         echo "$ours $theirs" | awk '{ printf "; emacs takes %.1f times as long", $5 / ($2 ? $2 : 0.001) }'
@@ -82,4 +92,11 @@ compared forms forms.el
 compared insertions forms.el
 compared child output.el child
 compared unkept output.el unkept
+compared text ""
+if command -v rustc > /dev/null; then
+    rustc -O --edition 2021 -o "$work/plain_forms" "$top/bench/plain_forms.rs"
+    for name in forms insertions; do
+        printf '%-11s plain  %6s s, %6s s of a processor, %4s MiB\n' "$name" $(measured "$work/$name" "$work/plain_forms")
+    done
+fi
 command -v emacs > /dev/null || echo "emacs is not installed here"
