@@ -5,7 +5,7 @@ ghost use Rattle.std.specs.Prelude.{slice_get, Some};
 ghost use Rattle.std.specs.List.{list_any};
 ghost use Rattle.editor_model.specs.Values.{Sym as symbol, AddHook, RemoveHook, SetProcessFilter};
 ghost use Rattle.editor_model.specs.Values.{SetProcessSentinel, SetProcessBuffer, TheProcess, list};
-ghost use Rattle.editor_model.specs.Values.{SetProcessCodingSystem};
+ghost use Rattle.editor_model.specs.Values.{SetProcessCodingSystem, Nil};
 ghost use Rattle.editor_model.specs.Arguments.{arg, symbol_of};
 ghost use Rattle.plain_machine.specs.State.{change_process, process};
 ghost use Rattle.plain_machine.specs.Arguments.{filter_of, sentinel_of, coding_of, coding_named};
@@ -430,8 +430,29 @@ pub(crate) fn call_silently<P: Program>(
     ensures err { OnErr result (state_of kernel.new ≡ state_of kernel.old) }
 {
     let nil = nil();
-    let a = arg(args, 0, &nil);
-    let b = arg(args, 1, &nil);
+    call_with(kernel, program, prim, args, &nil)
+}
+
+/// Makes such a call, with nil at hand for the arguments that were left out.
+fn call_with<P: Program>(
+    kernel: &mut KernelState,
+    program: &P,
+    prim: Primitive,
+    args: &Values,
+    nil: &Value,
+) -> Mem<Value>
+    requires nil { view nil.now ≡ Nil }
+    requires silent { IsSilent (prim_of prim) }
+    requires passes { Passes (P.meant program.now) (state_of kernel.old) (prim_of prim)
+        (map view (items_of args.now)) }
+    ensures value { IfOk result (λ v. view v ≡
+        told_by (state_of kernel.old) (prim_of prim) (map view (items_of args.now))) }
+    ensures ok { OnOk result (state_of kernel.new ≡
+        set_by (prim_of prim) (map view (items_of args.now)) (state_of kernel.old)) }
+    ensures err { OnErr result (state_of kernel.new ≡ state_of kernel.old) }
+{
+    let a = arg(args, 0, nil);
+    let b = arg(args, 1, nil);
     match prim {
         Primitive::AddHook => add_hook(kernel, a, b),
         Primitive::RemoveHook => remove_hook(kernel, a, b),
