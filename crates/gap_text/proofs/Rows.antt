@@ -177,6 +177,19 @@ copy_row old new blocks from to source target count s t live distinct from_fits 
     (subst (λ b. cells new b ≡ take (to % 256) (cells old b) ++ take count (drop (from % 256) (cells old source)) ++ drop (to % 256 + count) (cells old b)) t.is here)
     (λ other ne. ap (λ o. unwrap_or o []) (same other (λ e. ne (e ∙ t.is)))))
 
+-- cells of one block are written over
+pub over_one_block : (old new : Pooled) (blocks values : List ℕ) (place block : ℕ) → Holds blocks place block → AllLive old blocks → Distinct blocks
+    → place % 256 + length values ≤ 256
+    → cells new block ≡ take (place % 256) (cells old block) ++ values ++ drop (place % 256 + length values) (cells old block)
+    → SameOthers old new block
+    → cells_of new blocks ≡ take place (cells_of old blocks) ++ values ++ drop (place + length values) (cells_of old blocks)
+over_one_block old new blocks values place block h live distinct fits here same =
+    let range : place < 256 * length blocks = h.range in
+    over-row (cells old) (cells new) blocks values (place / 256) (place % 256) place (length values) block distinct (omega arith) (omega arith) (omega arith)
+    (λ k l. same_full old blocks block k live l)
+    (subst (λ b. cells new b ≡ take (place % 256) (cells old b) ++ values ++ drop (place % 256 + length values) (cells old b)) h.is here)
+    (λ other ne. ap (λ o. unwrap_or o []) (same other (λ e. ne (e ∙ h.is))))
+
 pub live_after : (old new : Pooled) (blocks : List ℕ) (block : ℕ) → IsLive new block → SameOthers old new block → AllLive old blocks → AllLive new blocks
 live_after old new [] block here same live = tt
 live_after old new (b ∷ blocks) block here same live = (

@@ -128,7 +128,37 @@ pub(crate) fn move_gap(blocks: &[Block], pool: &mut Pool, gap: usize, spare: usi
     }
 }
 
-/// Writes the codes of a text to the cells from `place` on.
+/// Sets the cells from a place on, which lie in one block, to some values, and no others.
+fn set_cells_at(blocks: &[Block], pool: &mut Pool, place: usize, values: &[u32])
+    requires row { IsRow pool.old blocks.now }
+    requires some { 0 < length values.now }
+    requires one_block { place % 256 + length values.now ≤ 256 }
+    requires range { place + length values.now ≤ 256 * length blocks.now }
+    ensures cells { let old = cells_of pool.old blocks.now in cells_of pool.new blocks.now ≡
+        take place old ++ values.now ++ drop (place + length values.now) old }
+    ensures row { IsRow pool.new blocks.now }
+    ensures pool { ChangesCellsOf blocks.now pool.old pool.new }
+{
+    pool.set_cells(&blocks[place / CELLS], place % CELLS, values);
+}
+
+/// Puts the codes of the characters from character `at` on in the place of others.
+fn gather(text: &Chars, at: usize, codes: &mut [u32])
+    requires { at + length codes.old ≤ length text.now.items }
+    ensures codes { codes.new ≡ map code (take (length codes.old) (drop at text.now.items)) }
+    ensures characters { AreCharacters (take (length codes.old) (drop at text.now.items)) }
+{
+    // Read for what it ensures: all characters can be counted.
+    let _size = text.len();
+    for k in 0..codes.len() {
+        codes[k] = text.at(at + k).code();
+    }
+}
+
+/// How many codes are gathered before they are written.
+const AT_ONCE: usize = 32;
+
+/// Writes the codes of a text to the cells from `place` on, by parts that lie in one block.
 pub(crate) fn write(blocks: &[Block], pool: &mut Pool, place: usize, text: &Chars)
     requires row { IsRow pool.old blocks.now }
     requires fits { place + length text.now.items ≤ 256 * length blocks.now }
@@ -140,7 +170,13 @@ pub(crate) fn write(blocks: &[Block], pool: &mut Pool, place: usize, text: &Char
     ensures row { IsRow pool.new blocks.now }
     ensures pool { ChangesCellsOf blocks.now pool.old pool.new }
 {
-    for i in 0..text.len() {
-        set_cell_at(blocks, pool, place + i, text.at(i).code());
+    let mut codes = [0; AT_ONCE];
+    let mut i = 0;
+    while i < text.len() {
+        let of_block = CELLS - (place + i) % CELLS;
+        let count = (text.len() - i).min(of_block).min(AT_ONCE);
+        gather(text, i, &mut codes[..count]);
+        set_cells_at(blocks, pool, place + i, &codes[..count]);
+        i += count;
     }
 }

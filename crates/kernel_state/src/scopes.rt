@@ -60,12 +60,23 @@ fn set_in(scope: &mut Scope, name: Sym, value: Value)
     }
 }
 
+/// The same value, of which a string is shared: a copy of it then takes a few steps, however long it is.
+fn shared(alloc: Global, value: Value) -> Mem<Value>
+    ensures { IfOk result (λ v. view v ≡ view value) }
+{
+    match value {
+        Value::Str(text) => Ok(Value::Str(text.shared(alloc)?)),
+        other => Ok(other),
+    }
+}
+
 /// An argument, by its place; a missing one is nil.
-fn given(args: &Values, i: usize) -> Mem<Value>
+fn given(alloc: Global, args: &Values, i: usize) -> Mem<Value>
     ensures { IfOk result (λ v. view v ≡ arg (map view (items_of args.now)) i) }
 {
     let nil = nil();
-    arg(args, i, &nil).copy()
+    let value = arg(args, i, &nil).copy()?;
+    shared(alloc, value)
 }
 
 /// The parameters with their values: a missing argument is nil, and further ones are dropped.
@@ -75,7 +86,7 @@ fn bound(alloc: Global, params: &[Sym], args: &Values) -> Mem<Scope>
 {
     let mut scope = Vec::new(alloc);
     for i in 0..params.len() {
-        scope.push((params[i], given(args, i)?))?;
+        scope.push((params[i], given(alloc, args, i)?))?;
     }
     Ok(scope)
 }

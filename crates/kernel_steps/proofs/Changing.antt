@@ -1,5 +1,5 @@
 -- Calls that change a text, and how a change is made: its hook functions before it, its commit, and those behind it.
-use Rattle.std.proofs.Common.{◌≡◌, ℕ, ◌≤◌, List, [], ◌∷◌, length, Err, refl, ap, sym, ◌∙◌, subst, arith, ◌<◌, inl, inr}
+use Rattle.std.proofs.Common.{◌≡◌, ℕ, ◌≤◌, List, [], ◌∷◌, length, map, Err, refl, ap, sym, ◌∙◌, subst, arith, ◌<◌, inl, inr}
 use Rattle.std.specs.Prelude.{Bool, true, false, ◌⊎◌}
 use Rattle.std.proofs.Math.Nat.{eq-or-lt_of_le}
 use Rattle.std.proofs.lemmas.Bool.{false≢true}
@@ -24,6 +24,10 @@ use Rattle.kernel_steps.specs.declared.stop.Halt.TheVariants as halt
 use Rattle.kernel_steps.specs.declared.stop.Stop.TheVariants as stop
 use Rattle.kernel_steps.proofs.Works.{Went, went_silently, went_self, work_wants}
 use Rattle.kernel_steps.proofs.Calling.{keeps_same}
+
+pub none_mapped : {A : Type 0} (f : A → ℕ) (xs : List A) → length xs ≡ 0 → map f xs ≡ []
+none_mapped f [] e = refl
+none_mapped f (x ∷ xs) e = absurd (omega (arith, e))
 
 -- BEHIND
 pub answer_behind : (v : Value) (target : Target) (rest : List Item) → IsBehind rest → IsBehind (GiveAnswer v target ∷ rest)
@@ -138,6 +142,18 @@ module _ (program : Program) (w : World) where
       let is : s.inhibited ≡ false = ap (λ (t : State). t.inhibited) (sym h) ∙ off_now in
       let same : hook_names kind s ≡ names = sym (names_kept kind s hook) ∙ ap (hook_names kind) (sym h) ∙ sym are in
       reaches_same program (around kind args s rest) (working (inhibit true s) (Hooks kind names args ∷ Calm false ∷ rest)) (ap (as_inhibited kind args rest s) is ∙ ap (λ l. working (inhibit true s) (Hooks kind l args ∷ Calm false ∷ rest)) same))
+
+  -- no function is entered where there is none
+  none_is_entered : (kind : Kind) (args : List Value) (s : State) (rest : List Item) → s.inhibited ≡ false → hook_names kind s ≡ [] → Reaches program deepest (around kind args s rest) [] [] (working s rest)
+  none_is_entered kind args s rest off none =
+      let begins : around kind args s rest ≡ working (inhibit true s) (Hooks kind [] args ∷ Calm false ∷ rest) = ap (as_inhibited kind args rest s) off ∙ ap (λ l. working (inhibit true s) (Hooks kind l args ∷ Calm false ∷ rest)) none in
+      let ends : working (inhibit false (inhibit true s)) rest ≡ working s rest = ap (λ i. working (record s { inhibited = i }) rest) (sym off) in
+      subst (λ c. Reaches program deepest c [] [] (working s rest)) (sym begins)
+      (subst (λ d. Reaches program deepest (working (inhibit true s) (Hooks kind [] args ∷ Calm false ∷ rest)) [] [] d) ends (goes refl (goes refl stays)))
+
+  pub unheard_went : (kind : Kind) (args : List Value) → IsHook kind → w.state.inhibited ≡ false → hook_names kind w.state ≡ [] → Went program w w (around kind args) (λ s rest. working s rest)
+  unheard_went kind args hook off_now none = went_silently program w w.state (λ s. s) (around kind args) (λ s rest. working s rest) (λ s h. h)
+      (λ s rest h. none_is_entered kind args s rest (ap (λ (t : State). t.inhibited) (sym h) ∙ off_now) (sym (names_kept kind s hook) ∙ ap (hook_names kind) (sym h) ∙ none))
 
   pub calm_went : (known : State) → known ≡ record w.state { inhibited = false } → Went program w (record w { state = known }) (at_item (Calm false)) (λ s rest. working s rest)
   calm_went known now = went_silently program w known (inhibit false) (at_item (Calm false)) (λ s rest. working s rest) (λ s h. now ∙ ap (inhibit false) h) (λ s rest h. goes refl stays)

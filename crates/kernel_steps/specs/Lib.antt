@@ -9,6 +9,7 @@ pub mod Outcomes
 pub mod Outside
 pub mod Processes
 pub mod Sizes
+pub mod Told
 pub mod Waits
 pub mod Work
 pub mod Worlds

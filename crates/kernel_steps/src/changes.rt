@@ -1,5 +1,5 @@
 //! Changes of texts: the functions before a change, its commit, and the functions behind it.
-ghost use Rattle.std.specs.Prelude.{◌≡◌, map};
+ghost use Rattle.std.specs.Prelude.{◌≡◌, IfOk, map};
 ghost use Rattle.editor_model.specs.Prims.{ChangesText, manner_of};
 ghost use Rattle.plain_machine.specs.Items.{CommitChange, Hooks, MakeChange};
 ghost use Rattle.ek_types.specs.Listing.{items_of};
@@ -8,6 +8,7 @@ ghost use Rattle.ek_call.specs.Meaning.{view};
 ghost use Rattle.ek_call.specs.Primitives.{prim_of};
 ghost use Rattle.editor_prims.specs.Meaning.{change_of};
 ghost use Rattle.kernel_steps.specs.Handlers.{HooksAround, IsHook, kind_of};
+ghost use Rattle.kernel_steps.specs.Told.{told_of};
 ghost use Rattle.kernel_steps.specs.Work.{Answers, Does, lifted};
 ghost use Rattle.kernel_steps.specs.Worlds.{Between, IsReady, MayEnter};
 
@@ -18,8 +19,9 @@ use crate::reply::{refuse, tell};
 use crate::stop::{Halt, Stop};
 use editor_prims::{Change, Committed, Prepared};
 use ek_call::{Primitive, Reply, Value, Values};
-use ek_types::{Sink, SymList};
+use ek_types::{Mem, Sink, SymList};
 use host_link::Host;
+use std::alloc::Global;
 
 /// A call that changes a text.
 #[cycle(run)]
@@ -65,7 +67,6 @@ pub(crate) fn make_change<M: Kernel, P: Program, H: Host, K: Sink>(
         kernel.old kernel.new host.old host.new (K.state sink.old) (K.state sink.new)
         (Does result (P.meant program.now) (MakeChange (change_of change.now))) }
 {
-    let ends = M::ends(kernel.allocator(), change)?;
     kernel.keep_ends(change)?;
     run_bracket(
         kernel,
@@ -73,7 +74,8 @@ pub(crate) fn make_change<M: Kernel, P: Program, H: Host, K: Sink>(
         host,
         sink,
         Kind::Before(change.buffer),
-        &ends,
+        change,
+        None,
     )?;
     commit_change(kernel, program, host, sink, change)
 }
@@ -95,21 +97,40 @@ fn commit_change<M: Kernel, P: Program, H: Host, K: Sink>(
     match kernel.commit(change)? {
         Committed::Fault(fault) => Err(refuse(kernel, program, sink, fault)),
         Committed::Done { from, to, old } => {
-            let ends = M::ends_behind(kernel.allocator(), from, to, old)?;
             run_bracket(
                 kernel,
                 program,
                 host,
                 sink,
                 Kind::After(change.buffer),
-                &ends,
+                change,
+                Some(Made { from, to, old }),
             )?;
             Ok(())
         }
     }
 }
 
-/// Enters the hook functions of a kind, unless hooks are inhibited. They are meanwhile.
+/// The ends of a change that was made, and the length before it.
+#[derive(Clone, Copy)]
+struct Made {
+    from: usize,
+    to: usize,
+    old: usize,
+}
+
+/// What the hook functions of a change are told: its ends, or those behind it once it was made.
+fn told<M: Kernel>(alloc: Global, change: &Change, made: Option<Made>) -> Mem<Values>
+    ensures { IfOk result (λ args. map view (items_of args) ≡ told_of change.now made) }
+{
+    match made {
+        None => M::ends(alloc, change),
+        Some(made) => M::ends_behind(alloc, made.from, made.to, made.old),
+    }
+}
+
+/// Enters the hook functions of a kind, unless hooks are inhibited. They are meanwhile. Where there is none, no list is made
+/// of what they would be told.
 #[cycle(run)]
 fn run_bracket<M: Kernel, P: Program, H: Host, K: Sink>(
     kernel: &mut M,
@@ -117,20 +138,25 @@ fn run_bracket<M: Kernel, P: Program, H: Host, K: Sink>(
     host: &mut H,
     sink: &mut K,
     kind: Kind,
-    args: &Values,
+    change: &Change,
+    made: Option<Made>,
 ) -> Result<(), Stop>
     requires ready { IsReady (M.state kernel.old) (H.state host.old).kills }
     requires hook { IsHook (kind_of kind) }
     ensures { Between M.state H.state H.made
         kernel.old kernel.new host.old host.new (K.state sink.old) (K.state sink.new)
-        (HooksAround (lifted result) (P.meant program.now) (kind_of kind) (map view (items_of args.now))) }
+        (HooksAround (lifted result) (P.meant program.now) (kind_of kind) (told_of change.now made)) }
 {
     if kernel.inhibited() {
         return Ok(());
     }
     let names = kernel.hooks(kind)?;
+    if names.len() == 0 {
+        return Ok(());
+    }
+    let args = told::<M>(kernel.allocator(), change, made)?;
     kernel.inhibit(true);
-    run_hooks(kernel, program, host, sink, kind, &names, args)?;
+    run_hooks(kernel, program, host, sink, kind, &names, &args)?;
     kernel.inhibit(false);
     Ok(())
 }

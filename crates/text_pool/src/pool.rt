@@ -1,5 +1,5 @@
 //! The pool, and the blocks that it lends out.
-ghost use Rattle.std.specs.Prelude.{◌≡◌, ◌↔◌, ℕ, ◌+◌, ◌<◌, ◌≤◌, [], ◌++◌, take, drop, max, Some};
+ghost use Rattle.std.specs.Prelude.{◌≡◌, ◌↔◌, ℕ, ◌+◌, ◌<◌, ◌≤◌, [], ◌++◌, length, take, drop, max, Some};
 ghost use Rattle.std.specs.Prelude.{None, OnOk, OnErr, IsNone, IfNone, IfSome, OnSome, slice_index};
 ghost use Rattle.std.specs.Prelude.{slice_set};
 ghost use Rattle.slab.specs.Slab.{HasRoomFor};
@@ -152,6 +152,21 @@ impl Pool {
     {
         let cells = self.blocks.get_mut(block.number).unwrap();
         cells[i] = value;
+    }
+
+    /// Sets the cells of a block that is live in this pool to some values, from cell `at` on, and no other cells.
+    pub fn set_cells(&mut self, block: &Block, at: usize, values: &[u32])
+        requires live { IsLive self.old block.now }
+        requires range { at + length values.now ≤ 256 }
+        ensures cells { let old = cells self.old block.now in cells self.new block.now ≡
+            take at old ++ values.now ++ drop (at + length values.now) old }
+        ensures is_live { IsLive self.new block.now }
+        ensures others { SameOthers self.old self.new block.now }
+        ensures spare { self.new.spare ≡ self.old.spare }
+        ensures count { live self.new ≡ live self.old }
+    {
+        let cells = self.blocks.get_mut(block.number).unwrap();
+        cells[at..at + values.len()].copy_from_slice(values);
     }
 
     /// Copies `count` cells of one block, from cell `at` on, to the cells from `to` on of another one, or of the same one,

@@ -19,19 +19,20 @@ use Rattle.kernel_steps.proofs.Blocks.{opened_ready, opened_depth, block_work, a
 use Rattle.kernel_steps.proofs.Bodies.{next_form, no_form, form_within, form_path, none_went, form_falls, block_falls, level_falls}
 use Rattle.kernel_steps.proofs.Calling.{when_void, when_equal, when_other}
 use Rattle.plain_machine.specs.Items.{MakeCall, MakeChange, CommitChange, Hooks, Calm, GiveAnswer, Nowhere}
-use Rattle.plain_machine.specs.Lines.{OfBefore, OfAfter}
+use Rattle.plain_machine.specs.Lines.{OfBefore}
 use Rattle.ek_types.specs.Property.{number_of}
 use Rattle.ek_call.specs.Meaning.{reply_of}
 use Rattle.ek_call.specs.Primitives.{prim_of}
 use Rattle.ek_call.specs.Faults.{fault_of}
 use Rattle.editor_model.specs.Answers.{Done, Failed}
 use Rattle.editor_prims.specs.Meaning.{change_of}
-use Rattle.kernel_steps.specs.Changes.{ends_of, ends_behind}
+use Rattle.kernel_steps.specs.Changes.{ends_of}
 use Rattle.kernel_steps.specs.Handlers.{around, kind_of}
 use Rattle.kernel_steps.specs.Work.{lifted, call_form, target_of}
 use Rattle.kernel_steps.proofs.Works.{work_stopped, work_before, path_behind, path_before}
 use Rattle.kernel_steps.proofs.Calling.{form_went, form_void, form_middle, keeps_same}
-use Rattle.kernel_steps.proofs.Changing.{answer_behind, commit_behind, calm_behind, changes_went, nothing_went, barred_went, quiet_went, begun_went, failed_went, done_went, inhibited_went, around_wants, hooks_went, calm_went, keeps_behind, around_keeps, inhibited_ready, inhibited_may}
+use Rattle.kernel_steps.specs.Told.{told_of}
+use Rattle.kernel_steps.proofs.Changing.{answer_behind, commit_behind, calm_behind, changes_went, nothing_went, barred_went, quiet_went, begun_went, failed_went, done_went, inhibited_went, around_wants, hooks_went, unheard_went, none_mapped, calm_went, keeps_behind, around_keeps, inhibited_ready, inhibited_may}
 use Rattle.plain_machine.specs.Items.{Enter}
 use Rattle.text_model.proofs.Lists.{drop_at, mapped_at}
 use Rattle.std.proofs.lemmas.List.{length-map, drop_all}
@@ -374,20 +375,15 @@ changes::make_change-returns g t c = λ start.
     let mid = at g start c.keep_ends.new.self c.args.host.now c.args.sink.now in
     let late = at g start c.run_bracket.new.kernel c.run_bracket.new.host c.run_bracket.new.sink in
     let after = at g start c.commit_change.new.kernel c.commit_change.new.host c.commit_change.new.sink in
-    let hooks = rw c.in_ok-ends.ensures at (c.in_ok-run_bracket.ensures start) in
+    let hooks = c.in_ok-run_bracket.ensures start in
     let first = work_before program (Ok c.in_ok-run_bracket.field-0) mid late (λ rest. CommitChange change ∷ rest) (around (OfBefore change.buffer) (ends_of change.from change.to)) onwards outwards (commit_behind change) hooks in
     work_behind program c.commit_change.result before late after _ _ onwards outwards
     (went_then program before mid late _ _ _ (begun_went program before known change is) (went_of program c.in_ok-run_bracket.field-0 mid late _ _ _ first.path)) (keeps_then before mid late kept hooks.stays)
     (c.commit_change.ensures start)
 
-pub changes::make_change-returns-in_err-ends : goal.changes::make_change-returns-in_err-ends
-changes::make_change-returns-in_err-ends g t c = λ start.
-    rw (stopped_by c.from_residual.result (halt.Stop stop.NoMemory) c.from_residual.ensures)
-    (item_wants (g.P.Program.meant c.args.program.now) (at g start c.args.kernel.now c.args.host.now c.args.sink.now) (MakeChange (change_of c.args.change.now)) onwards c.requires.hosted (middle (λ s rest. (tt, tt))))
-
 pub changes::make_change-returns-in_err-keep_ends : goal.changes::make_change-returns-in_err-keep_ends
 changes::make_change-returns-in_err-keep_ends g t c = λ start.
-    rw (stopped_by c.from_residual-in_err-keep_ends.result (halt.Stop stop.NoMemory) c.from_residual-in_err-keep_ends.ensures, c.in_err-keep_ends.ensures.err)
+    rw (stopped_by c.from_residual.result (halt.Stop stop.NoMemory) c.from_residual.ensures, c.in_err-keep_ends.ensures.err)
     (item_wants (g.P.Program.meant c.args.program.now) (at g start c.args.kernel.now c.args.host.now c.args.sink.now) (MakeChange (change_of c.args.change.now)) onwards c.requires.hosted (middle (λ s rest. (tt, tt))))
 
 pub changes::make_change-returns-in_err-run_bracket : goal.changes::make_change-returns-in_err-run_bracket
@@ -401,7 +397,7 @@ changes::make_change-returns-in_err-run_bracket g t c = λ start.
     let mid = at g start c.keep_ends.new.self c.args.host.now c.args.sink.now in
     let after = at g start c.run_bracket.new.kernel c.run_bracket.new.host c.run_bracket.new.sink in
     let h = halt.Stop c.in_err-run_bracket.field-0.0 in
-    let hooks = rw c.in_ok-ends.ensures at (c.in_err-run_bracket.ensures start) in
+    let hooks = c.in_err-run_bracket.ensures start in
     rw (stopped_by c.from_residual-in_err-run_bracket.result h c.from_residual-in_err-run_bracket.ensures)
     (work_stopped program c.in_err-run_bracket.field-0.0 before after _ _ onwards _ outwards
     (work_behind program (Err h) before mid after _ _ _ _ (begun_went program before known change is) kept
@@ -446,19 +442,6 @@ changes::commit_change-returns-in-Fault g t c = λ start.
     work_behind program (Err c.refuse.result) before mid (at g start c.commit.new.self c.args.host.now c.refuse.new.sink) _ _ onwards outwards (failed_went program before known change (fault_of c.in-Fault.fault) done is) kept
     (work_unasked program (g.K.Sink.state c.args.sink.now) (g.K.Sink.state c.refuse.new.sink) (CallsSince g.H.Host.state g.H.Host.made start c.args.host.now) known known kills (Err c.refuse.result) _ onwards outwards (c.refuse.ensures kills kept.hosted))
 
-pub changes::commit_change-returns-in_err-ends-in-Done : goal.changes::commit_change-returns-in_err-ends-in-Done
-changes::commit_change-returns-in_err-ends-in-Done g t c = λ start.
-    let program = g.P.Program.meant c.args.program.now in
-    let change = change_of c.args.change.now in
-    let before = at g start c.args.kernel.now c.args.host.now c.args.sink.now in
-    let known = g.M.Kernel.state c.commit.new.self in
-    let done = rw c.in-Done.is at c.in_ok-fault.ensures.done in
-    let is = rw c.in-Done.is at c.in_ok-fault.ensures.ok in
-    let kept = keeps_behind (at g start c.args.kernel.now c.args.host.now c.args.sink.now) known change (Done c.in-Done.from c.in-Done.to c.in-Done.old) c.requires.hosted is in
-    let mid = at g start c.commit.new.self c.args.host.now c.args.sink.now in
-    rw (stopped_by c.from_residual-in_err-ends-in-Done.result (halt.Stop stop.NoMemory) c.from_residual-in_err-ends-in-Done.ensures)
-    (work_behind program (Err (halt.Stop stop.NoMemory)) before mid mid _ _ onwards outwards (done_went program before known change c.in-Done.from c.in-Done.to c.in-Done.old done is) kept (around_wants program mid (OfAfter change.buffer) (ends_behind c.in-Done.from c.in-Done.to c.in-Done.old) kept.hosted))
-
 pub changes::commit_change-returns-in_err-fault : goal.changes::commit_change-returns-in_err-fault
 changes::commit_change-returns-in_err-fault g t c = λ start.
     rw (stopped_by c.from_residual.result (halt.Stop stop.NoMemory) c.from_residual.ensures, c.in_err-fault.ensures.err)
@@ -476,7 +459,7 @@ changes::commit_change-returns-in_err-run_bracket-in-Done g t c = λ start.
     let mid = at g start c.commit.new.self c.args.host.now c.args.sink.now in
     let after = at g start c.run_bracket.new.kernel c.run_bracket.new.host c.run_bracket.new.sink in
     let h = halt.Stop c.in_err-run_bracket-in-Done.field-0.0 in
-    let hooks = rw c.in_ok-ends-in-Done.ensures at (c.in_err-run_bracket-in-Done.ensures start) in
+    let hooks = c.in_err-run_bracket-in-Done.ensures start in
     rw (stopped_by c.from_residual-in_err-run_bracket-in-Done.result h c.from_residual-in_err-run_bracket-in-Done.ensures)
     (work_behind program (Err h) before mid after _ _ onwards outwards (done_went program before known change c.in-Done.from c.in-Done.to c.in-Done.old done is) kept hooks)
 
@@ -492,7 +475,7 @@ changes::commit_change-returns-in_ok-run_bracket-in-Done g t c = λ start.
     let mid = at g start c.commit.new.self c.args.host.now c.args.sink.now in
     let after = at g start c.run_bracket.new.kernel c.run_bracket.new.host c.run_bracket.new.sink in
     let unit : Unit {0} = tt in
-    let hooks = rw c.in_ok-ends-in-Done.ensures at (c.in_ok-run_bracket-in-Done.ensures start) in
+    let hooks = c.in_ok-run_bracket-in-Done.ensures start in
     work_done program unit before after _ onwards outwards (went_then program before mid after _ _ _ (done_went program before known change c.in-Done.from c.in-Done.to c.in-Done.old done is) (went_of program c.in_ok-run_bracket-in-Done.field-0 mid after _ onwards outwards hooks.path)) (keeps_then before mid after kept hooks.stays)
 
 pub changes::commit_change-run_bracket-requires : goal.changes::commit_change-run_bracket-requires
@@ -512,7 +495,7 @@ pub changes::run_bracket-returns : goal.changes::run_bracket-returns
 changes::run_bracket-returns g t c = λ start.
     let program = g.P.Program.meant c.args.program.now in
     let kind = kind_of c.args.kind in
-    let args = map view (items_of c.args.args.now) in
+    let args = told_of c.args.change.now c.args.made in
     let before = at g start c.args.kernel.now c.args.host.now c.args.sink.now in
     let off_now = sym c.inhibited.ensures ∙ c.if-inhibited.false in
     let mid = at g start c.inhibit.new.self c.args.host.now c.args.sink.now in
@@ -520,7 +503,7 @@ changes::run_bracket-returns g t c = λ start.
     let went = hooks_went program before (g.M.Kernel.state c.inhibit.new.self) kind names args c.requires.hook off_now c.in_ok-names.ensures c.inhibit.ensures in
     let late = at g start c.run_hooks.new.kernel c.run_hooks.new.host c.run_hooks.new.sink in
     let after = at g start c.inhibit-2.new.self c.run_hooks.new.host c.run_hooks.new.sink in
-    let done = c.in_ok-run_hooks.ensures start in
+    let done = rw c.in_ok-args.ensures at (c.in_ok-run_hooks.ensures start) in
     let known = g.M.Kernel.state c.inhibit-2.new.self in
     let unit : Unit {0} = tt in
     let first = path_before program (Ok c.in_ok-run_hooks.field-0) mid late (λ rest. Calm false ∷ rest) (at_item (Hooks kind names args)) onwards outwards (calm_behind false) done.path in
@@ -532,16 +515,25 @@ pub changes::run_bracket-returns-in_err-names : goal.changes::run_bracket-return
 changes::run_bracket-returns-in_err-names g t c = λ start.
     let program = g.P.Program.meant c.args.program.now in
     let kind = kind_of c.args.kind in
-    let args = map view (items_of c.args.args.now) in
+    let args = told_of c.args.change.now c.args.made in
     let before = at g start c.args.kernel.now c.args.host.now c.args.sink.now in
     rw (stopped_by c.from_residual.result stop.NoMemory c.from_residual.ensures)
+    (around_wants program before kind args c.requires.ready.hosted)
+
+pub changes::run_bracket-returns-in_err-args : goal.changes::run_bracket-returns-in_err-args
+changes::run_bracket-returns-in_err-args g t c = λ start.
+    let program = g.P.Program.meant c.args.program.now in
+    let kind = kind_of c.args.kind in
+    let args = told_of c.args.change.now c.args.made in
+    let before = at g start c.args.kernel.now c.args.host.now c.args.sink.now in
+    rw (stopped_by c.from_residual-in_err-args.result stop.NoMemory c.from_residual-in_err-args.ensures)
     (around_wants program before kind args c.requires.ready.hosted)
 
 pub changes::run_bracket-returns-in_err-run_hooks : goal.changes::run_bracket-returns-in_err-run_hooks
 changes::run_bracket-returns-in_err-run_hooks g t c = λ start.
     let program = g.P.Program.meant c.args.program.now in
     let kind = kind_of c.args.kind in
-    let args = map view (items_of c.args.args.now) in
+    let args = told_of c.args.change.now c.args.made in
     let before = at g start c.args.kernel.now c.args.host.now c.args.sink.now in
     let off_now = sym c.inhibited.ensures ∙ c.if-inhibited.false in
     let mid = at g start c.inhibit.new.self c.args.host.now c.args.sink.now in
@@ -549,7 +541,7 @@ changes::run_bracket-returns-in_err-run_hooks g t c = λ start.
     let went = hooks_went program before (g.M.Kernel.state c.inhibit.new.self) kind names args c.requires.hook off_now c.in_ok-names.ensures c.inhibit.ensures in
     let after = at g start c.run_hooks.new.kernel c.run_hooks.new.host c.run_hooks.new.sink in
     let h = halt.Stop c.in_err-run_hooks.field-0.0 in
-    let done = c.in_err-run_hooks.ensures start in
+    let done = rw c.in_ok-args.ensures at (c.in_err-run_hooks.ensures start) in
     rw (stopped_by c.from_residual-in_err-run_hooks.result c.in_err-run_hooks.field-0.0 c.from_residual-in_err-run_hooks.ensures)
     (record {
       path = path_left program h before after _ _ onwards outwards (path_behind program (Err h) before mid after _ _ _ outwards went (path_before program (Err h) mid after (λ rest. Calm false ∷ rest) (at_item (Hooks kind names args)) onwards outwards (calm_behind false) done.path));
@@ -560,16 +552,27 @@ pub changes::run_bracket-returns-then-inhibited : goal.changes::run_bracket-retu
 changes::run_bracket-returns-then-inhibited g t c = λ start.
     let program = g.P.Program.meant c.args.program.now in
     let kind = kind_of c.args.kind in
-    let args = map view (items_of c.args.args.now) in
+    let args = told_of c.args.change.now c.args.made in
     let before = at g start c.args.kernel.now c.args.host.now c.args.sink.now in
     let unit : Unit {0} = tt in
     work_done program unit before before _ onwards outwards (inhibited_went program before kind args (sym c.inhibited.ensures ∙ c.if-inhibited.true)) (keeps_self before c.requires.ready.hosted)
+
+pub changes::run_bracket-returns-then-len-eq0 : goal.changes::run_bracket-returns-then-len-eq0
+changes::run_bracket-returns-then-len-eq0 g t c = λ start.
+    let program = g.P.Program.meant c.args.program.now in
+    let kind = kind_of c.args.kind in
+    let args = told_of c.args.change.now c.args.made in
+    let before = at g start c.args.kernel.now c.args.host.now c.args.sink.now in
+    let off_now = sym c.inhibited.ensures ∙ c.if-inhibited.false in
+    let unit : Unit {0} = tt in
+    let none = sym c.in_ok-names.ensures ∙ none_mapped number_of (items_of c.in_ok-names.names) (omega (arith, c.len.ensures, c.if-len-eq0.true)) in
+    work_done program unit before before _ onwards outwards (unheard_went program before kind args c.requires.hook off_now none) (keeps_self before c.requires.ready.hosted)
 
 pub changes::run_bracket-run_hooks-requires : goal.changes::run_bracket-run_hooks-requires
 changes::run_bracket-run_hooks-requires g t c =
     let program = g.P.Program.meant c.args.program.now in
     let kind = kind_of c.args.kind in
-    let args = map view (items_of c.args.args.now) in
+    let args = told_of c.args.change.now c.args.made in
     let off_now = sym c.inhibited.ensures ∙ c.if-inhibited.false in
     let s = g.M.Kernel.state c.args.kernel.now in
     let kills = (g.H.Host.state c.args.host.now).kills in
