@@ -13,4 +13,4 @@ mod read_only;
 mod shown;
 mod texts;
 mod undo;
-mod words;
+pub mod words;

@@ -1,8 +1,9 @@
 //! Worked cases of what a character inherits.
 
 use crate::checking::is;
-use ek_types::{Mem, PropSet, PropVal, Sym, SymList};
+use ek_types::{PropSet, PropVal, Sym, SymList};
 use std::alloc::Global;
+use std::process::Abort;
 use stickiness::{inherited, inherits};
 
 const FRONT_STICKY: Sym = Sym(0);
@@ -18,10 +19,10 @@ const BOLD: PropVal = PropVal::Sym(Sym(30));
 const ITALIC: PropVal = PropVal::Sym(Sym(31));
 
 /// A list of one name.
-fn just(alloc: Global, name: Sym) -> Mem<PropVal> {
+fn just(rt: &impl Abort, alloc: Global, name: Sym) -> PropVal {
     let mut names = SymList::new(alloc);
-    names.push(name)?;
-    Ok(PropVal::Syms(names))
+    names.push(name).expect(rt, "memory");
+    PropVal::Syms(names)
 }
 
 /// The number of the symbol that a property has as its value, or 0.
@@ -32,43 +33,47 @@ fn symbol(set: &PropSet, name: Sym) -> u32 {
     }
 }
 
+/// A set with one property more.
+fn with(rt: &impl Abort, set: &PropSet, name: Sym, value: &PropVal) -> PropSet {
+    set.with(name, value).expect(rt, "memory")
+}
+
 /// Two faces and a stickiness property.
-fn faces(alloc: Global, sticky: Sym, value: &PropVal, face: &PropVal) -> Mem<PropSet> {
-    PropSet::empty(alloc)
-        .with(FACE, face)?
-        .with(MOUSE_FACE, face)?
-        .with(sticky, value)
+fn faces(rt: &impl Abort, alloc: Global, sticky: Sym, value: &PropVal, face: &PropVal) -> PropSet {
+    let set = with(rt, &PropSet::empty(alloc), FACE, face);
+    let set = with(rt, &set, MOUSE_FACE, face);
+    with(rt, &set, sticky, value)
+}
+
+/// The number of properties, the face and the mouse face that a character inherits.
+fn inherit(
+    rt: &impl Abort,
+    alloc: Global,
+    before: Option<&PropSet>,
+    after: Option<&PropSet>,
+) -> (usize, u32, u32) {
+    let set = inherited(alloc, before, after).expect(rt, "memory");
+    (set.len(), symbol(&set, FACE), symbol(&set, MOUSE_FACE))
 }
 
 #[test]
 fn a_list_that_withholds_at_the_rear_and_all_offered_at_the_front(rt: HostRuntime) {
     let alloc = rt.alloc();
-    let before = PropSet::empty(alloc)
-        .with(FACE, &BOLD)
-        .expect(&rt, "memory")
-        .with(REAR_NONSTICKY, &just(alloc, FACE).expect(&rt, "memory"))
-        .expect(&rt, "memory");
-    let after = PropSet::empty(alloc)
-        .with(FACE, &ITALIC)
-        .expect(&rt, "memory")
-        .with(FRONT_STICKY, &PropVal::Truth)
-        .expect(&rt, "memory");
-    let set = inherited(alloc, Some(&before), Some(&after)).expect(&rt, "memory");
-    is(&rt, set.len(), 1);
-    is(&rt, symbol(&set, FACE), 31);
+    let before = with(&rt, &PropSet::empty(alloc), FACE, &BOLD);
+    let before = with(&rt, &before, REAR_NONSTICKY, &just(&rt, alloc, FACE));
+    let after = with(&rt, &PropSet::empty(alloc), FACE, &ITALIC);
+    let after = with(&rt, &after, FRONT_STICKY, &PropVal::Truth);
+    let set = inherit(&rt, alloc, Some(&before), Some(&after));
+    is(&rt, set, (1, 31, 0));
 }
 
 #[test]
 fn the_preceding_value_is_taken_where_both_offer_one(rt: HostRuntime) {
     let alloc = rt.alloc();
-    let before = PropSet::empty(alloc)
-        .with(FACE, &BOLD)
-        .expect(&rt, "memory");
-    let after = faces(alloc, FRONT_STICKY, &PropVal::Truth, &ITALIC).expect(&rt, "memory");
-    let set = inherited(alloc, Some(&before), Some(&after)).expect(&rt, "memory");
-    is(&rt, set.len(), 2);
-    is(&rt, symbol(&set, FACE), 30);
-    is(&rt, symbol(&set, MOUSE_FACE), 31);
+    let before = with(&rt, &PropSet::empty(alloc), FACE, &BOLD);
+    let after = faces(&rt, alloc, FRONT_STICKY, &PropVal::Truth, &ITALIC);
+    let set = inherit(&rt, alloc, Some(&before), Some(&after));
+    is(&rt, set, (2, 30, 31));
     is(&rt, inherits(Some(&before), Some(&after), MOUSE_FACE), true);
     is(&rt, inherits(Some(&before), None, MOUSE_FACE), false);
     is(&rt, inherits(None, Some(&after), FRONT_STICKY), false);
@@ -78,44 +83,24 @@ fn the_preceding_value_is_taken_where_both_offer_one(rt: HostRuntime) {
 #[test]
 fn the_end_of_the_text_offers_nothing(rt: HostRuntime) {
     let alloc = rt.alloc();
-    let after = faces(
-        alloc,
-        FRONT_STICKY,
-        &just(alloc, FACE).expect(&rt, "memory"),
-        &ITALIC,
-    )
-    .expect(&rt, "memory");
-    let set = inherited(alloc, None, Some(&after)).expect(&rt, "memory");
-    is(&rt, set.len(), 1);
-    is(&rt, symbol(&set, FACE), 31);
-    is(
-        &rt,
-        inherited(alloc, None, None).expect(&rt, "memory").len(),
-        0,
-    );
+    let offered = just(&rt, alloc, FACE);
+    let after = faces(&rt, alloc, FRONT_STICKY, &offered, &ITALIC);
+    is(&rt, inherit(&rt, alloc, None, Some(&after)), (1, 31, 0));
+    is(&rt, inherit(&rt, alloc, None, None), (0, 0, 0));
 }
 
 #[test]
 fn neither_t_nor_a_list_counts_as_absent(rt: HostRuntime) {
     let alloc = rt.alloc();
-    let before = faces(alloc, REAR_NONSTICKY, &PropVal::Int(1), &BOLD).expect(&rt, "memory");
-    let after = faces(alloc, FRONT_STICKY, &PropVal::Sym(FACE), &ITALIC).expect(&rt, "memory");
-    let set = inherited(alloc, Some(&before), None).expect(&rt, "memory");
-    is(&rt, set.len(), 2);
-    is(&rt, symbol(&set, FACE), 30);
-    is(
-        &rt,
-        inherited(alloc, None, Some(&after))
-            .expect(&rt, "memory")
-            .len(),
-        0,
-    );
+    let before = faces(&rt, alloc, REAR_NONSTICKY, &PropVal::Int(1), &BOLD);
+    let after = faces(&rt, alloc, FRONT_STICKY, &PropVal::Sym(FACE), &ITALIC);
+    is(&rt, inherit(&rt, alloc, Some(&before), None), (2, 30, 30));
+    is(&rt, inherit(&rt, alloc, None, Some(&after)), (0, 0, 0));
 }
 
 #[test]
 fn a_character_before_that_withholds_all(rt: HostRuntime) {
     let alloc = rt.alloc();
-    let before = faces(alloc, REAR_NONSTICKY, &PropVal::Truth, &BOLD).expect(&rt, "memory");
-    let set = inherited(alloc, Some(&before), None).expect(&rt, "memory");
-    is(&rt, set.len(), 0);
+    let before = faces(&rt, alloc, REAR_NONSTICKY, &PropVal::Truth, &BOLD);
+    is(&rt, inherit(&rt, alloc, Some(&before), None), (0, 0, 0));
 }

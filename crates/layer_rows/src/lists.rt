@@ -1,7 +1,7 @@
 //! Characters, lists and property sets: each call that takes memory, once with ample memory.
 
 use crate::checking::{holds, is};
-use ek_types::{Ch, Chars, Copied, ListOf, Mem, PropSet, PropVal, Sym};
+use ek_types::{Ch, Chars, Copied, ListOf, PropSet, PropVal, Sym};
 use std::alloc::Global;
 use std::process::Abort;
 
@@ -54,15 +54,16 @@ const PRIORITY: Sym = Sym(3);
 const FACE: Sym = Sym(14);
 
 /// A face that is given anew behind a priority, copied.
-fn copied_set(alloc: Global) -> Mem<PropSet> {
-    let set = PropSet::empty(alloc).with(FACE, &PropVal::Int(1))?;
-    let set = set.with(PRIORITY, &PropVal::Int(2))?;
-    set.with(FACE, &PropVal::Int(5))?.copy()
+fn copied_set(rt: &impl Abort, alloc: Global) -> PropSet {
+    let set = PropSet::empty(alloc).with(FACE, &PropVal::Int(1));
+    let set = set.expect(rt, "memory").with(PRIORITY, &PropVal::Int(2));
+    let set = set.expect(rt, "memory").with(FACE, &PropVal::Int(5));
+    set.expect(rt, "memory").copy().expect(rt, "memory")
 }
 
 #[test]
 fn a_property_given_anew(rt: HostRuntime) {
-    let set = copied_set(rt.alloc()).expect(&rt, "memory");
+    let set = copied_set(&rt, rt.alloc());
     is(&rt, set.len(), 2);
     is(&rt, number(set.get(PRIORITY)), Some(2));
     is(&rt, number(set.get(FACE)), Some(5));
@@ -70,8 +71,7 @@ fn a_property_given_anew(rt: HostRuntime) {
 
 #[test]
 fn a_property_taken_away(rt: HostRuntime) {
-    let set = copied_set(rt.alloc())
-        .expect(&rt, "memory")
+    let set = copied_set(&rt, rt.alloc())
         .without(PRIORITY)
         .expect(&rt, "memory");
     is(&rt, set.len(), 1);
@@ -81,8 +81,7 @@ fn a_property_taken_away(rt: HostRuntime) {
 #[test]
 fn nil_takes_a_property_away(rt: HostRuntime) {
     let nil = PropVal::Syms(ListOf::new(rt.alloc()));
-    let set = copied_set(rt.alloc())
-        .expect(&rt, "memory")
+    let set = copied_set(&rt, rt.alloc())
         .with(FACE, &nil)
         .expect(&rt, "memory");
     is(&rt, set.len(), 1);
@@ -108,32 +107,34 @@ fn values_of_one_word_and_their_copies(rt: HostRuntime) {
     copies_as_itself(&rt, &PropVal::Sym(Sym(8)));
 }
 
-/// The copy of a list of one name.
-fn copied_names(alloc: Global, name: Sym) -> Mem<PropVal> {
-    let mut names = ListOf::new(alloc);
-    names.push(name)?;
-    PropVal::Syms(names).copy()
+/// Whether a value is a list of one name.
+fn names_one(value: &PropVal, name: Sym) -> bool {
+    match value {
+        PropVal::Syms(names) => names.as_slice() == [name].as_slice(),
+        _ => false,
+    }
 }
 
 #[test]
 fn names_and_their_copy(rt: HostRuntime) {
-    let PropVal::Syms(names) = copied_names(rt.alloc(), Sym(14)).expect(&rt, "memory") else {
-        panic!(rt; "the copy of names is of another kind");
-    };
-    is(&rt, names.as_slice(), [Sym(14)].as_slice());
+    let mut names = ListOf::new(rt.alloc());
+    names.push(Sym(14)).expect(&rt, "memory");
+    let copy = PropVal::Syms(names).copy().expect(&rt, "memory");
+    holds(&rt, names_one(&copy, Sym(14)));
 }
 
-/// The copy of a text of one character.
-fn copied_text(alloc: Global) -> Mem<PropVal> {
-    let mut text = Chars::new(alloc);
-    text.push(Ch::Scalar('a'))?;
-    PropVal::Text(text).copy()
+/// Whether a value is a text of so many characters.
+fn is_text(value: &PropVal, len: usize) -> bool {
+    match value {
+        PropVal::Text(text) => text.len() == len,
+        _ => false,
+    }
 }
 
 #[test]
 fn a_text_and_its_copy(rt: HostRuntime) {
-    let PropVal::Text(text) = copied_text(rt.alloc()).expect(&rt, "memory") else {
-        panic!(rt; "the copy of a text is of another kind");
-    };
-    is(&rt, text.len(), 1);
+    let mut text = Chars::new(rt.alloc());
+    text.push(Ch::Scalar('a')).expect(&rt, "memory");
+    let copy = PropVal::Text(text).copy().expect(&rt, "memory");
+    holds(&rt, is_text(&copy, 1));
 }

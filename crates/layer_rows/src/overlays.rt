@@ -135,28 +135,56 @@ fn the_next_and_the_previous_change(rt: HostRuntime) {
     is(&rt, overlays.prev_change(0, 0), None);
 }
 
+/// Moves an overlay to a part of a buffer.
+fn shift(rt: &impl Abort, overlays: &mut Overlays, k: u32, buffer: u32, from: usize, to: usize)
+    requires { from ≤ to }
+{
+    assert!(rt; k < overlays.count());
+    overlays.shift(k, buffer, from, to).expect(rt, "memory");
+}
+
+fn remove(rt: &impl Abort, overlays: &mut Overlays, k: u32) {
+    assert!(rt; k < overlays.count());
+    overlays.remove(k);
+}
+
+/// The face of an overlay, if it is a number.
+fn face(rt: &impl Abort, overlays: &Overlays, k: u32) -> Option<i64> {
+    assert!(rt; k < overlays.count());
+    number(overlays.get(k, FACE))
+}
+
+/// How many properties an overlay has.
+fn properties(rt: &impl Abort, overlays: &Overlays, k: u32) -> usize {
+    assert!(rt; k < overlays.count());
+    overlays.props(k).len()
+}
+
+fn take_face_away(rt: &impl Abort, overlays: &mut Overlays, k: u32) {
+    assert!(rt; k < overlays.count());
+    overlays.put(k, FACE, None).expect(rt, "memory");
+}
+
 #[test]
 fn an_overlay_moves_to_another_buffer_and_is_killed_with_it(rt: HostRuntime) {
     let mut overlays = Overlays::new(rt.alloc());
     let a = make(&rt, &mut overlays, 0, 1, 3);
     let b = make(&rt, &mut overlays, 0, 1, 3);
     put(&rt, &mut overlays, a, FACE, &PropVal::Int(7));
-    assert!(rt; a < overlays.count() && b < overlays.count());
-    overlays.shift(a, 1, 4, 6).expect(&rt, "memory");
+    shift(&rt, &mut overlays, a, 1, 4, 6);
     let copy = overlays.copy().expect(&rt, "memory");
     overlays.note_delete(0, 0, 1);
     overlays.drop_buffer(1);
-    assert!(rt; a < overlays.count() && b < overlays.count());
-    overlays.remove(b);
+    remove(&rt, &mut overlays, b);
     is(&rt, span(&rt, &overlays, a), None);
     is(&rt, span(&rt, &overlays, b), None);
     is(&rt, span(&rt, &copy, a), Some((1, 4, 6)));
     is(&rt, span(&rt, &copy, b), Some((0, 1, 3)));
-    assert!(rt; a < overlays.count() && a < copy.count());
-    is(&rt, number(overlays.get(a, FACE)), Some(7));
-    is(&rt, copy.props(a).len(), 1);
-    overlays.put(a, FACE, None).expect(&rt, "memory");
-    is(&rt, overlays.get(a, FACE).is_none(), true);
+    is(&rt, face(&rt, &overlays, a), Some(7));
+    is(&rt, properties(&rt, &copy, a), 1);
+    take_face_away(&rt, &mut overlays, a);
+    is(&rt, face(&rt, &overlays, a), None);
+    is(&rt, properties(&rt, &overlays, a), 0);
     is(&rt, overlays.count(), 2);
 }
 

@@ -1,51 +1,55 @@
 //! Pieces of text with their properties, and their copies.
+ghost use Rattle.std.specs.Prelude.{◌≡◌, length};
 
 use crate::checking::{holds, is};
-use ek_types::{Ch, Chars, Mem, Piece, PropSet, PropVal, Sym};
+use crate::lists::number;
+use ek_types::{Ch, Chars, Piece, PropSet, PropVal, Sym};
 use std::alloc::Global;
 use std::process::Abort;
 
-const FACE: Sym = Sym(14);
+pub const FACE: Sym = Sym(14);
 
 /// The face of a set, and 0 where it has none.
-fn face_of(set: &PropSet) -> i64 {
-    match set.get(FACE) {
-        Some(PropVal::Int(face)) => *face,
-        _ => 0,
-    }
+pub fn face_of(set: &PropSet) -> i64 {
+    number(set.get(FACE)).unwrap_or(0)
 }
 
 /// The face of each character.
-fn faces(alloc: Global, piece: &Piece) -> Mem<Vec<i64>> {
+fn faces(rt: &impl Abort, alloc: Global, piece: &Piece) -> Vec<i64> {
     let mut faces = Vec::new(alloc);
     for i in 0..piece.len() {
-        faces.push(face_of(piece.props(i)))?;
+        let face = face_of(piece.props(i));
+        faces.push(face).expect(rt, "memory");
     }
-    Ok(faces)
+    faces
 }
 
-/// Characters without properties.
-fn bare_text(alloc: Global, size: usize) -> Mem<Piece> {
+/// So many letters without properties.
+pub fn bare_text(rt: &impl Abort, alloc: Global, size: usize) -> Piece
+    ensures { length result ≡ size }
+{
     let mut text = Chars::new(alloc);
     for _ in 0..size {
-        text.push(Ch::Scalar('x'))?;
+        text.push(Ch::Scalar('x')).expect(rt, "memory");
     }
-    Ok(Piece::plain(alloc, text))
+    Piece::plain(alloc, text)
 }
 
 /// The set with a face, or none where it is 0.
-fn faced(alloc: Global, face: i64) -> Mem<PropSet> {
+pub fn faced(rt: &impl Abort, alloc: Global, face: i64) -> PropSet {
+    let set = PropSet::empty(alloc);
     if face == 0 {
-        return Ok(PropSet::empty(alloc));
+        return set;
     }
-    PropSet::empty(alloc).with(FACE, &PropVal::Int(face))
+    set.with(FACE, &PropVal::Int(face)).expect(rt, "memory")
 }
 
 /// Gives a part a face, or none where it is 0.
-fn paint(rt: &impl Abort, alloc: Global, piece: &mut Piece, from: usize, to: usize, face: i64) {
+pub fn paint(rt: &impl Abort, alloc: Global, piece: &mut Piece, from: usize, to: usize, face: i64) {
     assert!(rt; from <= to && to <= piece.len());
-    let set = faced(alloc, face).expect(rt, "memory");
-    piece.put(from, to, &set).expect(rt, "memory");
+    piece
+        .put(from, to, &faced(rt, alloc, face))
+        .expect(rt, "memory");
 }
 
 /// A part that is given a face, and the faces of all characters behind that.
@@ -89,89 +93,83 @@ const PARTS: [Part; 5] = [
     },
 ];
 
-/// Whether the characters of a piece and of its copy have these faces.
-fn has_faces(alloc: Global, piece: &Piece, wanted: &[i64]) -> Mem<bool> {
-    let own = faces(alloc, piece)?;
-    let copied = faces(alloc, &piece.copy()?)?;
-    Ok(own.as_slice() == wanted && copied.as_slice() == wanted)
+/// The characters of a piece have these faces.
+fn are(rt: &impl Abort, alloc: Global, piece: &Piece, expected: &[i64]) {
+    is(rt, faces(rt, alloc, piece).as_slice(), expected);
 }
 
 #[test]
 fn properties_of_the_parts_of_a_piece(rt: HostRuntime) {
     let alloc = rt.alloc();
-    let mut piece = bare_text(alloc, 8).expect(&rt, "memory");
+    let mut piece = bare_text(&rt, alloc, 8);
     for part in PARTS.iter() {
         paint(&rt, alloc, &mut piece, part.from, part.to, part.face);
-        holds(
-            &rt,
-            has_faces(alloc, &piece, part.faces.as_slice()).expect(&rt, "memory"),
-        );
+        are(&rt, alloc, &piece, part.faces.as_slice());
+        let copy = piece.copy().expect(&rt, "memory");
+        are(&rt, alloc, &copy, part.faces.as_slice());
     }
+}
+
+/// Where the run of a character ends.
+fn run_end(rt: &impl Abort, piece: &Piece, i: usize) -> usize {
+    assert!(rt; i < piece.len());
+    piece.run_end(i)
+}
+
+/// Whether two characters have the same properties.
+fn are_alike(rt: &impl Abort, piece: &Piece, i: usize, j: usize) -> bool {
+    assert!(rt; i < piece.len() && j < piece.len());
+    piece.props(i).same(piece.props(j))
 }
 
 #[test]
 fn a_piece_behind_another(rt: HostRuntime) {
     let alloc = rt.alloc();
-    let mut piece = bare_text(alloc, 3).expect(&rt, "memory");
+    let mut piece = bare_text(&rt, alloc, 3);
     paint(&rt, alloc, &mut piece, 0, 2, 1);
-    let mut more = bare_text(alloc, 2).expect(&rt, "memory");
+    let mut more = bare_text(&rt, alloc, 2);
     paint(&rt, alloc, &mut more, 1, 2, 2);
     piece.append(&more).expect(&rt, "memory");
-    is(
-        &rt,
-        faces(alloc, &piece).expect(&rt, "memory").as_slice(),
-        [1i64, 1, 0, 0, 2].as_slice(),
-    );
-    assert!(rt; piece.len() > 4);
-    is(&rt, (piece.run_end(0), piece.run_end(4)), (2, 5));
-    holds(
-        &rt,
-        piece
-            .text()
-            .same(bare_text(alloc, 5).expect(&rt, "memory").text()),
-    );
-    holds(&rt, piece.props(0).same(piece.props(1)));
-    holds(&rt, !piece.props(0).same(piece.props(2)));
+    are(&rt, alloc, &piece, &[1, 1, 0, 0, 2]);
+    is(&rt, run_end(&rt, &piece, 0), 2);
+    is(&rt, run_end(&rt, &piece, 4), 5);
+    holds(&rt, piece.text().same(bare_text(&rt, alloc, 5).text()));
+    holds(&rt, are_alike(&rt, &piece, 0, 1));
+    holds(&rt, !are_alike(&rt, &piece, 0, 2));
+}
+
+/// How many properties a character has.
+fn properties(rt: &impl Abort, piece: &Piece, i: usize) -> usize {
+    assert!(rt; i < piece.len());
+    piece.props(i).len()
 }
 
 #[test]
 fn a_run_and_its_copy(rt: HostRuntime) {
-    let alloc = rt.alloc();
-    let mut piece = bare_text(alloc, 3).expect(&rt, "memory");
-    paint(&rt, alloc, &mut piece, 0, 3, 1);
+    let mut piece = bare_text(&rt, rt.alloc(), 3);
+    paint(&rt, rt.alloc(), &mut piece, 0, 3, 1);
     let copy = piece.copy().expect(&rt, "memory");
-    assert!(rt; copy.len() > 0);
-    is(&rt, copy.run_end(0), 3);
-    is(&rt, copy.props(0).len(), 1);
+    is(&rt, run_end(&rt, &copy, 0), 3);
+    is(&rt, properties(&rt, &copy, 0), 1);
+}
+
+/// Two letters of three with a face, shared.
+fn shared_text(rt: &impl Abort, alloc: Global) -> Piece {
+    let mut piece = bare_text(rt, alloc, 3);
+    paint(rt, alloc, &mut piece, 0, 2, 1);
+    piece.shared(alloc).expect(rt, "memory")
 }
 
 #[test]
 fn a_shared_piece_and_its_copies(rt: HostRuntime) {
     let alloc = rt.alloc();
-    let mut piece = bare_text(alloc, 3).expect(&rt, "memory");
-    paint(&rt, alloc, &mut piece, 0, 2, 1);
-    let shared = piece.shared(alloc).expect(&rt, "memory");
+    let shared = shared_text(&rt, alloc);
     let mut first = shared.copy().expect(&rt, "memory");
-    let mut second = shared
-        .copy()
-        .expect(&rt, "memory")
-        .shared(alloc)
-        .expect(&rt, "memory");
+    let second = shared.copy().expect(&rt, "memory");
+    let mut second = second.shared(alloc).expect(&rt, "memory");
     first.append(&shared).expect(&rt, "memory");
     paint(&rt, alloc, &mut second, 1, 3, 2);
-    is(
-        &rt,
-        faces(alloc, &shared).expect(&rt, "memory").as_slice(),
-        [1i64, 1, 0].as_slice(),
-    );
-    is(
-        &rt,
-        faces(alloc, &first).expect(&rt, "memory").as_slice(),
-        [1i64, 1, 0, 1, 1, 0].as_slice(),
-    );
-    is(
-        &rt,
-        faces(alloc, &second).expect(&rt, "memory").as_slice(),
-        [1i64, 2, 2].as_slice(),
-    );
+    are(&rt, alloc, &shared, &[1, 1, 0]);
+    are(&rt, alloc, &first, &[1, 1, 0, 1, 1, 0]);
+    are(&rt, alloc, &second, &[1, 2, 2]);
 }

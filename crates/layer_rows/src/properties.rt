@@ -2,124 +2,68 @@
 ghost use Rattle.std.specs.Prelude.{◌≡◌, ◌+◌, ◌-◌, ◌<◌, ◌≤◌, ◌^◌, length, IfOk};
 
 use crate::checking::is;
-use ek_types::{Ch, Chars, Mem, Piece, PropSet, PropVal, Sym, SymList};
+use crate::pieces::{FACE, bare_text, face_of, faced, paint};
+use ek_types::{Mem, Piece, PropSet, PropVal, Sym, SymList};
 use prop_intervals::{PropEdit, Props};
 use std::alloc::Global;
 use std::process::Abort;
 use std::slice;
 
-const FACE: Sym = Sym(20);
-
 const MOUSE_FACE: Sym = Sym(21);
 
-/// A set of one property.
-fn face(alloc: Global, value: i64) -> Mem<PropSet> {
-    PropSet::empty(alloc).with(FACE, &PropVal::Int(value))
-}
-
-/// The face of a set, and 0 where it has none.
-fn face_of(set: &PropSet) -> i64 {
-    match set.get(FACE) {
-        Some(PropVal::Int(value)) => *value,
-        _ => 0,
-    }
-}
-
-/// The faces of all characters.
-fn faces(alloc: Global, props: &Props, size: usize) -> Mem<Vec<i64>>
-    requires { size ≡ length props.now }
+/// The faces of all characters are these.
+fn are(rt: &impl Abort, alloc: Global, props: &Props, expected: &[i64])
+    requires { length expected.now ≡ length props.now }
 {
     let mut faces = Vec::new(alloc);
-    for i in 0..size {
-        faces.push(face_of(props.at(i)))?;
+    for i in 0..expected.len() {
+        let face = face_of(props.at(i));
+        faces.push(face).expect(rt, "memory");
     }
-    Ok(faces)
+    is(rt, faces.as_slice(), expected);
 }
 
-fn are(rt: &impl Abort, found: Mem<Vec<i64>>, expected: &[i64]) {
-    assert_eq!(rt; found.expect(rt, "memory").as_slice(), expected);
-}
-
-fn letters(alloc: Global, size: usize) -> Mem<Chars>
-    ensures { IfOk result (λ text. length text.items ≡ size) }
+/// The properties of a text alone.
+fn of_text(rt: &impl Abort, alloc: Global, text: &Piece) -> Props
+    ensures { length result ≡ length text.now }
 {
-    let mut text = Chars::new(alloc);
-    for _ in 0..size {
-        text.push(Ch::Scalar('x'))?;
-    }
-    Ok(text)
-}
-
-/// The text without properties.
-fn bare(alloc: Global, text: Chars) -> Piece
-    ensures { length result ≡ length text.items }
-{
-    Piece::plain(alloc, text)
-}
-
-/// Characters without properties.
-fn bare_text(alloc: Global, size: usize) -> Mem<Piece>
-    ensures { IfOk result (λ p. length p ≡ size) }
-{
-    Ok(bare(alloc, letters(alloc, size)?))
+    let mut props = Props::new(alloc);
+    props
+        .splice(0, 0, slice::from_ref(text))
+        .expect(rt, "memory");
+    props
 }
 
 /// A text with a face from one place to another.
-fn with_face(alloc: Global, size: usize, from: usize, to: usize) -> Mem<Props>
-    requires order { from ≤ to }
-    requires within { to ≤ size }
-    ensures { IfOk result (λ p. length p ≡ size) }
+fn with_face(rt: &impl Abort, alloc: Global, size: usize, from: usize, to: usize) -> Props
+    ensures { length result ≡ size }
 {
-    let mut text = bare_text(alloc, size)?;
-    text.put(from, to, &face(alloc, 1)?)?;
-    let mut props = Props::new(alloc);
-    props.splice(0, 0, slice::from_ref(&text))?;
-    Ok(props)
+    let mut text = bare_text(rt, alloc, size);
+    paint(rt, alloc, &mut text, from, to, 1);
+    assert_eq!(rt; text.len(), size);
+    of_text(rt, alloc, &text)
 }
 
-/// Characters whose first has a face.
-fn with_first_face(alloc: Global, size: usize) -> Mem<Piece>
-    requires { 0 < size }
-    ensures { IfOk result (λ p. length p ≡ size) }
-{
-    let mut text = bare_text(alloc, size)?;
-    text.put(0, 1, &face(alloc, 2)?)?;
-    Ok(text)
-}
-
-/// A change of a text, which keeps its length.
-fn changed(props: &mut Props, from: usize, to: usize, edit: &PropEdit) -> Mem<bool>
+/// Whether a change of a text changes something.
+fn changes(rt: &impl Abort, props: &mut Props, from: usize, to: usize, edit: &PropEdit) -> bool
     requires order { from ≤ to }
     requires within { to ≤ length props.old }
     ensures { length props.new ≡ length props.old }
 {
-    props.change(from, to, edit)
-}
-
-/// A part of a text replaced, and its length then.
-fn replaced(props: &mut Props, from: usize, to: usize, text: &Piece, size: usize) -> Mem<usize>
-    requires order { from ≤ to }
-    requires within { to ≤ length props.old }
-    requires size { size ≡ length props.old }
-    requires fits { length props.old + length text.now < 2 ^ 40 }
-    ensures { IfOk result (λ n. (n ≡ length props.new) ×
-        (n + (to - from) ≡ length props.old + length text.now)) }
-{
-    props.splice(from, to, slice::from_ref(text))?;
-    Ok(size - (to - from) + text.len())
+    props.change(from, to, edit).expect(rt, "memory")
 }
 
 /// A list of one name.
-fn just(alloc: Global, name: Sym) -> Mem<SymList> {
+fn just(rt: &impl Abort, alloc: Global, name: Sym) -> SymList {
     let mut names = SymList::new(alloc);
-    names.push(name)?;
-    Ok(names)
+    names.push(name).expect(rt, "memory");
+    names
 }
 
 #[test]
 fn next_changes_and_a_change_to_what_is_there(rt: HostRuntime) {
     let alloc = rt.alloc();
-    let mut props = with_face(alloc, 4, 1, 3).expect(&rt, "memory");
+    let mut props = with_face(&rt, alloc, 4, 1, 3);
     is(&rt, props.next_change(0, None), Some(1));
     is(&rt, props.next_change(1, None), Some(3));
     is(&rt, props.next_change(3, None), None);
@@ -128,43 +72,28 @@ fn next_changes_and_a_change_to_what_is_there(rt: HostRuntime) {
     is(&rt, props.prev_change(3, None), Some(1));
     is(&rt, props.prev_change(1, None), None);
     is(&rt, props.prev_change(0, None), None);
-    let again = PropEdit::Add(face(alloc, 1).expect(&rt, "memory"), SymList::new(alloc));
-    is(
-        &rt,
-        changed(&mut props, 1, 3, &again).expect(&rt, "memory"),
-        false,
-    );
-    is(
-        &rt,
-        changed(&mut props, 1, 4, &again).expect(&rt, "memory"),
-        true,
-    );
-    are(&rt, faces(alloc, &props, 4), &[0, 1, 1, 1]);
+    let again = PropEdit::Add(faced(&rt, alloc, 1), SymList::new(alloc));
+    is(&rt, changes(&rt, &mut props, 1, 3, &again), false);
+    is(&rt, changes(&rt, &mut props, 1, 4, &again), true);
+    are(&rt, alloc, &props, &[0, 1, 1, 1]);
+}
+
+/// A set of a face and one more property.
+fn both_faces(rt: &impl Abort, alloc: Global) -> PropSet {
+    faced(rt, alloc, 2)
+        .with(MOUSE_FACE, &PropVal::Truth)
+        .expect(rt, "memory")
 }
 
 #[test]
 fn adding_with_nil_takes_away(rt: HostRuntime) {
     let alloc = rt.alloc();
-    let mut props = with_face(alloc, 3, 0, 2).expect(&rt, "memory");
-    let both = face(alloc, 2)
-        .expect(&rt, "memory")
-        .with(MOUSE_FACE, &PropVal::Truth)
-        .expect(&rt, "memory");
-    is(
-        &rt,
-        changed(&mut props, 1, 3, &PropEdit::Replace(both)).expect(&rt, "memory"),
-        true,
-    );
-    let add = PropEdit::Add(
-        face(alloc, 3).expect(&rt, "memory"),
-        just(alloc, MOUSE_FACE).expect(&rt, "memory"),
-    );
-    is(
-        &rt,
-        changed(&mut props, 0, 3, &add).expect(&rt, "memory"),
-        true,
-    );
-    are(&rt, faces(alloc, &props, 3), &[3, 3, 3]);
+    let mut props = with_face(&rt, alloc, 3, 0, 2);
+    let replace = PropEdit::Replace(both_faces(&rt, alloc));
+    is(&rt, changes(&rt, &mut props, 1, 3, &replace), true);
+    let add = PropEdit::Add(faced(&rt, alloc, 3), just(&rt, alloc, MOUSE_FACE));
+    is(&rt, changes(&rt, &mut props, 0, 3, &add), true);
+    are(&rt, alloc, &props, &[3, 3, 3]);
     is(&rt, props.at(1).len(), 1);
     is(&rt, props.run_end(0), 3);
 }
@@ -172,37 +101,25 @@ fn adding_with_nil_takes_away(rt: HostRuntime) {
 #[test]
 fn runs_join_after_a_change_back(rt: HostRuntime) {
     let alloc = rt.alloc();
-    let mut props = with_face(alloc, 3, 1, 2).expect(&rt, "memory");
+    let mut props = with_face(&rt, alloc, 3, 1, 2);
     is(&rt, props.run_end(0), 1);
     is(&rt, props.run_end(1), 2);
-    let remove = PropEdit::Remove(just(alloc, FACE).expect(&rt, "memory"));
-    is(
-        &rt,
-        changed(&mut props, 1, 2, &remove).expect(&rt, "memory"),
-        true,
-    );
+    let remove = PropEdit::Remove(just(&rt, alloc, FACE));
+    is(&rt, changes(&rt, &mut props, 1, 2, &remove), true);
     is(&rt, props.run_end(0), 3);
     is(&rt, props.next_change(0, None), None);
-    is(
-        &rt,
-        changed(&mut props, 0, 3, &remove).expect(&rt, "memory"),
-        false,
-    );
+    is(&rt, changes(&rt, &mut props, 0, 3, &remove), false);
 }
 
 #[test]
 fn changes_of_one_property(rt: HostRuntime) {
     let alloc = rt.alloc();
-    let mut props = with_face(alloc, 4, 0, 3).expect(&rt, "memory");
+    let mut props = with_face(&rt, alloc, 4, 0, 3);
     let mouse = PropSet::empty(alloc)
         .with(MOUSE_FACE, &PropVal::Truth)
         .expect(&rt, "memory");
     let add = PropEdit::Add(mouse, SymList::new(alloc));
-    is(
-        &rt,
-        changed(&mut props, 1, 2, &add).expect(&rt, "memory"),
-        true,
-    );
+    is(&rt, changes(&rt, &mut props, 1, 2, &add), true);
     is(&rt, props.next_change(0, None), Some(1));
     is(&rt, props.next_change(0, Some(FACE)), Some(3));
     is(&rt, props.next_change(1, Some(MOUSE_FACE)), Some(2));
@@ -211,34 +128,52 @@ fn changes_of_one_property(rt: HostRuntime) {
     is(&rt, props.prev_change(3, Some(FACE)), None);
 }
 
+/// A part is replaced by a text.
+fn replace(rt: &impl Abort, props: &mut Props, from: usize, to: usize, text: &Piece)
+    requires order { from ≤ to }
+    requires within { to ≤ length props.old }
+    ensures { length props.new + (to - from) ≡ length props.old + length text.now }
+{
+    props
+        .splice(from, to, slice::from_ref(text))
+        .expect(rt, "memory");
+}
+
+/// Characters whose first has a face.
+fn with_first_face(rt: &impl Abort, alloc: Global, size: usize) -> Piece
+    ensures { length result ≡ size }
+{
+    let mut text = bare_text(rt, alloc, size);
+    paint(rt, alloc, &mut text, 0, 1, 2);
+    assert_eq!(rt; text.len(), size);
+    text
+}
+
 #[test]
 fn a_part_replaced(rt: HostRuntime) {
     let alloc = rt.alloc();
-    let mut props = with_face(alloc, 6, 2, 4).expect(&rt, "memory");
+    let mut props = with_face(&rt, alloc, 6, 2, 4);
     let copy = props.copy().expect(&rt, "memory");
-    let text = with_first_face(alloc, 2).expect(&rt, "memory");
-    let n = replaced(&mut props, 1, 3, &text, 6).expect(&rt, "memory");
-    are(&rt, faces(alloc, &props, n), &[0, 2, 0, 1, 0, 0]);
-    let none = bare_text(alloc, 0).expect(&rt, "memory");
-    let n = replaced(&mut props, 1, 4, &none, n).expect(&rt, "memory");
-    are(&rt, faces(alloc, &props, n), &[0, 0, 0]);
+    replace(&rt, &mut props, 1, 3, &with_first_face(&rt, alloc, 2));
+    are(&rt, alloc, &props, &[0, 2, 0, 1, 0, 0]);
+    replace(&rt, &mut props, 1, 4, &bare_text(&rt, alloc, 0));
+    are(&rt, alloc, &props, &[0, 0, 0]);
     is(&rt, props.run_end(0), 3);
-    are(&rt, faces(alloc, &copy, 6), &[0, 0, 1, 1, 0, 0]);
+    are(&rt, alloc, &copy, &[0, 0, 1, 1, 0, 0]);
 }
 
 const RUNS: usize = 131_072;
 
 /// A text of as many characters, each with a face of its own.
-fn own_faces(alloc: Global) -> Mem<Props>
-    ensures { IfOk result (λ p. length p ≡ 131072) }
+fn own_faces(rt: &impl Abort, alloc: Global) -> Props
+    ensures { length result ≡ 131072 }
 {
-    let mut text = bare_text(alloc, RUNS)?;
+    let mut text = bare_text(rt, alloc, RUNS);
     for i in 0..RUNS {
-        text.put(i, i + 1, &face(alloc, i as i64 + 1)?)?;
+        paint(rt, alloc, &mut text, i, i + 1, i as i64 + 1);
     }
-    let mut props = Props::new(alloc);
-    props.splice(0, 0, slice::from_ref(&text))?;
-    Ok(props)
+    assert_eq!(rt; text.len(), RUNS);
+    of_text(rt, alloc, &text)
 }
 
 /// One character put in front, and then the face that stands 65,536 places in front of the end.
@@ -256,8 +191,8 @@ fn put_in_front(props: &mut Props, x: &Piece, size: usize) -> Mem<i64>
 #[test]
 fn many_insertions_in_front_of_many_runs(rt: HostRuntime) {
     let alloc = rt.alloc();
-    let mut props = own_faces(alloc).expect(&rt, "memory");
-    let x = bare_text(alloc, 1).expect(&rt, "memory");
+    let mut props = own_faces(&rt, alloc);
+    let x = bare_text(&rt, alloc, 1);
     for k in 0..2_000_000usize {
         is(
             &rt,

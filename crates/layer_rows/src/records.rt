@@ -1,6 +1,7 @@
 //! Worked cases of records, limits and plans. Where a serial number is expected, it is counted by hand.
 use crate::checking::is;
-use ek_types::{Ch, Chars, Copied, Piece, PropVal, Sym};
+use crate::pieces::bare_text;
+use ek_types::{Copied, PropVal, Sym};
 use std::alloc::Global;
 use std::process::Abort;
 use undo_list::{Rec, Refused, Undo};
@@ -12,19 +13,9 @@ fn put(rt: &impl Abort, undo: &mut Undo, rec: Rec) {
     }
 }
 
-/// So many letters without properties.
-fn letters(rt: &impl Abort, alloc: Global, count: usize) -> Piece {
-    let mut chars = Chars::new(alloc);
-    for _ in 0..count {
-        chars.push(Ch::Scalar('x')).expect(rt, "a letter");
-    }
-    Piece::plain(alloc, chars)
-}
-
 /// A deletion of so many characters, recorded.
 fn put_deletion(rt: &impl Abort, alloc: Global, undo: &mut Undo, n: usize, place: usize) {
-    let piece = letters(rt, alloc, n);
-    put(rt, undo, Rec::Deleted(piece, place));
+    put(rt, undo, Rec::Deleted(bare_text(rt, alloc, n), place));
 }
 
 /// Copies of these records, all pending.

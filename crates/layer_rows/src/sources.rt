@@ -1,7 +1,17 @@
 //! A source and a sink in memory.
+ghost use Rattle.std.specs.Prelude.{◌<◌, length};
 
 use crate::checking::is;
 use ek_types::{MemorySink, MemorySource, Sink, SinkFault, Source, Took, Wrote, put, write_all};
+use std::process::Abort;
+
+/// A read comes to this, and then the room holds these bytes.
+fn reads(rt: &impl Abort, source: &mut MemorySource, room: &mut [u8], took: Took, held: &[u8])
+    requires { 0 < length room.old }
+{
+    is(rt, source.read(room), took);
+    is(rt, &*room, held);
+}
 
 #[test]
 fn a_source_fails_at_its_second_read_and_goes_on(rt: HostRuntime) {
@@ -9,13 +19,11 @@ fn a_source_fails_at_its_second_read_and_goes_on(rt: HostRuntime) {
     let fails = vec![in rt.alloc(); 1].expect(&rt, "memory");
     let mut source = MemorySource::new(text, 2, fails);
     let mut room = [0u8; 4];
-    is(&rt, source.read(&mut room), Took::Bytes(2));
-    is(&rt, room.as_slice(), b"he\0\0".as_slice());
-    is(&rt, source.read(&mut room), Took::Failed);
-    is(&rt, source.read(&mut room), Took::Bytes(2));
+    reads(&rt, &mut source, &mut room, Took::Bytes(2), b"he\0\0");
+    reads(&rt, &mut source, &mut room, Took::Failed, b"he\0\0");
+    reads(&rt, &mut source, &mut room, Took::Bytes(2), b"ll\0\0");
     is(&rt, source.read(&mut room[..1]), Took::Bytes(1));
-    is(&rt, room.as_slice(), b"ol\0\0".as_slice());
-    is(&rt, source.read(&mut room), Took::End);
+    reads(&rt, &mut source, &mut room, Took::End, b"ol\0\0");
 }
 
 #[test]

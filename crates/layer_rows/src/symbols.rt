@@ -30,29 +30,31 @@ fn numbers_for_the_names_of_a_script(rt: HostRuntime) {
     is(&rt, copy.find("insert"), None);
 }
 
+/// The names by their numbers.
+const NAMES: [&str; 17] = [
+    "front-sticky",
+    "rear-nonsticky",
+    "evaporate",
+    "priority",
+    "before-change-functions",
+    "after-change-functions",
+    "run",
+    "exit",
+    "signal",
+    "failed",
+    "read-only",
+    "invisible",
+    "before-string",
+    "after-string",
+    "utf-8-unix",
+    "utf-8-dos",
+    "latin-1-unix",
+];
+
 #[test]
 fn the_names_that_have_a_number_in_every_script(rt: HostRuntime) {
     let symbols = Symbols::new(rt.alloc()).expect(&rt, "memory");
-    let names = [
-        "front-sticky",
-        "rear-nonsticky",
-        "evaporate",
-        "priority",
-        "before-change-functions",
-        "after-change-functions",
-        "run",
-        "exit",
-        "signal",
-        "failed",
-        "read-only",
-        "invisible",
-        "before-string",
-        "after-string",
-        "utf-8-unix",
-        "utf-8-dos",
-        "latin-1-unix",
-    ];
-    for (i, name) in names.iter().enumerate() {
+    for (i, name) in NAMES.iter().enumerate() {
         is(&rt, symbols.find(name), Some(Sym(i as u32)));
     }
 }

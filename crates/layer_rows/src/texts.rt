@@ -1,5 +1,5 @@
 //! What runs: texts whose sizes and gaps lie at the edges of blocks, each kind of character, and refused memory.
-ghost use Rattle.std.specs.Prelude.{◌≡◌, length, IfOk};
+ghost use Rattle.std.specs.Prelude.{◌≡◌, ◌≤◌, length, IfOk};
 ghost use Rattle.gap_text.specs.Text.{LiesIn, characters};
 
 use crate::checking::{holds, is};
@@ -20,6 +20,24 @@ fn letters(alloc: Global, n: usize) -> Mem<Chars>
     Ok(text)
 }
 
+/// The text is these characters.
+fn is_text(rt: &impl Abort, pool: &Pool, text: &Text, letters: &Chars)
+    requires { LiesIn pool.now text.now }
+{
+    assert_eq!(rt; text.len(), letters.len());
+    for i in 0..letters.len() {
+        is(rt, text.at(pool, i), letters.at(i));
+    }
+}
+
+/// The copy is these characters.
+fn is_copy(rt: &impl Abort, copied: &Chars, letters: &Chars) {
+    assert_eq!(rt; copied.len(), letters.len());
+    for i in 0..letters.len() {
+        is(rt, copied.at(i), letters.at(i));
+    }
+}
+
 /// A text of so many letters is put in, read, and taken out again.
 fn keeps_letters(rt: &impl Abort, alloc: Global, n: usize) {
     let letters = letters(alloc, n).expect(rt, "letters");
@@ -34,10 +52,7 @@ fn keeps_letters(rt: &impl Abort, alloc: Global, n: usize) {
         256 * pool.live() as u128,
     );
     let copied = text.copy_out(&pool, 0, n).expect(rt, "a copy");
-    assert_eq!(rt; copied.len(), n);
-    for i in 0..n {
-        is(rt, copied.at(i), letters.at(i));
-    }
+    is_copy(rt, &copied, &letters);
     text.delete(&mut pool, 0, n);
     is(rt, text.len(), 0);
     text.release(&mut pool);
@@ -53,9 +68,24 @@ fn texts_of_each_size(rt: HostRuntime) {
     keeps_letters(&rt, rt.alloc(), 1_000_000);
 }
 
+/// An `a` stands at a place among 600 letters.
+fn stands_among(rt: &impl Abort, pool: &Pool, text: &Text, letters: &Chars, place: usize)
+    requires { LiesIn pool.now text.now }
+{
+    assert!(rt; place <= 600 && text.len() == 601 && letters.len() == 600);
+    is(rt, text.at(pool, place), Ch::Scalar('a'));
+    if place > 0 {
+        is(rt, text.at(pool, place - 1), letters.at(place - 1));
+    }
+    if place < 600 {
+        is(rt, text.at(pool, place + 1), letters.at(place));
+    }
+}
+
 /// One character is put in at a place among 600, and taken out again.
-fn goes_in_at(rt: &impl Abort, alloc: Global, place: usize) {
-    assert!(rt; place <= 600);
+fn goes_in_at(rt: &impl Abort, alloc: Global, place: usize)
+    requires { place ≤ 600 }
+{
     let letters = letters(alloc, 600).expect(rt, "letters");
     let one = self::letters(alloc, 1).expect(rt, "a letter");
     let mut pool = Pool::new(alloc);
@@ -63,19 +93,9 @@ fn goes_in_at(rt: &impl Abort, alloc: Global, place: usize) {
     text.reserve(&mut pool, 601).expect(rt, "room");
     text.insert(&mut pool, 0, &letters);
     text.insert(&mut pool, place, &one);
-    assert_eq!(rt; text.len(), 601);
-    is(rt, text.at(&pool, place), Ch::Scalar('a'));
-    if place > 0 {
-        is(rt, text.at(&pool, place - 1), letters.at(place - 1));
-    }
-    if place < 600 {
-        is(rt, text.at(&pool, place + 1), letters.at(place));
-    }
+    stands_among(rt, &pool, &text, &letters, place);
     text.delete(&mut pool, place, place + 1);
-    assert_eq!(rt; text.len(), 600);
-    for i in 0..600 {
-        is(rt, text.at(&pool, i), letters.at(i));
-    }
+    is_text(rt, &pool, &text, &letters);
     text.release(&mut pool);
 }
 

@@ -1,26 +1,68 @@
-//! What several of these tests need: letters, sinks, markers and properties of overlays, and journals both ways.
+//! What several of these tests need: comparing, texts, sinks, markers and properties of overlays, and journals both ways.
 ghost use Rattle.std.specs.Prelude.{◌<◌, IfOk};
 ghost use Rattle.host_link.specs.Meaning.{exchanges_of};
 ghost use Rattle.journal_text.specs.Allowed.{AreAnswered};
 
 use buffer_table::Editor;
-use ek_types::{Ch, Chars, Mem, MemorySink, PropVal, Sym};
+use ek_types::{Ch, Chars, MemorySink, Piece, PropSet, PropVal, Sym};
 use host_link::Exchanges;
 use journal_text::{JournalFault, LONGEST_SESSION, read_journal, write_journal};
 use std::alloc::Global;
+use std::fmt::Debug;
 use std::process::Abort;
+use std::slice;
 
 pub const EVAPORATE: Sym = Sym(2);
 
 pub const PRIORITY: Sym = Sym(3);
 
-/// Characters of one byte each.
-pub fn letters(alloc: Global, text: &[u8]) -> Mem<Chars> {
+/// What was found is what was expected.
+pub fn is<T: PartialEq + Debug + Drop>(rt: &impl Abort, found: T, expected: T) {
+    assert_eq!(rt; found, expected);
+}
+
+/// Nothing was refused, and these bytes stand in the sink.
+pub fn wrote<E: Debug + Drop>(
+    rt: &impl Abort,
+    sink: &MemorySink,
+    written: Result<(), E>,
+    bytes: &[u8],
+) {
+    written.expect(rt, "all is written");
+    assert_eq!(rt; sink.bytes(), bytes);
+}
+
+/// The characters of a text.
+pub fn chars(rt: &impl Abort, alloc: Global, text: &str) -> Chars {
     let mut chars = Chars::new(alloc);
-    for byte in text {
-        chars.push(Ch::Scalar(char::from(*byte)))?;
+    for c in text.chars() {
+        chars.push(Ch::Scalar(c)).expect(rt, "a character");
     }
-    Ok(chars)
+    chars
+}
+
+/// A text without properties.
+pub fn plain(rt: &impl Abort, alloc: Global, text: &str) -> Piece {
+    Piece::plain(alloc, chars(rt, alloc, text))
+}
+
+/// A set with one property more.
+pub fn with(rt: &impl Abort, set: &PropSet, name: Sym, value: &PropVal) -> PropSet {
+    set.with(name, value).expect(rt, "a set")
+}
+
+/// Gives a part of a text the properties of a set.
+pub fn paint(rt: &impl Abort, text: &mut Piece, from: usize, to: usize, set: &PropSet) {
+    assert!(rt; from <= to && to <= text.len());
+    text.put(from, to, set).expect(rt, "room");
+}
+
+/// Puts a text in at the start of a buffer.
+pub fn fill(rt: &impl Abort, editor: &mut Editor, id: u32, text: &Piece) {
+    assert!(rt; editor.is_live(id));
+    editor
+        .replace(id, 0, 0, slice::from_ref(text), false)
+        .expect(rt, "room");
 }
 
 /// A sink with room for so many bytes, which takes at most a piece in a call.
@@ -31,19 +73,42 @@ pub fn new_sink(rt: &impl Abort, alloc: Global, room: usize, piece: usize) -> Me
     MemorySink::new(alloc, room, piece, fails).expect(rt, "a sink")
 }
 
+/// Makes a buffer of a name that none has.
+pub fn make_buffer(rt: &impl Abort, editor: &mut Editor, name: &Chars) -> u32 {
+    assert!(rt; editor.count() < 9);
+    assert!(rt; editor.find(name).is_none());
+    editor.make(name).expect(rt, "a buffer")
+}
+
+pub fn kill_buffer(rt: &impl Abort, editor: &mut Editor, id: u32) {
+    assert!(rt; editor.count() < 9);
+    assert!(rt; editor.is_live(id));
+    editor.kill(id).expect(rt, "a death");
+}
+
+/// Makes a part of a buffer the accessible one.
+pub fn narrow(rt: &impl Abort, editor: &mut Editor, id: u32, start: usize, end: usize) {
+    let size = editor.size(id);
+    assert!(rt; editor.is_live(id));
+    assert!(rt; start <= end && end <= size);
+    editor.narrow(id, start, end);
+}
+
+/// Points a marker to a place of a buffer.
+fn point(rt: &impl Abort, editor: &mut Editor, k: u32, id: u32, place: usize) {
+    let size = editor.size(id);
+    assert!(rt; k < editor.marker_count());
+    assert!(rt; editor.is_live(id) && place <= size);
+    editor.set_marker(k, Some((id, place)));
+}
+
 /// A marker at a place of a buffer.
 pub fn mark(rt: &impl Abort, editor: &mut Editor, id: u32, place: usize, advances: bool) {
-    assert!(rt; editor.marks().markers.count() < 9);
+    assert!(rt; editor.marker_count() < 9);
     let k = editor.make_marker().expect(rt, "a marker");
-    let size = match editor.text(id) {
-        Some(text) => text.len(),
-        None => 0,
-    };
-    assert!(rt; editor.text(id).is_some() && place <= size);
-    assert!(rt; k < editor.marks().markers.count());
+    point(rt, editor, k, id, place);
+    assert!(rt; k < editor.marker_count());
     editor.set_marker_kind(k, advances);
-    assert!(rt; k < editor.marks().markers.count());
-    editor.set_marker(k, Some((id, place)));
 }
 
 /// A property of an overlay.

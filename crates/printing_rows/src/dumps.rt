@@ -1,12 +1,14 @@
 //! A dump with all there is: live, narrowed and killed buffers, markers and overlays in each, and ended processes.
 
-use crate::checking::{EVAPORATE, PRIORITY, letters, mark, new_sink, put};
+use crate::checking::{
+    EVAPORATE, PRIORITY, chars, fill, kill_buffer, make_buffer, mark, narrow, new_sink, paint,
+    plain, put, with, wrote,
+};
 use buffer_table::Editor;
-use ek_types::{Ch, Mem, Piece, PropSet, PropVal, Sym, SymList, Symbols};
+use ek_types::{Ch, Piece, PropSet, PropVal, Sym, SymList, Symbols};
 use process_table::{Processes, Status};
 use std::alloc::Global;
 use std::process::Abort;
-use std::slice;
 use trace_print::{Names, dump};
 
 const FRONT_STICKY: Sym = Sym(0);
@@ -17,46 +19,40 @@ const EXIT: Sym = Sym(7);
 
 const SIGNAL: Sym = Sym(8);
 
-/// Sets of each kind of value: names, a string, and a number with a name.
-fn sets(alloc: Global) -> Mem<[PropSet; 3]> {
+/// A set whose value is a list of names.
+fn of_names(rt: &impl Abort, alloc: Global) -> PropSet {
     let mut names = SymList::new(alloc);
-    names.push(EVAPORATE)?;
-    names.push(PRIORITY)?;
-    let empty = PropSet::empty(alloc);
-    let mut text = letters(alloc, b"x\"")?;
-    text.push(Ch::Raw(0x80))?;
-    Ok([
-        empty.with(FRONT_STICKY, &PropVal::Syms(names))?,
-        empty.with(RUN, &PropVal::Text(text))?,
-        empty
-            .with(EXIT, &PropVal::Sym(SIGNAL))?
-            .with(PRIORITY, &PropVal::Int(-5))?,
-    ])
+    names.push(EVAPORATE).expect(rt, "a name");
+    names.push(PRIORITY).expect(rt, "a name");
+    let value = PropVal::Syms(names);
+    with(rt, &PropSet::empty(alloc), FRONT_STICKY, &value)
+}
+
+/// A set whose value is a string.
+fn of_string(rt: &impl Abort, alloc: Global) -> PropSet {
+    let mut text = chars(rt, alloc, "x\"");
+    text.push(Ch::Raw(0x80)).expect(rt, "a character");
+    with(rt, &PropSet::empty(alloc), RUN, &PropVal::Text(text))
+}
+
+/// A set of a name and a number.
+fn of_both(rt: &impl Abort, alloc: Global) -> PropSet {
+    let set = with(rt, &PropSet::empty(alloc), EXIT, &PropVal::Sym(SIGNAL));
+    with(rt, &set, PRIORITY, &PropVal::Int(-5))
 }
 
 /// Three letters with a set each.
-fn decorated(alloc: Global) -> Mem<Piece> {
-    let mut text = Piece::plain(alloc, letters(alloc, b"abc")?);
-    for (i, set) in sets(alloc)?.iter().enumerate() {
-        if i < text.len() {
-            text.put(i, i + 1, set)?;
-        }
-    }
-    Ok(text)
+fn decorated(rt: &impl Abort, alloc: Global) -> Piece {
+    let mut text = plain(rt, alloc, "abc");
+    paint(rt, &mut text, 0, 1, &of_names(rt, alloc));
+    paint(rt, &mut text, 1, 2, &of_string(rt, alloc));
+    paint(rt, &mut text, 2, 3, &of_both(rt, alloc));
+    text
 }
 
 /// A new buffer.
-fn buffer(rt: &impl Abort, alloc: Global, editor: &mut Editor, name: &[u8]) -> u32 {
-    let name = letters(alloc, name).expect(rt, "a name");
-    assert!(rt; editor.count() < 9 && editor.find(&name).is_none());
-    editor.make(&name).expect(rt, "a buffer")
-}
-
-fn fill(rt: &impl Abort, editor: &mut Editor, id: u32, text: &Piece) {
-    assert!(rt; editor.is_live(id));
-    editor
-        .replace(id, 0, 0, slice::from_ref(text), false)
-        .expect(rt, "room");
+fn buffer(rt: &impl Abort, alloc: Global, editor: &mut Editor, name: &str) -> u32 {
+    make_buffer(rt, editor, &chars(rt, alloc, name))
 }
 
 /// An overlay over the first `to` characters of a buffer.
@@ -69,8 +65,7 @@ fn overlay(rt: &impl Abort, editor: &mut Editor, id: u32, to: usize) -> u32 {
 
 /// `*scratch*` with two letters, a marker of each type and an overlay.
 fn furnish_first(rt: &impl Abort, alloc: Global, editor: &mut Editor) {
-    let text = Piece::plain(alloc, letters(alloc, b"ab").expect(rt, "letters"));
-    fill(rt, editor, 0, &text);
+    fill(rt, editor, 0, &plain(rt, alloc, "ab"));
     mark(rt, editor, 0, 1, false);
     mark(rt, editor, 0, 1, true);
     overlay(rt, editor, 0, 1);
@@ -80,16 +75,14 @@ fn furnish_first(rt: &impl Abort, alloc: Global, editor: &mut Editor) {
 
 /// A buffer of which the second of three characters is accessible, with a marker of each type outside and an overlay.
 fn furnish_second(rt: &impl Abort, alloc: Global, editor: &mut Editor) {
-    let id = buffer(rt, alloc, editor, b"v\"\\\n");
-    fill(rt, editor, id, &decorated(alloc).expect(rt, "a text"));
+    let id = buffer(rt, alloc, editor, "v\"\\\n");
+    fill(rt, editor, id, &decorated(rt, alloc));
     mark(rt, editor, id, 0, false);
     mark(rt, editor, id, 3, true);
     let k = overlay(rt, editor, id, 3);
     put(rt, editor, k, PRIORITY, &PropVal::Int(5));
     put(rt, editor, k, EVAPORATE, &PropVal::Truth);
-    let size = editor.size(id);
-    assert!(rt; editor.is_live(id) && size == 3);
-    editor.narrow(id, 1, 2);
+    narrow(rt, editor, id, 1, 2);
     assert!(rt; editor.is_live(id));
     editor.set_current(id);
     assert!(rt; editor.is_live(id));
@@ -98,29 +91,33 @@ fn furnish_second(rt: &impl Abort, alloc: Global, editor: &mut Editor) {
 
 /// A killed buffer that had a marker of each type and an overlay.
 fn furnish_third(rt: &impl Abort, alloc: Global, editor: &mut Editor) {
-    let id = buffer(rt, alloc, editor, b"w");
+    let id = buffer(rt, alloc, editor, "w");
     mark(rt, editor, id, 0, false);
     mark(rt, editor, id, 0, true);
     let k = overlay(rt, editor, id, 0);
     put(rt, editor, k, PRIORITY, &PropVal::Int(5));
-    assert!(rt; editor.is_live(id) && editor.count() < 9);
-    editor.kill(id).expect(rt, "a death");
+    kill_buffer(rt, editor, id);
     let k = overlay(rt, editor, 0, 0);
     assert!(rt; k < editor.overlay_count());
     editor.remove_overlay(k);
 }
 
+/// A process that has come to a status.
+fn add(rt: &impl Abort, alloc: Global, table: &mut Processes, status: Status) {
+    assert!(rt; table.count() < 9);
+    let name = table.free_name(&chars(rt, alloc, "c")).expect(rt, "a name");
+    let p = table.add(&name, 0, None, 0).expect(rt, "a process");
+    assert!(rt; p < table.count());
+    table.note_end(p, status);
+}
+
 /// A process of each status.
 fn processes(rt: &impl Abort, alloc: Global) -> Processes {
     let mut table = Processes::new(alloc);
-    for status in [Status::Run, Status::Exit(3), Status::Signal, Status::Failed] {
-        let name = letters(alloc, b"c").expect(rt, "a name");
-        let name = table.free_name(&name).expect(rt, "a name");
-        assert!(rt; table.count() < 9);
-        let p = table.add(&name, 0, None, 0).expect(rt, "a process");
-        assert!(rt; p < table.count());
-        table.note_end(p, status);
-    }
+    add(rt, alloc, &mut table, Status::Run);
+    add(rt, alloc, &mut table, Status::Exit(3));
+    add(rt, alloc, &mut table, Status::Signal);
+    add(rt, alloc, &mut table, Status::Failed);
     table
 }
 
@@ -140,10 +137,11 @@ fn a_dump_of_all_there_is(rt: HostRuntime) {
         symbols: &symbols,
     };
     let written = dump(&names, &mut sink);
-    assert!(rt; written.is_ok());
     editor.close();
-    assert_eq!(rt;
-        sink.bytes(),
+    wrote(
+        &rt,
+        &sink,
+        written,
         br#"buffer *scratch* point 3 min 1 max 3 modified nil
 text "ab"
 buffer v\"\\\n point 3 min 2 max 3 modified t read-only current
@@ -162,7 +160,6 @@ process 0 #<process c> run 0
 process 1 #<process c<1>> exit 3
 process 2 #<process c<2>> signal nil
 process 3 #<process c<3>> failed nil
-"#
-            .as_slice()
+"#,
     );
 }

@@ -1,6 +1,6 @@
 //! Journals: a line of each kind read and written back, and each refusal with its line.
 
-use crate::checking::{read, written};
+use crate::checking::{is, read, written};
 use journal_text::JournalFault;
 use std::alloc::{AllocError, Global};
 use std::process::Abort;
@@ -29,19 +29,16 @@ kill 1 -> failed
 ";
 
 /// A text and the last line with a script behind it.
-fn session(alloc: Global, journal: &str, script: &str) -> Result<String, AllocError> {
-    let mut text = String::from_str(alloc, journal)?;
-    text.push_str("script\n")?;
-    text.push_str(script)?;
-    Ok(text)
+fn session(rt: &impl Abort, alloc: Global, journal: &str, script: &str) -> String {
+    format!(in alloc; "{journal}script\n{script}").expect(rt, "a text")
 }
 
 /// A journal is read, and written back as it was.
 fn assert_kept(rt: &impl Abort, alloc: Global, journal: &str) {
-    let text = session(alloc, journal, "(point)").expect(rt, "a text");
+    let text = session(rt, alloc, journal, "(point)");
     let (list, at) = read(rt, alloc, text.as_bytes()).expect(rt, "a journal");
-    assert_eq!(rt; at, journal.len() + 7);
-    assert_eq!(rt; written(rt, alloc, &list).bytes(), journal.as_bytes());
+    is(rt, at, journal.len() + 7);
+    is(rt, written(rt, alloc, &list).bytes(), journal.as_bytes());
 }
 
 #[test]
@@ -79,18 +76,14 @@ fn every_byte(rt: HostRuntime) {
 }
 
 /// A read that gave so many bytes.
-fn long_read(alloc: Global, bytes: u32) -> Result<String, AllocError> {
-    let mut text = String::from_str(alloc, "read 0 -> bytes ")?;
-    for _ in 0..bytes {
-        text.push_str("61")?;
-    }
-    text.push_str("\n")?;
-    Ok(text)
+fn long_read(rt: &impl Abort, alloc: Global, bytes: usize) -> String {
+    let bytes = "61".repeat(alloc, bytes).expect(rt, "a text");
+    format!(in alloc; "read 0 -> bytes {bytes}\n").expect(rt, "a text")
 }
 
 #[test]
 fn a_read_of_4096_bytes(rt: HostRuntime) {
-    let text = long_read(rt.alloc(), 4096).expect(&rt, "a text");
+    let text = long_read(&rt, rt.alloc(), 4096);
     assert_kept(&rt, rt.alloc(), text.as_str());
 }
 
@@ -104,7 +97,7 @@ fn assert_refused(rt: &impl Abort, alloc: Global, text: &str, line: u32) {
 
 #[test]
 fn a_read_of_more_bytes_is_refused(rt: HostRuntime) {
-    let text = long_read(rt.alloc(), 4097).expect(&rt, "a text");
+    let text = long_read(&rt, rt.alloc(), 4097);
     assert_refused(&rt, rt.alloc(), text.as_str(), 1);
 }
 

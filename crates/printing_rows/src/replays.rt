@@ -1,7 +1,7 @@
 //! Replays that follow their list, and that stray from it.
 ghost use Rattle.std.specs.Prelude.{◌≡◌, []};
 
-use crate::checking::{read, written};
+use crate::checking::{is, read, written};
 use ek_types::Mem;
 use host_link::{Host, Spawned};
 use journal_text::Replay;
@@ -50,10 +50,26 @@ fn assert_told(
 ) {
     assert_eq!(rt; replay.matched(), matched);
     assert_eq!(rt; replay.strayed(), strayed);
-    match replay.told() {
-        Some(list) => assert_eq!(rt; written(rt, alloc, list).bytes(), told.as_bytes()),
-        None => panic!(rt; "it tells nothing"),
-    }
+    let Some(list) = replay.told() else {
+        panic!(rt; "it tells nothing");
+    };
+    is(rt, written(rt, alloc, list).bytes(), told.as_bytes());
+}
+
+/// What `run` comes to over the replay of a session.
+fn check_run(
+    rt: &impl Abort,
+    alloc: Global,
+    session: &str,
+    program: &str,
+    room: &mut [u8],
+    matched: usize,
+    strayed: bool,
+    told: &str,
+) {
+    let mut host = replay(rt, alloc, session);
+    run(alloc, &mut host, program, room).expect(rt, "memory");
+    assert_told(rt, alloc, &host, matched, strayed, told);
 }
 
 #[test]
@@ -64,11 +80,9 @@ read 0 -> end
 end 0 -> code 0
 script
 ";
-    let mut host = replay(&rt, rt.alloc(), session);
     let mut room = [0u8; 4];
-    assert!(rt; run(rt.alloc(), &mut host, "cat", &mut room).is_ok());
-    assert_eq!(rt; room.as_slice(), b"ab\x00\x00".as_slice());
-    assert_told(&rt, rt.alloc(), &host, 4, false, RUN);
+    check_run(&rt, rt.alloc(), session, "cat", &mut room, 4, false, RUN);
+    is(&rt, room.as_slice(), b"ab\x00\x00".as_slice());
 }
 
 #[test]
@@ -83,10 +97,8 @@ read 0 -> bytes 6162
 read 0 -> end
 end 0 -> failed
 ";
-    let mut host = replay(&rt, rt.alloc(), session);
     let mut room = [0u8; 4];
-    assert!(rt; run(rt.alloc(), &mut host, "cat", &mut room).is_ok());
-    assert_told(&rt, rt.alloc(), &host, 3, true, told);
+    check_run(&rt, rt.alloc(), session, "cat", &mut room, 3, true, told);
 }
 
 #[test]
@@ -102,19 +114,16 @@ read 0 -> failed
 read 0 -> failed
 end 0 -> failed
 ";
-    let mut host = replay(&rt, rt.alloc(), session);
     let mut room = [0u8; 1];
-    assert!(rt; run(rt.alloc(), &mut host, "cat", &mut room).is_ok());
-    assert_told(&rt, rt.alloc(), &host, 1, true, told);
+    check_run(&rt, rt.alloc(), session, "cat", &mut room, 1, true, told);
 }
 
 #[test]
 fn another_program(rt: HostRuntime) {
     let session = "spawn 636174 -> started 0\nscript\n";
-    let mut host = replay(&rt, rt.alloc(), session);
+    let told = "spawn 626174 -> refused\n";
     let mut room = [0u8; 1];
-    assert!(rt; run(rt.alloc(), &mut host, "bat", &mut room).is_ok());
-    assert_told(&rt, rt.alloc(), &host, 0, true, "spawn 626174 -> refused\n");
+    check_run(&rt, rt.alloc(), session, "bat", &mut room, 0, true, told);
 }
 
 /// A child is started, and its input used and closed.
@@ -130,6 +139,20 @@ fn feed<H: Host>(alloc: Global, host: &mut H) -> Mem<()>
     Ok(())
 }
 
+/// What `feed` comes to over the replay of a session.
+fn check_feed(
+    rt: &impl Abort,
+    alloc: Global,
+    session: &str,
+    matched: usize,
+    strayed: bool,
+    told: &str,
+) {
+    let mut host = replay(rt, alloc, session);
+    feed(alloc, &mut host).expect(rt, "memory");
+    assert_told(rt, alloc, &host, matched, strayed, told);
+}
+
 #[test]
 fn a_close_that_strays(rt: HostRuntime) {
     let session = "spawn 636174 -> started 0\nkill 0 -> killed\nscript\n";
@@ -138,9 +161,7 @@ close 0 -> closed
 send 0 78 -> broken
 kill 0 -> failed
 ";
-    let mut host = replay(&rt, rt.alloc(), session);
-    assert!(rt; feed(rt.alloc(), &mut host).is_ok());
-    assert_told(&rt, rt.alloc(), &host, 1, true, told);
+    check_feed(&rt, rt.alloc(), session, 1, true, told);
 }
 
 #[test]
@@ -156,7 +177,5 @@ close 0 -> closed
 send 0 78 -> sent
 kill 0 -> killed
 ";
-    let mut host = replay(&rt, rt.alloc(), session);
-    assert!(rt; feed(rt.alloc(), &mut host).is_ok());
-    assert_told(&rt, rt.alloc(), &host, 4, false, told);
+    check_feed(&rt, rt.alloc(), session, 4, false, told);
 }

@@ -3,7 +3,7 @@ ghost use Rattle.std.specs.Prelude.{IfOk};
 ghost use Rattle.host_link.specs.Meaning.{exchanges_of};
 ghost use Rattle.journal_text.specs.Allowed.{AreAnswered};
 
-use crate::checking::written;
+use crate::checking::{is, written};
 use journal_text::{JournalFault, LONGEST_SESSION, Transcript, read_transcript};
 use std::alloc::Global;
 use std::process::Abort;
@@ -43,11 +43,9 @@ fn the_parts_of_a_transcript(rt: HostRuntime) {
     text.push_str("lines 8\n= t\n= 1\nscript\n(point)")
         .expect(&rt, "a text");
     assert_parts(&rt, alloc, text.as_str(), "= t\n= 1\n", "(point)");
-    let Ok(found) = read(&rt, alloc, text.as_str()) else {
-        panic!(&rt; "no transcript");
-    };
+    let found = read(&rt, alloc, text.as_str()).expect(&rt, "a transcript");
     let journal = written(&rt, alloc, &found.journal);
-    assert_eq!(&rt; journal.bytes(), JOURNAL.as_bytes());
+    is(&rt, journal.bytes(), JOURNAL.as_bytes());
 }
 
 #[test]

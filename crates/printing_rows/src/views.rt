@@ -1,12 +1,13 @@
 //! Views: buffers with overlays, worked out by hand, and a sink that fails.
 
-use crate::checking::{PRIORITY, new_sink, put};
+use crate::checking::{
+    PRIORITY, chars, fill, is, narrow, new_sink, paint, plain, put, with, wrote,
+};
 use buffer_table::Editor;
-use ek_types::{Ch, Chars, Mem, Piece, PropSet, PropVal, Sym};
+use ek_types::{Ch, MemorySink, Piece, PropSet, PropVal, Sym};
 use final_view::{ViewFault, view};
 use std::alloc::Global;
 use std::process::Abort;
-use std::slice;
 
 const INVISIBLE: Sym = Sym(11);
 
@@ -35,73 +36,78 @@ struct Row {
     seen: &'static str,
 }
 
-fn chars(alloc: Global, text: &str) -> Mem<Chars> {
-    let mut chars = Chars::new(alloc);
-    for c in text.chars() {
-        chars.push(Ch::Scalar(c))?;
-    }
-    Ok(chars)
-}
-
 fn put_string(rt: &impl Abort, alloc: Global, editor: &mut Editor, k: u32, name: Sym, text: &str) {
     if !text.is_empty() {
-        let text = chars(alloc, text).expect(rt, "a string");
-        put(rt, editor, k, name, &PropVal::Text(text));
+        put(rt, editor, k, name, &PropVal::Text(chars(rt, alloc, text)));
+    }
+}
+
+/// An overlay of the first buffer.
+fn overlay(rt: &impl Abort, editor: &mut Editor, start: usize, end: usize) -> u32 {
+    let size = editor.size(0);
+    assert!(rt; editor.overlay_count() < 99 && editor.is_live(0));
+    assert!(rt; start <= end && end <= size);
+    editor
+        .make_overlay(0, start, end, false, false)
+        .expect(rt, "an overlay")
+}
+
+fn put_priority(rt: &impl Abort, editor: &mut Editor, k: u32, priority: i64) {
+    if priority != 0 {
+        put(rt, editor, k, PRIORITY, &PropVal::Int(priority));
+    }
+}
+
+fn hide_below(rt: &impl Abort, editor: &mut Editor, k: u32, hides: bool) {
+    if hides {
+        put(rt, editor, k, INVISIBLE, &PropVal::Truth);
     }
 }
 
 fn lay(rt: &impl Abort, alloc: Global, editor: &mut Editor, laid: &Laid) {
-    let size = editor.size(0);
-    assert!(rt; editor.overlay_count() < 99 && editor.is_live(0));
-    assert!(rt; laid.start <= laid.end && laid.end <= size);
-    let k = editor
-        .make_overlay(0, laid.start, laid.end, false, false)
-        .expect(rt, "an overlay");
-    if laid.priority != 0 {
-        put(rt, editor, k, PRIORITY, &PropVal::Int(laid.priority));
-    }
-    if laid.hides {
-        put(rt, editor, k, INVISIBLE, &PropVal::Truth);
-    }
+    let k = overlay(rt, editor, laid.start, laid.end);
+    put_priority(rt, editor, k, laid.priority);
+    hide_below(rt, editor, k, laid.hides);
     put_string(rt, alloc, editor, k, BEFORE_STRING, laid.before);
     put_string(rt, alloc, editor, k, AFTER_STRING, laid.after);
 }
 
-fn hide(alloc: Global, text: &mut Piece, part: (usize, usize)) -> Mem<()> {
-    if part.0 <= part.1 && part.1 <= text.len() {
-        let set = PropSet::empty(alloc).with(INVISIBLE, &PropVal::Truth)?;
-        text.put(part.0, part.1, &set)?;
+/// The text of a row, of which a part is invisible.
+fn text(rt: &impl Abort, alloc: Global, row: &Row) -> Piece {
+    let mut text = plain(rt, alloc, row.text);
+    let set = with(rt, &PropSet::empty(alloc), INVISIBLE, &PropVal::Truth);
+    paint(rt, &mut text, row.invisible.0, row.invisible.1, &set);
+    text
+}
+
+/// Furnishes a new editor as a row says.
+fn furnish(rt: &impl Abort, alloc: Global, editor: &mut Editor, row: &Row) {
+    fill(rt, editor, 0, &text(rt, alloc, row));
+    for laid in row.overlays {
+        lay(rt, alloc, editor, laid);
     }
-    Ok(())
+    narrow(rt, editor, 0, row.accessible.0, row.accessible.1);
 }
 
 /// The editor of a row.
 fn furnished(rt: &impl Abort, alloc: Global, row: &Row) -> Editor {
     let mut editor = Editor::new(alloc).expect(rt, "an editor");
-    let mut text = Piece::plain(alloc, chars(alloc, row.text).expect(rt, "a text"));
-    hide(alloc, &mut text, row.invisible).expect(rt, "a set");
+    furnish(rt, alloc, &mut editor, row);
+    editor
+}
+
+/// Views the first buffer.
+fn view_first(rt: &impl Abort, editor: &Editor, sink: &mut MemorySink) -> Result<(), ViewFault> {
     assert!(rt; editor.is_live(0));
-    editor
-        .replace(0, 0, 0, slice::from_ref(&text), false)
-        .expect(rt, "room");
-    for laid in row.overlays {
-        lay(rt, alloc, &mut editor, laid);
-    }
-    let size = editor.size(0);
-    let (start, end) = row.accessible;
-    assert!(rt; editor.is_live(0) && start <= end && end <= size);
-    editor.narrow(0, start, end);
-    editor
+    view(editor, 0, sink)
 }
 
 fn check(rt: &impl Abort, alloc: Global, row: &Row) {
     let editor = furnished(rt, alloc, row);
     let mut sink = new_sink(rt, alloc, 99, 2);
-    assert!(rt; editor.is_live(0));
-    let written = view(&editor, 0, &mut sink);
+    let written = view_first(rt, &editor, &mut sink);
     editor.close();
-    assert!(rt; written.is_ok());
-    assert_eq!(rt; sink.bytes(), row.seen.as_bytes());
+    wrote(rt, &sink, written, row.seen.as_bytes());
 }
 
 const HIDDEN_LETTERS: Row = Row {
@@ -356,12 +362,9 @@ fn strings_on_hidden_text(rt: HostRuntime) {
 fn all_lengths_and_other_values(rt: HostRuntime) {
     let alloc = rt.alloc();
     let mut editor = Editor::new(alloc).expect(&rt, "an editor");
-    let mut text = chars(alloc, "aé€😀").expect(&rt, "a text");
+    let mut text = chars(&rt, alloc, "aé€😀");
     text.push(Ch::Raw(0xFF)).expect(&rt, "room");
-    assert!(rt; editor.is_live(0));
-    editor
-        .replace(0, 0, 0, &[Piece::plain(alloc, text)], false)
-        .expect(&rt, "room");
+    fill(&rt, &mut editor, 0, &Piece::plain(alloc, text));
     lay(
         &rt,
         alloc,
@@ -378,13 +381,13 @@ fn all_lengths_and_other_values(rt: HostRuntime) {
     put(&rt, &mut editor, 0, BEFORE_STRING, &PropVal::Int(7));
     put(&rt, &mut editor, 0, AFTER_STRING, &PropVal::Truth);
     let mut sink = new_sink(&rt, alloc, 99, 3);
-    assert!(rt; editor.is_live(0));
-    let written = view(&editor, 0, &mut sink);
+    let written = view_first(&rt, &editor, &mut sink);
     editor.close();
-    assert!(rt; written.is_ok());
-    assert_eq!(rt;
-        sink.bytes(),
-        b"a\xC3\xA9\xE2\x82\xAC\xF0\x9F\x98\x80\xFF".as_slice()
+    wrote(
+        &rt,
+        &sink,
+        written,
+        b"a\xC3\xA9\xE2\x82\xAC\xF0\x9F\x98\x80\xFF",
     );
 }
 
@@ -393,9 +396,8 @@ fn a_sink_that_fails_has_a_front(rt: HostRuntime) {
     let alloc = rt.alloc();
     let editor = furnished(&rt, alloc, &HIDDEN_LETTERS);
     let mut sink = new_sink(&rt, alloc, 4, 2);
-    assert!(rt; editor.is_live(0));
-    let written = view(&editor, 0, &mut sink);
+    let written = view_first(&rt, &editor, &mut sink);
     editor.close();
-    assert!(rt; written == Err(ViewFault::Sink));
-    assert_eq!(rt; sink.bytes(), b"ad[e".as_slice());
+    is(&rt, written, Err(ViewFault::Sink));
+    is(&rt, sink.bytes(), b"ad[e".as_slice());
 }

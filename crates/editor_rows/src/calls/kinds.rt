@@ -150,17 +150,29 @@ const CALLS: [(Prim, &[Place]); 57] = [
     (UndoMore, &[NUMBER]),
 ];
 
+/// One more argument, a sample.
+fn put_sample(args: &mut Values, sample: usize) -> Mem<()> {
+    if let Some(word) = SAMPLES.get(sample) {
+        args.push(value(args.allocator(), word)?)?;
+    }
+    Ok(())
+}
+
 /// The arguments of a call: a sample in one place, and a good one in each other.
-fn arguments(alloc: Global, places: &[Place], tried: usize, sample: usize) -> Mem<Values> {
+fn arguments(
+    rt: &impl Abort,
+    alloc: Global,
+    places: &[Place],
+    tried: usize,
+    sample: usize,
+) -> Values {
     let mut args = Values::new(alloc);
     for (i, place) in places.iter().enumerate() {
         let good = place.first().copied().unwrap_or(0);
         let chosen = if i == tried { sample } else { good };
-        if let Some(word) = SAMPLES.get(chosen) {
-            args.push(value(alloc, word)?)?;
-        }
+        put_sample(&mut args, chosen).expect(rt, "an argument");
     }
-    Ok(args)
+    args
 }
 
 /// An editor with the objects among the samples.
@@ -188,7 +200,7 @@ fn refused(
     i: usize,
     sample: usize,
 ) -> Option<Fault> {
-    let args = arguments(alloc, places, i, sample).expect(rt, "arguments");
+    let args = arguments(rt, alloc, places, i, sample);
     let mut editor = set_up(rt, alloc);
     let reply = reply(&mut editor, prim, &args).expect(rt, "a reply");
     editor.close();
@@ -227,18 +239,30 @@ fn is_buffer(place: Place) -> bool {
     place.contains(&8) && place.contains(&5) && !place.contains(&1)
 }
 
+/// Whether a call takes such a sample though it stands for nothing.
+fn takes_nothing(prim: Prim, place: Place) -> bool {
+    prim == GetBuffer || prim == CopyMarker || prim == SetMarker && is_position(place)
+}
+
+const GONE_POSITION: [(usize, Fault); 1] = [(NOWHERE, Fault::ArgsOutOfRange)];
+
+const GONE_BUFFERS: [(usize, Fault); 2] = [
+    (KILLED, Fault::BufferKilled),
+    (UNKNOWN, Fault::NoSuchBuffer),
+];
+
 /// The samples that a place takes by their kind, and the fault of each all the same.
 fn dead(prim: Prim, place: Place) -> &'static [(usize, Fault)] {
-    match prim {
-        GetBuffer | CopyMarker => &[],
-        SetMarker if is_position(place) => &[],
-        _ if is_position(place) => &[(NOWHERE, Fault::ArgsOutOfRange)],
-        _ if is_buffer(place) => &[
-            (KILLED, Fault::BufferKilled),
-            (UNKNOWN, Fault::NoSuchBuffer),
-        ],
-        _ => &[],
+    if takes_nothing(prim, place) {
+        return &[];
     }
+    if is_position(place) {
+        return &GONE_POSITION;
+    }
+    if is_buffer(place) {
+        return &GONE_BUFFERS;
+    }
+    &[]
 }
 
 /// A place of a call refuses what isn't there any more by its fault.

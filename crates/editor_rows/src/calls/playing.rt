@@ -30,21 +30,44 @@ pub fn make(editor: &mut Editor, prepared: Prepared) -> Mem<Reply> {
     }
 }
 
+/// The buffer that is the first argument.
+fn first_buffer(args: &Values) -> Option<u32> {
+    match args.as_slice() {
+        [Value::Buffer(id), ..] => Some(*id),
+        _ => None,
+    }
+}
+
 /// Kills a buffer, which is no call of this crate.
 fn kill(editor: &mut Editor, args: &Values) -> Mem<Reply> {
-    if args.len() > 0 {
-        if let Value::Buffer(id) = args.at(0) {
-            if editor.is_live(*id) && editor.count() < 256 {
-                editor.kill(*id)?;
-                return Ok(Reply::Value(Value::T));
-            }
-        }
+    let Some(id) = first_buffer(args) else {
+        return Ok(Reply::Fault(Fault::BufferKilled));
+    };
+    if !editor.is_live(id) || editor.count() >= 256 {
+        return Ok(Reply::Fault(Fault::BufferKilled));
     }
-    Ok(Reply::Fault(Fault::BufferKilled))
+    editor.kill(id)?;
+    Ok(Reply::Value(Value::T))
 }
 
 fn is_wrong_type(reply: &Reply) -> bool {
     matches!(reply, Reply::Fault(Fault::WrongType))
+}
+
+/// The reply of a call that may change texts.
+fn change(editor: &mut Editor, prim: Prim, args: &Values) -> Mem<Reply> {
+    let prepared = prepare(editor, prim, args)?;
+    make(editor, prepared)
+}
+
+/// The reply of a call that is no question.
+fn set_or_change(editor: &mut Editor, prim: Prim, args: &Values) -> Mem<Reply> {
+    let set = apply(editor, prim, args)?;
+    if is_wrong_type(&set) {
+        change(editor, prim, args)
+    } else {
+        Ok(set)
+    }
 }
 
 /// The reply of a call of any kind: each of the three tables refuses the calls of the others as a wrong type.
@@ -53,15 +76,11 @@ pub fn reply(editor: &mut Editor, prim: Prim, args: &Values) -> Mem<Reply> {
         return kill(editor, args);
     }
     let asked = query(editor, prim, args)?;
-    if !is_wrong_type(&asked) {
-        return Ok(asked);
+    if is_wrong_type(&asked) {
+        set_or_change(editor, prim, args)
+    } else {
+        Ok(asked)
     }
-    let set = apply(editor, prim, args)?;
-    if !is_wrong_type(&set) {
-        return Ok(set);
-    }
-    let prepared = prepare(editor, prim, args)?;
-    make(editor, prepared)
 }
 
 /// What a call replies, as a text.

@@ -62,25 +62,36 @@ pub enum Word {
     Process(u32),
 }
 
-pub fn chars(alloc: Global, text: &str) -> Mem<Chars> {
-    let mut chars = Chars::new(alloc);
+fn put_chars(chars: &mut Chars, text: &str) -> Mem<()> {
     for c in text.chars() {
         chars.push(Ch::Scalar(c))?;
     }
+    Ok(())
+}
+
+pub fn chars(alloc: Global, text: &str) -> Mem<Chars> {
+    let mut chars = Chars::new(alloc);
+    put_chars(&mut chars, text)?;
     Ok(chars)
 }
 
-fn plain(alloc: Global, text: &str) -> Mem<Piece> {
+/// A string without properties.
+pub fn plain(alloc: Global, text: &str) -> Mem<Piece> {
     Ok(Piece::plain(alloc, chars(alloc, text)?))
 }
 
-fn symbols(alloc: Global, words: &[Word]) -> Mem<SymList> {
-    let mut names = SymList::new(alloc);
+fn put_symbols(names: &mut SymList, words: &[Word]) -> Mem<()> {
     for word in words {
         if let Word::Sym(number) = word {
             names.push(Sym(*number))?;
         }
     }
+    Ok(())
+}
+
+fn symbols(alloc: Global, words: &[Word]) -> Mem<SymList> {
+    let mut names = SymList::new(alloc);
+    put_symbols(&mut names, words)?;
     Ok(names)
 }
 

@@ -1,5 +1,5 @@
 //! A buffer with its pool.
-ghost use Rattle.std.specs.Prelude.{◌≡◌};
+ghost use Rattle.std.specs.Prelude.{◌≡◌, ◌<◌, length};
 
 use buffer_core::{Buffer, Marks};
 use ek_types::{Ch, Chars, Piece, PropSet, PropVal, Sym};
@@ -48,6 +48,18 @@ pub fn plain(rt: &impl Abort, alloc: Global, text: &str) -> Piece {
         chars.push(Ch::Scalar(c)).expect(rt, "a character");
     }
     Piece::plain(alloc, chars)
+}
+
+/// Writes a character, and its face if it has one.
+fn put_shown(rt: &impl Abort, text: &mut String, piece: &Piece, i: usize)
+    requires { i < length piece.now }
+{
+    if let Ch::Scalar(c) = piece.ch(i) {
+        text.push(c).expect(rt, "room");
+    }
+    if let Some(PropVal::Int(face)) = piece.props(i).get(FACE) {
+        write!(text, "{face}").expect(rt, "room");
+    }
 }
 
 impl Scene {
@@ -166,23 +178,21 @@ impl Scene {
         self.buffer.text().len()
     }
 
-    /// The text, with a face behind each character that has one.
-    pub fn shown(&self, rt: &impl Abort) -> String {
+    /// The whole text with its properties.
+    fn piece(&self, rt: &impl Abort) -> Piece {
         let _bounds = self.buffer.bounds();
         let size = self.buffer.text().len();
-        let piece = self
-            .buffer
+        self.buffer
             .substring(0, size, &self.pool)
-            .expect(rt, "a text");
+            .expect(rt, "a text")
+    }
+
+    /// The text, with a face behind each character that has one.
+    pub fn shown(&self, rt: &impl Abort) -> String {
+        let piece = self.piece(rt);
         let mut text = String::new(self.alloc);
         for i in 0..piece.len() {
-            if let Ch::Scalar(c) = piece.ch(i) {
-                text.push(c).expect(rt, "room");
-            }
-            if let Some(PropVal::Int(face)) = piece.props(i).get(FACE) {
-                let face = format!(in self.alloc; "{face}").expect(rt, "a number");
-                text.push_str(face.as_str()).expect(rt, "room");
-            }
+            put_shown(rt, &mut text, &piece, i);
         }
         text
     }
