@@ -1,5 +1,5 @@
 //! What a kernel does besides, where the answers of children are told.
-ghost use Rattle.std.specs.Prelude.{◌≡◌, true, IfOk};
+ghost use Rattle.std.specs.Prelude.{◌≡◌, true, IfOk, OnErr};
 ghost use Rattle.plain_machine.specs.Forms.{popped};
 ghost use Rattle.plain_machine.specs.Arguments.{is_running};
 ghost use Rattle.plain_machine.specs.Refusals.{may_ask};
@@ -16,15 +16,18 @@ pub trait Stepped: Kernel {
     fn forget_kept(&mut self)
         ensures { Self.state self.new ≡ popped (Self.state self.old) };
 
-    /// Process `p` gave this answer about its output, or about its end once its output has ended.
+    /// Process `p` gave this answer about its output, or about its end once its output has ended. A refusal
+    /// leaves all as it was.
     fn take_answer(&mut self, p: u32, answer: &Answer) -> Mem<Heard>
         requires asked { may_ask (Self.state self.old) ≡ true }
         requires allowed { IsAllowed (Self.state self.old) p (answer_of answer.now) }
-        ensures { IfOk result (HearsAnswer (Self.state self.old) (Self.state self.new) p
-            (answer_of answer.now)) };
+        ensures ok { IfOk result (HearsAnswer (Self.state self.old) (Self.state self.new) p
+            (answer_of answer.now)) }
+        ensures err { OnErr result (Self.state self.new ≡ Self.state self.old) };
 
-    /// Process `p`, which runs, was killed.
+    /// Process `p`, which runs, was killed. A refusal leaves all as it was.
     fn take_kill(&mut self, p: u32) -> Mem<Entry>
         requires { is_running (Self.state self.old) p ≡ true }
-        ensures { IfOk result (IsKilled (Self.state self.old) (Self.state self.new) p) };
+        ensures ok { IfOk result (IsKilled (Self.state self.old) (Self.state self.new) p) }
+        ensures err { OnErr result (Self.state self.new ≡ Self.state self.old) };
 }
