@@ -244,9 +244,14 @@ kill {k}: killed
 impl Nest {
     /// The margin of a round's filter, and for the number of rounds that of what is inside them all.
     fn margin(&self, rt: &impl Abort, alloc: Global, round: u8) -> String {
-        let outside = usize::from(round.saturating_sub(self.first));
-        "  ".repeat(alloc, usize::from(self.depth) + 3 * outside)
-            .expect(rt, "memory")
+        let mut margin = String::new(alloc);
+        for _ in 0..self.depth {
+            margin.push_str("  ").expect(rt, "memory");
+        }
+        for _ in self.first..round {
+            margin.push_str("      ").expect(rt, "memory");
+        }
+        margin
     }
 
     /// The lines of the markers, none of which stands anywhere, and of the processes.
