@@ -1,80 +1,124 @@
 ghost use Rattle.std.specs.Prelude.{◌≡◌, ◌^◌, ◌≤◌, [], Some, length, IfOk};
 
 use super::*;
-use ek_types::{ListOf, MemorySink, MemorySource};
-use host_link::{Answer, Host, MemoryHost, Play};
+use ek_types::{ListOf, Mem, MemorySink, MemorySource};
+use host_link::{Answer, Answers, Host, MemoryHost, Play};
 use kernel_top::Status;
 use std::alloc::Global;
-use std::test::Fail;
+use std::process::{Abort, Processes};
+
+/// What a run came to: its status and what it wrote.
+#[derive(Drop)]
+struct Wrote {
+    status: Status,
+    bytes: Vec<u8>,
+}
+
+fn given(rt: &impl Abort, alloc: Global, words: &[&str]) -> Vec<String> {
+    let mut given = Vec::new(alloc);
+    for word in words {
+        given
+            .push(String::from_str(alloc, word).expect(rt, "memory"))
+            .expect(rt, "memory");
+    }
+    given
+}
 
 /// What some words with the shipped handlers write for some bytes, over a host that has started no child.
 fn written_by<H: Host>(
+    rt: &impl Abort,
     alloc: Global,
     words: &[&str],
     bytes: &[u8],
     host: &mut H,
-) -> Result<(Status, Vec<u8>), Fail>
+) -> Wrote
     requires few { length (H.state host.old).kills ≤ 2 ^ 31 }
     requires told { (H.state host.old).told ≡ Some [] }
 {
-    let mut given = Vec::new(alloc);
-    for word in words {
-        given.push(String::from_str(alloc, word)?)?;
-    }
-    let bytes = bytes.to_vec(alloc)?;
+    let given = given(rt, alloc, words);
+    let bytes = bytes.to_vec(alloc).expect(rt, "memory");
     let mut source = MemorySource::new(bytes, 1000, Vec::new(alloc));
-    let mut sink = MemorySink::new(alloc, 4_000_000, 1000, Vec::new(alloc))?;
-    let status = run_shipped(alloc, given.as_slice(), &mut source, &mut sink, host)?;
-    Ok((status, sink.bytes().to_vec(alloc)?))
+    let mut sink = MemorySink::new(alloc, 4_000_000, 1000, Vec::new(alloc)).expect(rt, "memory");
+    let status = run_shipped(alloc, given.as_slice(), &mut source, &mut sink, host).expect(
+        rt, "memory",
+    );
+    Wrote {
+        status,
+        bytes: sink.bytes().to_vec(alloc).expect(rt, "memory"),
+    }
 }
 
-/// What a run with the shipped handlers writes.
-fn written_over<H: Host>(
+/// What some words write over real children.
+fn written_with<R: Processes + Abort>(
+    rt: &R,
     alloc: Global,
-    script: &str,
-    host: &mut H,
-) -> Result<(Status, Vec<u8>), Fail>
-    requires few { length (H.state host.old).kills ≤ 2 ^ 31 }
-    requires told { (H.state host.old).told ≡ Some [] }
-{
-    written_by(alloc, &["run"], script.as_bytes(), host)
+    words: &[&str],
+    bytes: &[u8],
+) -> Wrote {
+    let nowhere = Output::new(alloc, io::sink()).expect(rt, "an output");
+    let mut host = Recorder::new(alloc, RealHost::new(alloc, rt, &nowhere));
+    written_by(rt, alloc, words, bytes, &mut host)
 }
 
 /// What a run with real children writes.
-fn written(rt: &HostRuntime, script: &str) -> Result<(Status, Vec<u8>), Fail> {
-    let nowhere = Output::new(rt.alloc(), io::sink())?;
-    let mut host = Recorder::new(rt.alloc(), RealHost::new(rt.alloc(), rt, &nowhere));
-    written_over(rt.alloc(), script, &mut host)
+fn written<R: Processes + Abort>(rt: &R, alloc: Global, script: &str) -> Wrote {
+    written_with(rt, alloc, &["run"], script.as_bytes())
+}
+
+/// What a run writes over one child.
+fn written_over(rt: &impl Abort, alloc: Global, pieces: &[&[u8]], script: &str) -> Wrote {
+    let mut host = one_child(alloc, pieces).expect(rt, "memory");
+    written_by(rt, alloc, &["run"], script.as_bytes(), &mut host)
 }
 
 /// One child whose reads give these bytes. Then its output has ended, and so has the child, with code 0.
-fn one_child(alloc: Global, pieces: &[&[u8]]) -> Result<MemoryHost, Fail>
+fn one_child(alloc: Global, pieces: &[&[u8]]) -> Mem<MemoryHost>
     ensures kills { IfOk result (λ host. host.kills ≡ []) }
     ensures told { IfOk result (λ host. host.told ≡ []) }
 {
     let mut reads = ListOf::new(alloc);
-    for piece in pieces {
-        let mut heard = ListOf::new(alloc);
-        for byte in *piece {
-            heard.push(*byte)?;
-        }
-        reads.push(Answer::Bytes(heard))?;
-    }
+    push_reads(alloc, pieces, &mut reads)?;
     let ends = ListOf::new(alloc);
     let mut plays = Vec::new(alloc);
     plays.push(Play { reads, ends })?;
     Ok(MemoryHost::new(plays, Vec::new(alloc)))
 }
 
+fn push_reads(alloc: Global, pieces: &[&[u8]], reads: &mut Answers) -> Mem<()> {
+    for piece in pieces {
+        let mut heard = ListOf::new(alloc);
+        push_bytes(piece, &mut heard)?;
+        reads.push(Answer::Bytes(heard))?;
+    }
+    Ok(())
+}
+
+fn push_bytes(piece: &[u8], heard: &mut ListOf<u8>) -> Mem<()> {
+    for byte in piece {
+        heard.push(*byte)?;
+    }
+    Ok(())
+}
+
+/// The run is done.
+fn is_done(rt: &impl Abort, wrote: &Wrote) {
+    assert_eq!(rt; wrote.status, Status::Done);
+}
+
+/// The run is done and has written this.
+fn comes_to(rt: &impl Abort, wrote: &Wrote, bytes: &[u8]) {
+    is_done(rt, wrote);
+    assert_eq!(rt; wrote.bytes.as_slice(), bytes);
+}
+
 #[test]
-fn the_shipped_filter_inserts_by_calls(rt: HostRuntime) -> Result<(), Fail> {
+fn the_shipped_filter_inserts_by_calls(rt: HostRuntime) {
     let script = r#"(setq p (start-process "c" "out" "cat"))
 (set-process-filter p 'insert-filter)(accept-process-output p)"#;
-    let mut host = one_child(rt.alloc(), &[b"hi"])?;
-    let (status, bytes) = written_over(rt.alloc(), script, &mut host)?;
-    assert_eq!(rt; status, Status::Done);
-    assert_eq!(rt;
-        bytes.as_slice(),
+    let wrote = written_over(&rt, rt.alloc(), &[b"hi"], script);
+    comes_to(
+        &rt,
+        &wrote,
         br#"= #<process c>
 = insert-filter
 > filter insert-filter #<process c> "hi"
@@ -97,20 +141,18 @@ text "hi"
 marker 0 #<marker at 3 in out>
 process 0 #<process c> run 0
 "#
-            .as_slice()
+            .as_slice(),
     );
-    Ok(())
 }
 
 #[test]
-fn the_shipped_sentinel_notes_an_end(rt: HostRuntime) -> Result<(), Fail> {
+fn the_shipped_sentinel_notes_an_end(rt: HostRuntime) {
     let script = r#"(setq p (start-process "c" nil "cat"))
 (set-process-sentinel p 'note-sentinel)(accept-process-output p)"#;
-    let mut host = one_child(rt.alloc(), &[])?;
-    let (status, bytes) = written_over(rt.alloc(), script, &mut host)?;
-    assert_eq!(rt; status, Status::Done);
-    assert_eq!(rt;
-        bytes.as_slice(),
+    let wrote = written_over(&rt, rt.alloc(), &[], script);
+    comes_to(
+        &rt,
+        &wrote,
         br#"= #<process c>
 = note-sentinel
 > sentinel note-sentinel #<process c> "finished\n"
@@ -128,19 +170,18 @@ text "finished\n"
 marker 0 #<marker in no buffer>
 process 0 #<process c> exit 0
 "#
-            .as_slice()
+            .as_slice(),
     );
-    Ok(())
 }
 
 #[test]
-fn a_child_is_heard_out(rt: HostRuntime) -> Result<(), Fail> {
+fn a_child_is_heard_out(rt: HostRuntime) {
     let script =
         "(start-process \"c\" \"*scratch*\" \"printf\" \"ab\")(accept-process-output)(accept-process-output)";
-    let (status, bytes) = written(&rt, script)?;
-    assert_eq!(rt; status, Status::Done);
-    assert_eq!(rt;
-        bytes.as_slice(),
+    let wrote = written(&rt, rt.alloc(), script);
+    comes_to(
+        &rt,
+        &wrote,
         b"= #<process c>
 > filter default #<process c> \"ab\"
 < default
@@ -153,9 +194,8 @@ text \"ab\\nProcess c finished\\n\"
 marker 0 #<marker at 23 in *scratch*>
 process 0 #<process c> exit 0
 "
-            .as_slice()
+            .as_slice(),
     );
-    Ok(())
 }
 
 /// Shells with no output: their scripts, what the sentinel is told, the end of the text, and how they ended.
@@ -170,14 +210,14 @@ const SILENT: [(&str, &str, &str, &str); 3] = [
     ("kill -9 $$", "killed", "19", "signal nil"),
 ];
 
-#[test]
-fn an_end_is_told(rt: HostRuntime) -> Result<(), Fail> {
-    for (shell, told, end, ended) in SILENT {
-        let script = format!(in rt.alloc();
-            "(start-process \"c\" \"*scratch*\" \"sh\" \"-c\" \"{shell}\")(accept-process-output)"
-        )?;
-        let want = format!(in rt.alloc();
-            "= #<process c>
+/// A shell with no output is heard out, and its end told.
+fn is_told<R: Processes + Abort>(rt: &R, alloc: Global, case: (&str, &str, &str, &str)) {
+    let (shell, told, end, ended) = case;
+    let script = format!(in alloc;
+        "(start-process \"c\" \"*scratch*\" \"sh\" \"-c\" \"{shell}\")(accept-process-output)"
+    ).expect(rt, "memory");
+    let want = format!(in alloc;
+        "= #<process c>
 > sentinel default #<process c> \"{told}\\n\"
 < default
 = nil
@@ -186,20 +226,29 @@ text \"\\nProcess c {told}\\n\"
 marker 0 #<marker at {end} in *scratch*>
 process 0 #<process c> {ended}
 "
-        )?;
-        let (status, bytes) = written(&rt, script.as_str())?;
-        assert_eq!(rt; status, Status::Done, "{shell}");
-        assert_eq!(rt; bytes.as_slice(), want.as_bytes(), "{shell}");
-    }
-    Ok(())
+    )
+    .expect(rt, "memory");
+    let wrote = written(rt, alloc, script.as_str());
+    comes_to(rt, &wrote, want.as_bytes());
 }
 
 #[test]
-fn a_child_that_is_not_waited_for_is_killed(rt: HostRuntime) -> Result<(), Fail> {
-    let (status, bytes) = written(&rt, "(start-process \"c\" nil \"yes\")(insert \"a\")")?;
-    assert_eq!(rt; status, Status::Done);
-    assert_eq!(rt;
-        bytes.as_slice(),
+fn an_end_is_told(rt: HostRuntime) {
+    for case in SILENT {
+        is_told(&rt, rt.alloc(), case);
+    }
+}
+
+#[test]
+fn a_child_that_is_not_waited_for_is_killed(rt: HostRuntime) {
+    let wrote = written(
+        &rt,
+        rt.alloc(),
+        "(start-process \"c\" nil \"yes\")(insert \"a\")",
+    );
+    comes_to(
+        &rt,
+        &wrote,
         b"= #<process c>
 = nil
 kill #<process c>
@@ -208,90 +257,111 @@ text \"a\"
 marker 0 #<marker in no buffer>
 process 0 #<process c> run 0
 "
-            .as_slice()
+            .as_slice(),
     );
-    Ok(())
 }
 
 #[test]
-fn a_program_that_is_not_there_leaves_no_process(rt: HostRuntime) -> Result<(), Fail> {
+fn a_program_that_is_not_there_leaves_no_process(rt: HostRuntime) {
     let script =
         "(start-process \"c\" \"*scratch*\" \"no-such-program\")(accept-process-output)(accept-process-output nil 1)";
-    let (status, bytes) = written(&rt, script)?;
-    assert_eq!(rt; status, Status::Done);
-    assert_eq!(rt;
-        bytes.as_slice(),
+    let wrote = written(&rt, rt.alloc(), script);
+    comes_to(
+        &rt,
+        &wrote,
         b"! 12 spawn-failed
 = nil
 = nil
 buffer *scratch* point 1 min 1 max 1 modified nil current
 text \"\"
 "
-            .as_slice()
+            .as_slice(),
     );
-    Ok(())
+}
+
+fn push(rt: &impl Abort, text: &mut String, more: &str) {
+    text.push_str(more).expect(rt, "memory");
 }
 
 /// How the child's output is cut is not known, so the text of the buffer alone is compared.
 #[test]
-fn a_long_output_is_read_to_its_end(rt: HostRuntime) -> Result<(), Fail> {
-    let mut script = String::from_str(
-        rt.alloc(),
+fn a_long_output_is_read_to_its_end(rt: HostRuntime) {
+    let mut script = String::new(rt.alloc());
+    push(
+        &rt,
+        &mut script,
         "(start-process \"c\" \"*scratch*\" \"printf\" \"%1048576s\")",
-    )?;
+    );
     for _ in 0..1000 {
-        script.push_str("(accept-process-output)")?;
+        push(&rt, &mut script, "(accept-process-output)");
     }
-    let mut want = String::from_str(
-        rt.alloc(),
+    let mut want = String::new(rt.alloc());
+    push(
+        &rt,
+        &mut want,
         "buffer *scratch* point 1048597 min 1 max 1048597 modified t current\ntext \"",
-    )?;
-    want.push_str(" ".repeat(rt.alloc(), 1_048_576)?.as_str())?;
-    want.push_str(
+    );
+    for _ in 0..1_048_576 {
+        push(&rt, &mut want, " ");
+    }
+    push(
+        &rt,
+        &mut want,
         "\\nProcess c finished\\n\"\nmarker 0 #<marker at 1048597 in *scratch*>\nprocess 0 #<process c> exit 0\n",
-    )?;
-    let (status, bytes) = written(&rt, script.as_str())?;
-    assert_eq!(rt; status, Status::Done);
-    assert!(rt; bytes.ends_with(want.as_bytes()));
-    Ok(())
+    );
+    let wrote = written(&rt, rt.alloc(), script.as_str());
+    is_done(&rt, &wrote);
+    assert!(rt; wrote.bytes.ends_with(want.as_bytes()));
+}
+
+/// The lines of the run whose session is replayed below.
+fn is_replayed(rt: &impl Abort, wrote: &Wrote) {
+    is_done(rt, wrote);
+    assert!(rt;
+        wrote.bytes.starts_with(
+            b"= #<process c>\n= insert-filter\n> filter insert-filter #<process c> \"hi\"\n"
+        )
+    );
+    assert!(rt; wrote.bytes.ends_with(b"process 0 #<process c> exit 0\n"));
 }
 
 /// What a real child says in a run is told once more by a replay, and no child is started then.
 #[test]
-fn a_recorded_child_is_replayed(rt: HostRuntime) -> Result<(), Fail> {
+fn a_recorded_child_is_replayed(rt: HostRuntime) {
     let script = br#"(setq p (start-process "c" "out" "printf" "hi"))
 (set-process-filter p 'insert-filter)(accept-process-output p)(accept-process-output p)"#;
-    let nowhere = Output::new(rt.alloc(), io::sink())?;
-    let mut host = Recorder::new(rt.alloc(), RealHost::new(rt.alloc(), &rt, &nowhere));
-    let (status, session) = written_by(rt.alloc(), &["record"], script, &mut host)?;
-    assert_eq!(rt; status, Status::Done);
-    assert!(rt; session.starts_with(b"spawn 7072696e7466 6869 -> started 0\n"));
-    let mut none = MemoryHost::new(Vec::new(rt.alloc()), Vec::new(rt.alloc()));
-    let (status, lines) = written_by(rt.alloc(), &["replay"], session.as_slice(), &mut none)?;
-    assert_eq!(rt; status, Status::Done);
+    let session = written_with(&rt, rt.alloc(), &["record"], script);
+    is_done(&rt, &session);
     assert!(rt;
-        lines.starts_with(
-            b"= #<process c>\n= insert-filter\n> filter insert-filter #<process c> \"hi\"\n"
-        )
+        session
+            .bytes
+            .starts_with(b"spawn 7072696e7466 6869 -> started 0\n")
     );
-    assert!(rt; lines.ends_with(b"process 0 #<process c> exit 0\n"));
-    Ok(())
+    let mut none = MemoryHost::new(Vec::new(rt.alloc()), Vec::new(rt.alloc()));
+    let bytes = session.bytes.as_slice();
+    let lines = written_by(&rt, rt.alloc(), &["replay"], bytes, &mut none);
+    is_replayed(&rt, &lines);
 }
 
 /// A real child that ends badly is started again, as often as it may be, and its last line is closed each time.
 #[test]
-fn a_real_child_is_started_again(rt: HostRuntime) -> Result<(), Fail> {
-    let nowhere = Output::new(rt.alloc(), io::sink())?;
-    let mut host = Recorder::new(rt.alloc(), RealHost::new(rt.alloc(), &rt, &nowhere));
+fn a_real_child_is_started_again(rt: HostRuntime) {
     let words = ["session", "2", "sh", "-c", "printf 'a\\nb'; exit 3"];
-    let (status, text) = written_by(rt.alloc(), &words, b"", &mut host)?;
-    assert_eq!(rt; status, Status::Done);
-    assert_eq!(rt; text.as_slice(), b"a\nb\na\nb\na\nb\n".as_slice());
-    Ok(())
+    let wrote = written_with(&rt, rt.alloc(), &words, b"");
+    comes_to(&rt, &wrote, b"a\nb\na\nb\na\nb\n");
+}
+
+fn is_failure(rt: &impl Abort, alloc: Global, status: Status, line: &str, exit_status: u8) {
+    let Err(failure) = result_of(status) else {
+        panic!(rt; "done");
+    };
+    let told = format!(in alloc; "{failure}").expect(rt, "memory");
+    assert_eq!(rt; told.as_str(), line);
+    assert_eq!(rt; failure.exit_status(), exit_status, "{line}");
 }
 
 #[test]
-fn a_failure_is_told_in_a_line(rt: HostRuntime) -> Result<(), Fail> {
+fn a_failure_is_told_in_a_line(rt: HostRuntime) {
     let told = [
         (Status::Usage, "kernel_cli: usage", 1),
         (Status::Script(0), "kernel_cli: script: line 0", 2),
@@ -305,11 +375,6 @@ fn a_failure_is_told_in_a_line(rt: HostRuntime) -> Result<(), Fail> {
         (Status::SessionFull, "kernel_cli: session full", 10),
     ];
     for (status, line, exit_status) in told {
-        let Err(failure) = result_of(status) else {
-            return Err(Fail::from("done"));
-        };
-        assert_eq!(rt; format!(in rt.alloc(); "{failure}")?.as_str(), line);
-        assert_eq!(rt; failure.exit_status(), exit_status, "{line}");
+        is_failure(&rt, rt.alloc(), status, line, exit_status);
     }
-    Ok(())
 }
