@@ -30,7 +30,7 @@
 ;;
 ;; Not masked, so a difference may show: bytes of codes above 10FFFF, and bytes above 7F that finish no character, in
 ;; what a child writes; a child that closes its output and lives on; how many objects, records and bytes there may be;
-;; where point is while functions before the insertion of output run; ends of a deletion or of a change of properties
+;; where point is while hook functions run at an insertion of output; ends of a deletion or of a change of properties
 ;; that functions before it move; properties to which Emacs gives a meaning, as `category' and `modification-hooks'.
 ;; Numbers of exchanges aren't compared, and `exchanges-spent' never comes. A script that is none isn't told as such.
 
