@@ -1,4 +1,4 @@
-pub mod Characters
+pub mod Readings
 pub mod Failing
 pub mod Listed
 pub mod Printing

@@ -1,8 +1,8 @@
 //! A list of characters with a spare.
 ghost use Rattle.std.specs.Prelude.{◌≡◌, ◌+◌, ◌<◌, ◌≤◌, length, [], ◌∷◌, ◌++◌, OnOk, OnErr, IfOk};
 ghost use Rattle.std.specs.Prelude.{IsOk, slice_get, Some, ◌==◌, map};
-ghost use Rattle.text_model.specs.Characters.{IsCharacter, Scalar};
-ghost use Rattle.ek_types.specs.Seen.{ch_of};
+ghost use Rattle.text_model.specs.Characters.{IsCharacter, Scalar, code};
+ghost use Rattle.ek_types.specs.Seen.{ch_of, AreCharacters, AreCodes, characters_of};
 
 use crate::character::Ch;
 use crate::memory::Mem;
@@ -10,27 +10,27 @@ use std::alloc::Global;
 use std::marker::Model;
 
 /// Characters in order, counted from 0, seen as their list with the spare beside it: how many more fit with no memory
-/// taken. Each is a real one: a raw byte is 0x80 or more.
+/// taken. Each is a real one: a raw byte is 0x80 or more. They are kept as their codes.
 #[derive(Drop)]
 pub struct Chars {
-    items: Vec<Ch>,
+    codes: Vec<u32>,
 }
 
 impl Model for Chars {
-    ghost use Rattle.std.specs.Prelude.{map, ◌-◌, vec_len, vec_capacity};
+    ghost use Rattle.std.specs.Prelude.{◌-◌, vec_len, vec_capacity};
     ghost use Rattle.ek_types.specs.Listing.{Roomy};
-    ghost use Rattle.text_model.specs.Characters.{Ch as Character, IsCharacter};
+    ghost use Rattle.text_model.specs.Characters.{Ch as Character};
 
     ghost Value = { Roomy Character };
 
-    ghost use Rattle.ek_types.specs.Seen.{ch_of, AreCharacters};
+    ghost use Rattle.ek_types.specs.Seen.{AreCodes, characters_of};
 
     ghost view = { λ c. record {
-      items = map ch_of c.items.items;
-      spare = vec_capacity c.items - vec_len c.items;
+      items = characters_of c.codes.items;
+      spare = vec_capacity c.codes - vec_len c.codes;
     } };
 
-    ghost invariant = { λ c. AreCharacters (map ch_of c.items.items) };
+    ghost invariant = { λ c. AreCodes c.codes.items };
 }
 
 impl Chars {
@@ -39,7 +39,7 @@ impl Chars {
         ensures { result.items ≡ [] }
     {
         Chars {
-            items: Vec::new(alloc),
+            codes: Vec::new(alloc),
         }
     }
 
@@ -50,7 +50,7 @@ impl Chars {
         ensures kept { self.old.spare ≤ self.new.spare }
         ensures had { n ≤ self.old.spare → IsOk result }
     {
-        self.items.reserve(n)?;
+        self.codes.reserve(n)?;
         Ok(())
     }
 
@@ -63,7 +63,7 @@ impl Chars {
         ensures err { OnErr result (self.new.items ≡ self.old.items) }
         ensures kept { OnErr result (self.old.spare ≤ self.new.spare) }
     {
-        self.items.push(c)?;
+        self.codes.push(c.code())?;
         Ok(())
     }
 
@@ -74,7 +74,7 @@ impl Chars {
         ensures items { self.new.items ≡ self.old.items ++ ch_of c ∷ [] }
         ensures spare { self.new.spare + 1 ≡ self.old.spare }
     {
-        self.items.push_reserved(c);
+        self.codes.push_reserved(c.code());
     }
 
     /// Puts other characters behind these. A refusal leaves them as they were and the spare no smaller.
@@ -85,7 +85,7 @@ impl Chars {
         ensures kept { OnErr result (self.old.spare ≤ self.new.spare) }
         ensures had { length more.now.items ≤ self.old.spare → IsOk result }
     {
-        self.items.extend_from_slice(&more.items)?;
+        self.codes.extend_from_slice(&more.codes)?;
         Ok(())
     }
 
@@ -127,18 +127,32 @@ impl Chars {
         }
     }
 
+    /// Puts the characters of some codes behind the others. Each is the code of a character. A refusal leaves them as they
+    /// were and the spare no smaller.
+    pub fn extend_codes(&mut self, codes: &[u32]) -> Mem<()>
+        requires { AreCodes codes.now }
+        ensures ok { OnOk result (self.new.items ≡ self.old.items ++ characters_of codes.now) }
+        ensures room { OnOk result (self.old.spare ≤ self.new.spare + length codes.now) }
+        ensures err { OnErr result (self.new.items ≡ self.old.items) }
+        ensures kept { OnErr result (self.old.spare ≤ self.new.spare) }
+        ensures had { length codes.now ≤ self.old.spare → IsOk result }
+    {
+        self.codes.extend_from_slice(codes)?;
+        Ok(())
+    }
+
     /// How many characters there are.
     pub fn len(&self) -> usize
         ensures { result ≡ length self.now.items }
     {
-        self.items.len()
+        self.codes.len()
     }
 
     /// Whether there are none.
     pub fn is_empty(&self) -> bool
         ensures { result ≡ (length self.now.items == 0) }
     {
-        self.items.is_empty()
+        self.codes.is_empty()
     }
 
     /// The character at place `i`, which is below the length.
@@ -147,14 +161,25 @@ impl Chars {
         ensures item { slice_get self.now.items i ≡ Some (ch_of result) }
         ensures character { IsCharacter (ch_of result) }
     {
-        self.items[i]
+        match Ch::from_code(self.codes[i]) {
+            Some(c) => c,
+            None => unreachable!(),
+        }
+    }
+
+    /// The codes of the characters, in order. They are lent, and nothing is copied.
+    pub fn codes(&self) -> &[u32]
+        ensures codes { result.now ≡ map code self.now.items }
+        ensures characters { AreCharacters self.now.items }
+    {
+        &self.codes
     }
 
     /// The same characters again.
     pub fn copy(&self) -> Mem<Chars>
         ensures { IfOk result (λ c. c.items ≡ self.now.items) }
     {
-        let items = self.items.clone()?;
-        Ok(Chars { items })
+        let codes = self.codes.clone()?;
+        Ok(Chars { codes })
     }
 }

@@ -1,6 +1,7 @@
 -- A text: blocks of a pool with a gap among their cells. Its characters are read from the cells outside the gap.
-use Rattle.std.specs.Prelude.{ℕ, ◌+◌, ◌*◌, ◌^◌, ◌<◌, ◌≤◌, List, [], ◌∷◌, ◌++◌, length, take, drop, filter_map, IsSome}
-use Rattle.text_model.specs.Characters.{Ch, from_code}
+use Rattle.std.specs.Prelude.{ℕ, ◌+◌, ◌*◌, ◌^◌, ◌<◌, ◌≤◌, List, [], ◌∷◌, ◌++◌, length, take, drop}
+use Rattle.text_model.specs.Characters.{Ch}
+use Rattle.ek_types.specs.Seen.{AreCodes, characters_of}
 use Rattle.text_pool.specs.Pool.{Pooled}
 use Rattle.gap_text.specs.Blocks.{cells_of, Distinct, AllLive}
 
@@ -20,12 +21,7 @@ codes pool text = without_gap text.gap text.spare (cells_of pool text.blocks)
 
 -- the characters of a text together with its pool
 abbrev pub characters : Pooled → Gapped → List Ch
-characters pool text = filter_map from_code (codes pool text)
-
--- each is the code of a character
-abbrev pub AreCodes : List ℕ → Type 0
-AreCodes [] = Unit {0}
-AreCodes (code ∷ rest) = IsSome (from_code code) × AreCodes rest
+characters pool text = characters_of (codes pool text)
 
 -- the gap lies among the cells
 abbrev pub GapFits : Gapped → Type 0

@@ -1,6 +1,5 @@
-use Rattle.std.proofs.Common.{◌≡◌, ◌+◌, ◌-◌, length, take, drop, refl, sym, ap, ◌∙◌, ◌++◌, [], arith, append-nil, length-append}
+use Rattle.std.proofs.Common.{◌≡◌, length, take, drop, refl, sym, ap, ◌∙◌, ◌++◌, [], arith, append-nil, length-append}
 use Rattle.std.specs.Prelude.{vec_len}
-use Rattle.std.specs.List.{zip}
 use Rattle.std.proofs.lemmas.List.{map-id, take_all, drop_all}
 use Rattle.std.proofs.lemmas.Iterator.{items_from_drains}
 use Rattle.std.proofs.lemmas.Iterator.Adapters.{YieldsList-from_vec}

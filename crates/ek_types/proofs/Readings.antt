@@ -3,11 +3,10 @@ use Rattle.std.proofs.Common.{◌≡◌, ℕ, zero, suc, ◌+◌, ◌-◌, ◌<�
 use Rattle.std.proofs.lemmas.Bool.Decides.{nat_tests}
 use Rattle.std.proofs.lemmas.Option.{slice_get-get_or}
 use Rattle.std.proofs.lemmas.List.Elements.{filter_map-append}
-use Rattle.ek_types.proofs.Listed.{take_one_more}
+use Rattle.text_model.proofs.Lists.{take_one_more}
 use Rattle.std.specs.Char.{IsScalar}
 use Rattle.text_model.specs.Characters.{Ch, Scalar, Raw, IsCharacter, code, from_code, is_scalar_code, is_raw_code}
-use Rattle.ek_types.specs.Seen.{AreCharacters}
-use Rattle.gap_text.specs.Text.{AreCodes}
+use Rattle.ek_types.specs.Seen.{AreCharacters, AreCodes}
 
 scalar_range : (c : ℕ) → IsScalar c → is_scalar_code c ≡ true
 scalar_range c h = grind (arith, nat_tests)
@@ -64,6 +63,13 @@ pub filter_map-code : (text : List Ch) → AreCharacters text → filter_map fro
 filter_map-code [] h = refl
 filter_map-code (c ∷ text) h = rw (from_code-code c h.0, filter_map-code text h.1) refl
 
+-- one more character
+pub codes_then : (xs : List ℕ) (c : Ch) → AreCodes xs → IsCharacter c → AreCodes (xs ++ code c ∷ [])
+codes_then xs c h k = are_codes_then xs (code c ∷ []) h (are_codes_of (c ∷ []) (k, tt))
+
+pub read_then : (xs : List ℕ) (c : Ch) → IsCharacter c → filter_map from_code (xs ++ code c ∷ []) ≡ filter_map from_code xs ++ c ∷ []
+read_then xs c k = filter_map-append from_code xs (code c ∷ []) ∙ ap (λ l. filter_map from_code xs ++ l) (filter_map-code (c ∷ []) (k, tt))
+
 -- one code, that of a character
 some_of : (o : Option Ch) → IsSome o → (c : Ch) × (o ≡ Some c)
 some_of None h = cc
@@ -71,6 +77,12 @@ some_of (Some c) h = (c, refl)
 
 pub read_one : (x : ℕ) → IsSome (from_code x) → (c : Ch) × (from_code x ≡ Some c)
 read_one x h = some_of (from_code x) h
+
+pub are_characters_read : (xs : List ℕ) → AreCodes xs → AreCharacters (filter_map from_code xs)
+are_characters_read [] h = tt
+are_characters_read (x ∷ xs) h =
+    let one = read_one x h.0 in
+    rw one.1 (character_of_code x one.0 one.1, are_characters_read xs h.1)
 
 pub length-read : (xs : List ℕ) → AreCodes xs → length (filter_map from_code xs) ≡ length xs
 length-read [] h = refl
@@ -92,19 +104,19 @@ drop-read (suc n) (x ∷ xs) h =
     let one = read_one x h.0 in
     rw one.1 (drop-read n xs h.1)
 
-pub slice_get-read : (i : ℕ) (xs : List ℕ) → AreCodes xs → i < length xs → slice_get (filter_map from_code xs) i ≡ from_code (get_or xs i 0)
-slice_get-read i [] h l = absurd (omega arith)
-slice_get-read zero (x ∷ xs) h l =
+pub slice_get-read : (i : ℕ) (xs : List ℕ) (d : ℕ) → AreCodes xs → i < length xs → slice_get (filter_map from_code xs) i ≡ from_code (get_or xs i d)
+slice_get-read i [] d h l = absurd (omega arith)
+slice_get-read zero (x ∷ xs) d h l =
     let one = read_one x h.0 in
     rw one.1 refl
-slice_get-read (suc i) (x ∷ xs) h l =
+slice_get-read (suc i) (x ∷ xs) d h l =
     let one = read_one x h.0 in
-    rw one.1 (slice_get-read i xs h.1 (omega arith))
+    rw one.1 (slice_get-read i xs d h.1 (omega arith))
 
-pub some_at : (i : ℕ) (xs : List ℕ) → AreCodes xs → i < length xs → from_code (get_or xs i 0) ≡ None → ⊥
-some_at i [] h l e = absurd (omega arith)
-some_at zero (x ∷ xs) h l e = let one = read_one x h.0 in cc
-some_at (suc i) (x ∷ xs) h l e = some_at i xs h.1 (omega arith) e
+pub some_at : (i : ℕ) (xs : List ℕ) (d : ℕ) → AreCodes xs → i < length xs → from_code (get_or xs i d) ≡ None → ⊥
+some_at i [] d h l e = absurd (omega arith)
+some_at zero (x ∷ xs) d h l e = let one = read_one x h.0 in cc
+some_at (suc i) (x ∷ xs) d h l e = some_at i xs d h.1 (omega arith) e
 
 -- the code of a character that was read
 raw_sum : (n : ℕ) → is_raw_code n ≡ true → 0x3FFF00 + (n - 0x3FFF00) ≡ n
