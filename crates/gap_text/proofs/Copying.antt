@@ -3,7 +3,8 @@ use Rattle.std.proofs.Common.{◌≡◌, ℕ, ◌+◌, ◌-◌, ◌*◌, ◌<◌
 use Rattle.std.proofs.lemmas.List.{take_more, take_more_set, length-append, drop_all}
 use Rattle.text_pool.specs.Pool.{Pooled, cells_at, IsLive, live, SameOthers}
 use Rattle.gap_text.specs.Blocks.{cells_of, Absent, Distinct, AllLive, AllGone, Apart, IsRow, SameOutside, OnlyFresh, ChangesCellsOf}
-use Rattle.gap_text.specs.Text.{Gapped, codes, AreCodes, LiesIn}
+use Rattle.ek_types.specs.Seen.{AreCodes}
+use Rattle.gap_text.specs.Text.{Gapped, codes, LiesIn}
 use Rattle.gap_text.proofs.BlockLemmas.{apart_nil, absent_split, apart_sym, distinct_split, live_split}
 use Rattle.gap_text.proofs.Rows.{length_row}
 use Rattle.gap_text.proofs.Moves.{no_change, one_more_change}

@@ -6,7 +6,8 @@ use Rattle.text_model.specs.Characters.{from_code}
 use Rattle.text_pool.specs.Pool.{Pooled, cells_at, cells, IsLive}
 use Rattle.gap_text.specs.Blocks.{cells_of, AllLive, Apart, SameOutside}
 use Rattle.gap_text.specs.Growth.{Grown, Inserted, put_at}
-use Rattle.gap_text.specs.Text.{Gapped, without_gap, codes, characters, AreCodes, LiesIn}
+use Rattle.ek_types.specs.Seen.{AreCodes}
+use Rattle.gap_text.specs.Text.{Gapped, without_gap, codes, characters, LiesIn}
 use Rattle.gap_text.proofs.BlockLemmas.{apart_nil, live_split}
 use Rattle.gap_text.proofs.Rows.{length_row, same_cells}
 use Rattle.gap_text.proofs.Gaps.{gap_grows}

@@ -3,7 +3,6 @@ pub mod Gaps
 pub mod BlockLemmas
 pub mod Growing
 pub mod Moves
-pub mod Readings
 pub mod Texts
 pub mod Elsewhere
 pub mod Copying

@@ -4,13 +4,13 @@ use Rattle.std.proofs.lemmas.List.{length-append, length-take-le, length-drop, t
 use Rattle.std.proofs.lemmas.List.Elements.{filter_map-append}
 use Rattle.std.proofs.Math.Seq.{take-append-add}
 use Rattle.text_model.specs.Characters.{Ch, code, from_code}
-use Rattle.ek_types.specs.Seen.{AreCharacters}
+use Rattle.ek_types.specs.Seen.{AreCharacters, AreCodes}
 use Rattle.text_pool.specs.Pool.{Pooled}
 use Rattle.gap_text.specs.Blocks.{cells_of, IsRow}
-use Rattle.gap_text.specs.Text.{Gapped, without_gap, codes, characters, AreCodes, LiesIn, IsGapped}
+use Rattle.gap_text.specs.Text.{Gapped, without_gap, codes, characters, LiesIn, IsGapped}
 use Rattle.gap_text.proofs.Rows.{length_row}
 use Rattle.gap_text.proofs.Gaps.{gap_widens, part_before_gap, rest_behind_gap}
-use Rattle.gap_text.proofs.Readings.{length-read, take-read, drop-read, filter_map-code, are_codes_then, are_codes_front, are_codes_back, are_codes_of, part_of_read}
+use Rattle.ek_types.proofs.Readings.{length-read, take-read, drop-read, filter_map-code, are_codes_then, are_codes_front, are_codes_back, are_codes_of, part_of_read}
 
 length-without_gap : (found : List ℕ) (p s : ℕ) → p + s ≤ length found → length (without_gap p s found) + s ≡ length found
 length-without_gap found p s h =

@@ -1,5 +1,5 @@
 -- A text: blocks of a pool with a gap among their cells. Its characters are read from the cells outside the gap.
-use Rattle.std.specs.Prelude.{ℕ, ◌+◌, ◌*◌, ◌^◌, ◌<◌, ◌≤◌, List, [], ◌∷◌, ◌++◌, length, take, drop}
+use Rattle.std.specs.Prelude.{ℕ, ◌+◌, ◌*◌, ◌^◌, ◌<◌, ◌≤◌, List, ◌++◌, length, take, drop}
 use Rattle.text_model.specs.Characters.{Ch}
 use Rattle.ek_types.specs.Seen.{AreCodes, characters_of}
 use Rattle.text_pool.specs.Pool.{Pooled}

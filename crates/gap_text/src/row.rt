@@ -142,22 +142,6 @@ fn set_cells_at(blocks: &[Block], pool: &mut Pool, place: usize, values: &[u32])
     pool.set_cells(&blocks[place / CELLS], place % CELLS, values);
 }
 
-/// Puts the codes of the characters from character `at` on in the place of others.
-fn gather(text: &Chars, at: usize, codes: &mut [u32])
-    requires { at + length codes.old ≤ length text.now.items }
-    ensures codes { codes.new ≡ map code (take (length codes.old) (drop at text.now.items)) }
-    ensures characters { AreCharacters (take (length codes.old) (drop at text.now.items)) }
-{
-    // Read for what it ensures: all characters can be counted.
-    let _size = text.len();
-    for k in 0..codes.len() {
-        codes[k] = text.at(at + k).code();
-    }
-}
-
-/// How many codes are gathered before they are written.
-const AT_ONCE: usize = 32;
-
 /// Writes the codes of a text to the cells from `place` on, by parts that lie in one block.
 pub(crate) fn write(blocks: &[Block], pool: &mut Pool, place: usize, text: &Chars)
     requires row { IsRow pool.old blocks.now }
@@ -170,13 +154,12 @@ pub(crate) fn write(blocks: &[Block], pool: &mut Pool, place: usize, text: &Char
     ensures row { IsRow pool.new blocks.now }
     ensures pool { ChangesCellsOf blocks.now pool.old pool.new }
 {
-    let mut codes = [0; AT_ONCE];
+    let codes = text.codes();
     let mut i = 0;
-    while i < text.len() {
+    while i < codes.len() {
         let of_block = CELLS - (place + i) % CELLS;
-        let count = (text.len() - i).min(of_block).min(AT_ONCE);
-        gather(text, i, &mut codes[..count]);
-        set_cells_at(blocks, pool, place + i, &codes[..count]);
+        let count = (codes.len() - i).min(of_block);
+        set_cells_at(blocks, pool, place + i, &codes[i..i + count]);
         i += count;
     }
 }

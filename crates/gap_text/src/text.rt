@@ -1,13 +1,12 @@
 //! A text, and its calls.
 ghost use Rattle.std.specs.Prelude.{◌≡◌, ◌+◌, ◌*◌, ◌<◌, ◌≤◌, [], ◌++◌, length, take, drop, IfOk};
 ghost use Rattle.std.specs.Prelude.{OnOk, OnErr, IsOk, slice_index, slice_get, Some, None, map};
-ghost use Rattle.std.specs.Prelude.{filter_map};
-ghost use Rattle.text_model.specs.Characters.{IsCharacter, code, from_code};
+ghost use Rattle.text_model.specs.Characters.{IsCharacter, code};
 ghost use Rattle.ek_types.specs.Seen.{ch_of};
 ghost use Rattle.text_pool.specs.Pool.{Pooled, live};
 ghost use Rattle.gap_text.specs.Blocks.{cells_of, Apart, AllGone, IsRow, SameOutside, OnlyFresh};
 ghost use Rattle.gap_text.specs.Blocks.{ChangesCellsOf};
-ghost use Rattle.gap_text.specs.Text.{Gapped, codes, characters, AreCodes, LiesIn};
+ghost use Rattle.gap_text.specs.Text.{Gapped, codes, characters, LiesIn};
 
 use crate::growth::{blocks_wanted, insert_blocks, make_room};
 use crate::row::{cell_at, cells_from, move_gap, set_cell_at, write};
@@ -39,21 +38,6 @@ impl Model for Text {
       gap = text.gap;
       spare = text.spare;
     }) };
-}
-
-/// Puts the characters of some codes behind a text, which must have the spare for them. It falls by their number.
-fn put_codes(text: &mut Chars, codes: &[u32])
-    requires codes { AreCodes codes.now }
-    requires room { length codes.now ≤ text.old.spare }
-    ensures items { text.new.items ≡ text.old.items ++ filter_map from_code codes.now }
-    ensures spare { text.new.spare + length codes.now ≡ text.old.spare }
-{
-    for code in codes {
-        match Ch::from_code(*code) {
-            Some(c) => text.push_spare(c),
-            None => unreachable!(),
-        }
-    }
 }
 
 impl Text {
@@ -144,7 +128,7 @@ impl Text {
         while at < to {
             let lent = self.stretch(pool, at);
             let count = lent.len().min(to - at);
-            put_codes(&mut text, &lent[..count]);
+            text.extend_codes(&lent[..count])?;
             at += count;
         }
         Ok(text)

@@ -12,7 +12,7 @@ use crate::names::Names;
 use crate::number::position;
 use crate::runs::{Sets, has_properties};
 use crate::string::lent_runs;
-use crate::text::{AT_ONCE, Characters, copy_plain, quoted, unquoted};
+use crate::text::{Characters, quoted, unquoted};
 use buffer_table::BufferText;
 use ek_types::{Ch, PropSet, Sink, Symbols};
 use sink_printer::Printer;
@@ -28,10 +28,6 @@ impl Characters for BufferText<'_> {
 
     fn character(&self, i: usize) -> Ch {
         self.ch(i)
-    }
-
-    fn plain(&self, i: usize, out: &mut [u8; AT_ONCE]) -> usize {
-        copy_plain(self.stretch(i), out)
     }
 
     fn codes(&self, i: usize) -> &[u32] {

@@ -11,7 +11,7 @@ use ek_types::{Ch, Chars, Piece, Sink};
 use sink_printer::Printer;
 
 /// How many characters are written at once where they are shown as they are.
-pub(crate) const AT_ONCE: usize = 32;
+const AT_ONCE: usize = 32;
 
 /// Characters in order, counted from 0.
 pub(crate) trait Characters {
@@ -24,19 +24,12 @@ pub(crate) trait Characters {
         requires { i < length (chars self.now) }
         ensures { slice_get (chars self.now) i ≡ Some (ch_of result) };
 
-    /// Copies characters from character `i` on that are shown as they are to the front of `out`, up to the first other one
-    /// or as many as fit, and says how many.
-    fn plain(&self, i: usize, out: &mut [u8; AT_ONCE]) -> usize
-        requires { i < length (chars self.now) }
-        ensures bytes { take result out.new ≡
-            flat_map shown_ch (take result (drop i (chars self.now))) }
-        ensures fits { result ≤ 32 }
-        ensures range { i + result ≤ length (chars self.now) };
-
-    /// The codes of some characters from character `i` on, or of none where they aren't kept as codes.
+    /// The codes of some characters from character `i` on: of one at least. They are lent.
     fn codes(&self, i: usize) -> &[u32]
         requires { i < length (chars self.now) }
-        ensures { result.now ≡ map code (take (length result.now) (drop i (chars self.now))) };
+        ensures some { 0 < length result.now }
+        ensures codes { result.now ≡
+            map code (take (length result.now) (drop i (chars self.now))) };
 }
 
 impl Characters for Chars {
@@ -50,12 +43,8 @@ impl Characters for Chars {
         self.at(i)
     }
 
-    fn plain(&self, i: usize, out: &mut [u8; AT_ONCE]) -> usize {
-        plain_from(self, i, out)
-    }
-
-    fn codes(&self, _i: usize) -> &[u32] {
-        &[]
+    fn codes(&self, i: usize) -> &[u32] {
+        codes_from(self, i)
     }
 }
 
@@ -72,13 +61,18 @@ impl Characters for Piece {
         self.ch(i)
     }
 
-    fn plain(&self, i: usize, out: &mut [u8; AT_ONCE]) -> usize {
-        plain_from(self.text(), i, out)
+    fn codes(&self, i: usize) -> &[u32] {
+        codes_from(self.text(), i)
     }
+}
 
-    fn codes(&self, _i: usize) -> &[u32] {
-        &[]
-    }
+/// The codes of all characters of a list from character `i` on.
+fn codes_from(chars: &Chars, i: usize) -> &[u32]
+    requires { i < length chars.now.items }
+    ensures some { 0 < length result.now }
+    ensures codes { result.now ≡ map code (take (length result.now) (drop i chars.now.items)) }
+{
+    chars.codes().split_at(i).1
 }
 
 /// Whether the character of a code is shown as it is, by one byte.
@@ -87,7 +81,7 @@ fn is_plain(code: u32) -> bool {
 }
 
 /// Copies characters that are shown as they are to the front of `out`, up to the first other one, and says how many.
-pub(crate) fn copy_plain(codes: &[u32], out: &mut [u8; AT_ONCE]) -> usize
+fn copy_plain(codes: &[u32], out: &mut [u8; AT_ONCE]) -> usize
     ensures bytes { (chars : List Character) → codes.now ≡ map code chars →
         take result out.new ≡ flat_map shown_ch (take result chars) }
     ensures fits { result ≤ 32 }
@@ -96,25 +90,6 @@ pub(crate) fn copy_plain(codes: &[u32], out: &mut [u8; AT_ONCE]) -> usize
     let mut n = 0;
     while n < AT_ONCE && n < codes.len() {
         let Some(byte) = plain_code(codes[n]) else {
-            return n;
-        };
-        out[n] = byte;
-        n += 1;
-    }
-    n
-}
-
-/// The same of the characters of a list from character `i` on.
-fn plain_from(chars: &Chars, i: usize, out: &mut [u8; AT_ONCE]) -> usize
-    requires { i < length chars.now.items }
-    ensures bytes { take result out.new ≡ flat_map shown_ch (take result (drop i chars.now.items)) }
-    ensures fits { result ≤ 32 }
-    ensures range { i + result ≤ length chars.now.items }
-{
-    let size = chars.len();
-    let mut n = 0;
-    while n < AT_ONCE && i + n < size {
-        let Some(byte) = plain(chars.at(i + n)) else {
             return n;
         };
         out[n] = byte;
@@ -168,13 +143,14 @@ fn some_characters<K: Sink, T: Characters>(out: &mut Printer<'_, K>, text: &T, i
     ensures some { 0 < result }
     ensures range { i + result ≤ length (T.chars text.now) }
 {
+    let codes = text.codes(i);
     let mut bytes = [0u8; AT_ONCE];
-    let plain = text.plain(i, &mut bytes);
+    let plain = copy_plain(codes, &mut bytes);
     if plain > 0 {
         out.put(&bytes[..plain]);
         return plain;
     }
-    let others = scalars(out, text.codes(i));
+    let others = scalars(out, codes);
     if others > 0 {
         return others;
     }

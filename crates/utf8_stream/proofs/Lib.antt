@@ -1,3 +1,4 @@
+pub mod Ascii
 pub mod Cuttings
 pub mod Fronts
 pub mod Lines

@@ -7,19 +7,21 @@ use Rattle.trace_print.proofs.Codes.{lent_within}
 use Rattle.trace_print.proofs.text.some_characters.Goals as goal
 
 pub returns-then-plain-gt0-clause-prints : goal.returns-then-plain-gt0-clause-prints
-returns-then-plain-gt0-clause-prints g c = prints_same c.plain-plain.ensures.bytes c.put.ensures
+returns-then-plain-gt0-clause-prints g c =
+    let from = drop c.args.i (g.T.Characters.chars c.args.text.now) in
+    prints_same (c.copy_plain-plain.ensures.bytes (take (length c.codes-codes.result.now) from) c.codes-codes.ensures.codes ∙ some_of shown_ch c.copy_plain-plain.result (length c.codes-codes.result.now) from c.copy_plain-plain.ensures.range) c.put.ensures
 
 pub returns-then-others-gt0-clause-prints : goal.returns-then-others-gt0-clause-prints
 returns-then-others-gt0-clause-prints g c =
     let from = drop c.args.i (g.T.Characters.chars c.args.text.now) in
-    prints_same (some_of shown_ch c.scalars-others.result (length c.codes.result.now) from c.scalars-others.ensures.range) (c.scalars-others.ensures.prints (take (length c.codes.result.now) from) c.codes.ensures)
+    prints_same (some_of shown_ch c.scalars-others.result (length c.codes-codes.result.now) from c.scalars-others.ensures.range) (c.scalars-others.ensures.prints (take (length c.codes-codes.result.now) from) c.codes-codes.ensures.codes)
 
 pub returns-then-others-gt0-clause-range : goal.returns-then-others-gt0-clause-range
 returns-then-others-gt0-clause-range g c =
-    omega (arith, c.requires, c.scalars-others.ensures.range, lent_within c.codes.result.now (g.T.Characters.chars c.args.text.now) c.args.i c.codes.ensures)
+    omega (arith, c.requires, c.scalars-others.ensures.range, lent_within c.codes-codes.result.now (g.T.Characters.chars c.args.text.now) c.args.i c.codes-codes.ensures.codes)
 
 pub returns-clause-prints : goal.returns-clause-prints
 returns-clause-prints g c =
     let chars = g.T.Characters.chars c.args.text.now in
-    let from = take (length c.codes.result.now) (drop c.args.i chars) in
-    prints_same (none_then_one shown_ch chars from c.args.i c.scalars-others.result (ch_of c.character.result) (omega (arith, c.if-others-gt0.false)) c.character.ensures) (prints_then (c.scalars-others.ensures.prints from c.codes.ensures) c.shown.ensures)
+    let from = take (length c.codes-codes.result.now) (drop c.args.i chars) in
+    prints_same (none_then_one shown_ch chars from c.args.i c.scalars-others.result (ch_of c.character.result) (omega (arith, c.if-others-gt0.false)) c.character.ensures) (prints_then (c.scalars-others.ensures.prints from c.codes-codes.ensures.codes) c.shown.ensures)

@@ -1,7 +1,7 @@
 use Rattle.std.proofs.Common.{length, filter_map, ap, ◌∙◌, arith}
 use Rattle.text_model.specs.Characters.{from_code}
 use Rattle.gap_text.specs.Text.{codes}
-use Rattle.gap_text.proofs.Readings.{length-read}
+use Rattle.ek_types.proofs.Readings.{length-read}
 use Rattle.gap_text.proofs.Texts.{length_characters}
 use Rattle.gap_text.proofs.Elsewhere.{same_characters}
 use Rattle.gap_text.proofs.Copying.{beside, still_beside}

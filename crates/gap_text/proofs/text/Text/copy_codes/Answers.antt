@@ -1,7 +1,7 @@
 use Rattle.std.proofs.Common.{◌≡◌, length, ap, ◌∙◌, arith}
 use Rattle.std.proofs.lemmas.List.{take_all}
 use Rattle.gap_text.specs.Text.{codes}
-use Rattle.gap_text.proofs.Readings.{length-read}
+use Rattle.ek_types.proofs.Readings.{length-read}
 use Rattle.gap_text.proofs.Copying.{copies_on, source_stays}
 use Rattle.gap_text.proofs.text.Text.copy_codes.Goals as goal
 

@@ -1,7 +1,7 @@
 use Rattle.std.proofs.Common.{◌≡◌, ◌≤◌, ◌*◌, ◌-◌, length, take, ap, ◌∙◌, sym, subst, arith}
 use Rattle.gap_text.specs.Blocks.{IsRow, cells_of}
 use Rattle.gap_text.specs.Text.{Gapped, codes}
-use Rattle.gap_text.proofs.Readings.{length-read}
+use Rattle.ek_types.proofs.Readings.{length-read}
 use Rattle.gap_text.proofs.Texts.{made}
 use Rattle.gap_text.proofs.Elsewhere.{SameText}
 use Rattle.gap_text.proofs.Copying.{filled_text}
