@@ -179,7 +179,7 @@ impl Chars {
     pub fn copy(&self) -> Mem<Chars>
         ensures { IfOk result (λ c. c.items ≡ self.now.items) }
     {
-        let codes = self.codes.clone()?;
+        let codes = Vec::from_slice(*self.codes.allocator(), &self.codes)?;
         Ok(Chars { codes })
     }
 }
