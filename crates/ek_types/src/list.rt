@@ -94,6 +94,21 @@ impl<T> ListOf<T> {
     }
 }
 
+impl<T: Copy> ListOf<T> {
+    /// Puts copies of some items behind the others, with no memory taken. There must be spare for them, which falls by no
+    /// more than their number.
+    pub fn extend_spare(&mut self, more: &[T])
+        requires { length more.now ≤ spare_of self.old }
+        ensures items { items_of self.new ≡ items_of self.old ++ more.now }
+        ensures spare { spare_of self.old ≤ spare_of self.new + length more.now }
+    {
+        match self.items.extend_from_slice(more) {
+            Ok(()) => {}
+            Err(_) => unreachable!(),
+        }
+    }
+}
+
 impl<T: Drop> ListOf<T> {
     /// Puts an item behind the others. A refusal leaves the list as it was and the spare no smaller. The first item gets
     /// room for itself alone, since most lists of a script hold one; from there on the room is doubled.

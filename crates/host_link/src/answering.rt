@@ -5,7 +5,7 @@ ghost use Rattle.host_link.specs.Meaning.{answer_of};
 ghost use Rattle.host_link.specs.Hosts.{Fits, spawned_answer, got_answer, ended_answer};
 ghost use Rattle.host_link.specs.Hosts.{send_answer, kill_answer};
 
-use crate::asking::{Answer, ByteList, fill, list_of};
+use crate::asking::{Answer, ByteList, list_of};
 use crate::host::{Ended, Got, KillAnswer, SendAnswer, Spawned};
 use std::alloc::Global;
 
@@ -28,7 +28,7 @@ fn list_or_room(alloc: Global, bytes: &[u8], room: ByteList) -> ByteList
         Ok(list) => list,
         Err(_) => {
             let mut list = room;
-            fill(&mut list, bytes);
+            list.extend_spare(bytes);
             list
         }
     }

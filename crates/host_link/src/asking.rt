@@ -1,7 +1,7 @@
 //! Exchanges: questions to the host with their answers.
-ghost use Rattle.std.specs.Prelude.{◌≡◌, ◌≤◌, length, ◌++◌, IfOk, map};
+ghost use Rattle.std.specs.Prelude.{◌≡◌, IfOk, map};
 ghost use Rattle.std.specs.Prelude.{string_bytes};
-ghost use Rattle.ek_types.specs.Listing.{items_of, spare_of};
+ghost use Rattle.ek_types.specs.Listing.{items_of};
 ghost use Rattle.host_link.specs.Meaning.{ask_of, answer_of, exchange_of, words_of};
 
 use ek_types::{Copied, ListOf, Mem};
@@ -120,23 +120,13 @@ impl Copied for Exchange {
     }
 }
 
-/// Puts bytes behind those of a list, with no memory taken.
-pub(crate) fn fill(list: &mut ByteList, bytes: &[u8])
-    requires { length bytes.now ≤ spare_of list.old }
-    ensures { items_of list.new ≡ items_of list.old ++ bytes.now }
-{
-    for i in 0..bytes.len() {
-        list.push_spare(bytes[i]);
-    }
-}
-
 /// A list of these bytes.
 pub(crate) fn list_of(alloc: Global, bytes: &[u8]) -> Mem<ByteList>
     ensures { IfOk result (λ list. items_of list ≡ bytes.now) }
 {
     let mut list = ListOf::new(alloc);
     list.reserve(bytes.len())?;
-    fill(&mut list, bytes);
+    list.extend_spare(bytes);
     Ok(list)
 }
 

@@ -1,7 +1,7 @@
 //! Asks that are made, beside those of a list.
-ghost use Rattle.std.specs.Prelude.{◌≡◌, ◌≢◌, ◌≤◌, [], ◌++◌, length, map, string_bytes, IfOk};
+ghost use Rattle.std.specs.Prelude.{◌≡◌, ◌≢◌, map, string_bytes, IfOk};
 ghost use Rattle.std.specs.Prelude.{MatchBool};
-ghost use Rattle.ek_types.specs.Listing.{items_of, spare_of};
+ghost use Rattle.ek_types.specs.Listing.{items_of};
 ghost use Rattle.plain_machine.specs.Exchanges.{Spawn};
 ghost use Rattle.host_link.specs.Meaning.{ask_of, words_of};
 
@@ -9,23 +9,13 @@ use ek_types::{ListOf, Mem};
 use host_link::{Ask, ByteList, WordList};
 use std::alloc::Global;
 
-/// Puts bytes behind those of a list, with no memory taken.
-fn fill(list: &mut ByteList, bytes: &[u8])
-    requires { length bytes.now ≤ spare_of list.old }
-    ensures { items_of list.new ≡ items_of list.old ++ bytes.now }
-{
-    for i in 0..bytes.len() {
-        list.push_spare(bytes[i]);
-    }
-}
-
 /// A list of these bytes.
 pub(crate) fn list_of(alloc: Global, bytes: &[u8]) -> Mem<ByteList>
     ensures { IfOk result (λ list. items_of list ≡ bytes.now) }
 {
     let mut list = ListOf::new(alloc);
     list.reserve(bytes.len())?;
-    fill(&mut list, bytes);
+    list.extend_spare(bytes);
     Ok(list)
 }
 
