@@ -44,10 +44,10 @@ pub lent_within : (codes : List ℕ) (chars : List Ch) (i : ℕ) → codes ≡ m
 lent_within codes chars i are =
     omega (arith, ap length are, length-map (take (length codes) (drop i chars)) code, shorter (length codes) (drop i chars), length-drop i chars)
 
--- one more character that is shown as it is
-pub plain_on : (codes : List ℕ) (chars : List Ch) (n byte : ℕ) → codes ≡ map code chars → n < length codes → byte ∷ [] ≡ shown_code (get_or codes n 0) → get_or codes n 0 ≤ 127 →
-    flat_map shown_ch (take n chars) ++ byte ∷ [] ≡ flat_map shown_ch (take (n + 1) chars)
-plain_on codes chars n byte are inside is low =
+-- what stands for one more character of ASCII
+pub low_on : (codes : List ℕ) (chars : List Ch) (n : ℕ) (bytes : List ℕ) → codes ≡ map code chars → n < length codes → bytes ≡ shown_code (get_or codes n 0) → get_or codes n 0 ≤ 127 →
+    flat_map shown_ch (take n chars) ++ bytes ≡ flat_map shown_ch (take (n + 1) chars)
+low_on codes chars n bytes are inside is low =
     let size : length codes ≡ length chars = ap length are ∙ length-map chars code in
     let (c, found, coded) = char_at chars n (omega (arith, size, inside)) in
     let same : code c ≡ get_or codes n 0 = coded ∙ ap (λ l. get_or l n 0) (sym are) in

@@ -27,17 +27,6 @@ pub none_then_one : {X : Type 0} (f : X → List ℕ) (xs others : List X) (i n 
 none_then_one f xs others i zero x none h = one_from f xs i x h
 none_then_one f xs others i (suc n) x none h = absurd (omega (arith, none))
 
--- the one at a place behind another
-found_behind : {X : Type 0} (xs : List X) (i n k : ℕ) (x : X) → k ≡ i + n → slice_get xs k ≡ Some x → slice_get (drop i xs) n ≡ Some x
-found_behind xs zero n k x e h = let same : n ≡ k = omega (arith, e) in ap (slice_get xs) same ∙ h
-found_behind [] (suc i) n k x e h = cc
-found_behind (y ∷ xs) (suc i) n zero x e h = absurd (omega (arith, e))
-found_behind (y ∷ xs) (suc i) n (suc k) x e h = found_behind xs i n k x (omega (arith, e)) h
-
--- one more behind a place
-pub one_behind : {X : Type 0} (f : X → List ℕ) (xs : List X) (i n : ℕ) (x : X) → slice_get xs (i + n) ≡ Some x → flat_map f (take n (drop i xs)) ++ f x ≡ flat_map f (take (n + 1) (drop i xs))
-one_behind f xs i n x h = one_on f (drop i xs) n x (found_behind xs i n (i + n) x refl h)
-
 take_within : {X : Type 0} (n m : ℕ) (xs : List X) → n ≤ m → take n (take m xs) ≡ take n xs
 take_within zero m xs h = refl
 take_within (suc n) zero xs h = absurd (omega (arith, h))

@@ -1,17 +1,20 @@
 //! Characters in a name, and between quotes.
 ghost use Rattle.std.specs.Prelude.{◌≡◌, ◌+◌, ◌<◌, ◌≤◌, List, length, map, take, drop, flat_map};
-ghost use Rattle.std.specs.Prelude.{slice_get, Some};
+ghost use Rattle.std.specs.Prelude.{slice_get, Some, true, ◌++◌};
 ghost use Rattle.text_model.specs.Characters.{Ch as Character, code};
-ghost use Rattle.plain_machine.specs.Lines.{shown_ch, quoted};
+ghost use Rattle.plain_machine.specs.Lines.{shown_ch, shown_code, quoted};
 ghost use Rattle.ek_types.specs.Seen.{ch_of};
 ghost use Rattle.sink_printer.specs.Printing.{Prints};
 
-use crate::escapes::{plain, plain_code, show};
+use crate::escapes::{is_plain, letter, plain, plain_code, show};
 use ek_types::{Ch, Chars, Piece, Sink};
 use sink_printer::Printer;
 
-/// How many characters are written at once where they are shown as they are.
-const AT_ONCE: usize = 32;
+/// How many characters are written at once where each takes one byte or two.
+const AT_ONCE: usize = 16;
+
+/// How many bytes these take at most.
+const ROOM: usize = 32;
 
 /// Characters in order, counted from 0.
 pub(crate) trait Characters {
@@ -75,27 +78,73 @@ fn codes_from(chars: &Chars, i: usize) -> &[u32]
     chars.codes().split_at(i).1
 }
 
-/// Whether the character of a code is shown as it is, by one byte.
-fn is_plain(code: u32) -> bool {
-    plain_code(code).is_some()
+/// Copies as many characters as are written at once to the front of `out`, and says whether all are shown as they are.
+fn copy_plain(codes: &[u32], out: &mut [u8; ROOM]) -> bool
+    requires { 16 ≤ length codes.now }
+    ensures { (chars : List Character) → codes.now ≡ map code chars → result ≡ true →
+        take 16 out.new ≡ flat_map shown_ch (take 16 chars) }
+{
+    let mut all = true;
+    for n in 0..AT_ONCE {
+        let code = codes[n];
+        all = all & is_plain(code);
+        out[n] = (code % 256) as u8;
+    }
+    all
 }
 
-/// Copies characters that are shown as they are to the front of `out`, up to the first other one, and says how many.
-fn copy_plain(codes: &[u32], out: &mut [u8; AT_ONCE]) -> usize
-    ensures bytes { (chars : List Character) → codes.now ≡ map code chars →
-        take result out.new ≡ flat_map shown_ch (take result chars) }
-    ensures fits { result ≤ 32 }
-    ensures range { result ≤ length codes.now }
+/// Writes what stands for the character of a code to `out` from place `at` on, where it is one of ASCII that takes one
+/// byte or two, and says how many: none where it isn't.
+fn put_short(code: u32, out: &mut [u8; ROOM], at: usize) -> usize
+    requires { at + 2 ≤ 32 }
+    ensures bytes { 0 < result → take (at + result) out.new ≡ take at out.old ++ shown_code code }
+    ensures low { 0 < result → code ≤ 127 }
+    ensures few { result ≤ 2 }
+    ensures none { result ≡ 0 → out.new ≡ out.old }
 {
-    let mut n = 0;
-    while n < AT_ONCE && n < codes.len() {
-        let Some(byte) = plain_code(codes[n]) else {
-            return n;
-        };
-        out[n] = byte;
-        n += 1;
+    if let Some(byte) = plain_code(code) {
+        out[at] = byte;
+        return 1;
     }
-    n
+    if let Some(byte) = letter(code) {
+        out[at] = b'\\';
+        out[at + 1] = byte;
+        return 2;
+    }
+    0
+}
+
+/// Writes what stands for the first characters of some codes to the front of `out`, up to one that takes more than two
+/// bytes or is none of ASCII. Says for how many characters, and how many bytes these are.
+fn show_short(codes: &[u32], out: &mut [u8; ROOM]) -> (usize, usize)
+    ensures bytes { (chars : List Character) → codes.now ≡ map code chars →
+        take result.1 out.new ≡ flat_map shown_ch (take result.0 chars) }
+    ensures fits { result.1 ≤ 32 }
+    ensures range { result.0 ≤ length codes.now }
+{
+    let count = codes.len().min(AT_ONCE);
+    let mut size = 0;
+    for n in 0..count {
+        let more = put_short(codes[n], out, size);
+        if more == 0 {
+            return (n, size);
+        }
+        size += more;
+    }
+    (count, size)
+}
+
+/// The same, where most characters are shown as they are.
+fn show_front(codes: &[u32], out: &mut [u8; ROOM]) -> (usize, usize)
+    ensures bytes { (chars : List Character) → codes.now ≡ map code chars →
+        take result.1 out.new ≡ flat_map shown_ch (take result.0 chars) }
+    ensures fits { result.1 ≤ 32 }
+    ensures range { result.0 ≤ length codes.now }
+{
+    if codes.len() >= AT_ONCE && copy_plain(codes, out) {
+        return (AT_ONCE, AT_ONCE);
+    }
+    show_short(codes, out)
 }
 
 fn shown<K: Sink>(out: &mut Printer<'_, K>, c: Ch)
@@ -144,11 +193,11 @@ fn some_characters<K: Sink, T: Characters>(out: &mut Printer<'_, K>, text: &T, i
     ensures range { i + result ≤ length (T.chars text.now) }
 {
     let codes = text.codes(i);
-    let mut bytes = [0u8; AT_ONCE];
-    let plain = copy_plain(codes, &mut bytes);
-    if plain > 0 {
-        out.put(&bytes[..plain]);
-        return plain;
+    let mut bytes = [0u8; ROOM];
+    let (count, size) = show_front(codes, &mut bytes);
+    if count > 0 {
+        out.put(&bytes[..size]);
+        return count;
     }
     let others = scalars(out, codes);
     if others > 0 {

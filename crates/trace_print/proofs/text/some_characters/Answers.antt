@@ -1,4 +1,4 @@
-use Rattle.std.proofs.Common.{length, take, drop, arith}
+use Rattle.std.proofs.Common.{length, take, drop, ◌∙◌, arith}
 use Rattle.plain_machine.specs.Lines.{shown_ch}
 use Rattle.ek_types.specs.Seen.{ch_of}
 use Rattle.sink_printer.proofs.Printing.{prints_then, prints_same}
@@ -6,10 +6,10 @@ use Rattle.trace_print.proofs.Gathering.{none_then_one, some_of}
 use Rattle.trace_print.proofs.Codes.{lent_within}
 use Rattle.trace_print.proofs.text.some_characters.Goals as goal
 
-pub returns-then-plain-gt0-clause-prints : goal.returns-then-plain-gt0-clause-prints
-returns-then-plain-gt0-clause-prints g c =
+pub returns-then-count-gt0-clause-prints : goal.returns-then-count-gt0-clause-prints
+returns-then-count-gt0-clause-prints g c =
     let from = drop c.args.i (g.T.Characters.chars c.args.text.now) in
-    prints_same (c.copy_plain-plain.ensures.bytes (take (length c.codes-codes.result.now) from) c.codes-codes.ensures.codes ∙ some_of shown_ch c.copy_plain-plain.result (length c.codes-codes.result.now) from c.copy_plain-plain.ensures.range) c.put.ensures
+    prints_same (c.show_front-count.ensures.bytes (take (length c.codes-codes.result.now) from) c.codes-codes.ensures.codes ∙ some_of shown_ch c.show_front-count.result.0 (length c.codes-codes.result.now) from c.show_front-count.ensures.range) c.put.ensures
 
 pub returns-then-others-gt0-clause-prints : goal.returns-then-others-gt0-clause-prints
 returns-then-others-gt0-clause-prints g c =
