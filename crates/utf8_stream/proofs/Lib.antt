@@ -1,4 +1,3 @@
-pub mod Ascii
 pub mod Cuttings
 pub mod Fronts
 pub mod Lines

@@ -2,13 +2,11 @@
 ghost use Rattle.std.specs.Prelude.{◌≡◌, ◌+◌, ◌≤◌, ◌++◌, length, map};
 ghost use Rattle.text_model.specs.Codings.{Utf8, Utf8Dos, Latin1, decoded, undecoded};
 ghost use Rattle.text_model.specs.Characters.{Raw};
-ghost use Rattle.text_model.specs.Decoding.{characters, tail};
 ghost use Rattle.utf8_stream.specs.Codings.{coding_of};
 ghost use Rattle.utf8_stream.specs.Returns.{IsSplit, return_before};
 
 use crate::coding::Coding;
 use crate::sequence::{First, read_first};
-use bstr::ByteSlice;
 use ek_types::{Ch, Chars};
 use memchr::memchr;
 
@@ -36,36 +34,20 @@ fn open_utf8<'a>(bytes: &'a [u8], out: &mut Chars) -> &'a [u8]
     ensures closed { undecoded Utf8 result.now ≡ result.now }
     ensures short { length result.now ≤ 3 }
 {
-    let mut rest = put_ascii(bytes, out);
+    let mut rest = bytes;
     while !rest.is_empty() {
         match read_first(rest) {
             First::Whole(c, count) => {
                 out.push_spare(Ch::Scalar(c));
-                rest = put_ascii(&rest[count..], out);
+                rest = &rest[count..];
             }
             First::Part => break,
             First::Neither => {
                 out.push_spare(Ch::Raw(rest[0]));
-                rest = put_ascii(&rest[1..], out);
+                rest = &rest[1..];
             }
         }
     }
-    rest
-}
-
-/// Appends the bytes of ASCII that stand in front, each a character for itself, and gives what follows them.
-fn put_ascii<'a>(bytes: &'a [u8], out: &mut Chars) -> &'a [u8]
-    requires { length bytes.now ≤ out.old.spare }
-    ensures items { out.new.items ++ characters result.now ≡ out.old.items ++ characters bytes.now }
-    ensures spare { out.new.spare + length (characters bytes.now) ≡
-        out.old.spare + length (characters result.now) }
-    ensures room { length result.now ≤ out.new.spare }
-    ensures tail { tail result.now ≡ tail bytes.now }
-    ensures within { length result.now ≤ length bytes.now }
-{
-    let count = bytes.find_non_ascii_byte().unwrap_or(bytes.len());
-    let (ascii, rest) = bytes.split_at(count);
-    out.extend_bytes_spare(ascii);
     rest
 }
 

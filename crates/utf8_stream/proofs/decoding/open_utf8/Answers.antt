@@ -14,8 +14,8 @@ loop-c-preserved-in-Whole c =
     let count : length (characters x) ≡ suc (length (characters y)) = ap length first in
     let shorter : length y ≡ length x - n = cut_length n x in
     record {
-      items = c.put_ascii-rest-in-Whole.ensures.items ∙ put_first c.loop-c.out.items (Scalar c.in-Whole.c) c.push_spare.new.self.items (characters y) c.push_spare.ensures.items ∙ ap (λ cs. c.loop-c.out.items ++ cs) (sym first) ∙ c.loop-c.invariant.items;
-      spare = omega (arith, count, c.push_spare.ensures.spare, c.put_ascii-rest-in-Whole.ensures.spare, c.loop-c.invariant.spare);
-      room = c.put_ascii-rest-in-Whole.ensures.room;
-      tail = c.put_ascii-rest-in-Whole.ensures.tail ∙ sym (whole_rest x n c.in-Whole.ensures.front read.1 read.2) ∙ c.loop-c.invariant.tail;
+      items = put_first c.loop-c.out.items (Scalar c.in-Whole.c) c.push_spare.new.self.items (characters y) c.push_spare.ensures.items ∙ ap (λ cs. c.loop-c.out.items ++ cs) (sym first) ∙ c.loop-c.invariant.items;
+      spare = omega (arith, count, c.push_spare.ensures.spare);
+      room = omega (arith, shorter, c.push_spare.ensures.spare, read.1, read.2);
+      tail = sym (whole_rest x n c.in-Whole.ensures.front read.1 read.2) ∙ c.loop-c.invariant.tail;
     }
