@@ -17,21 +17,29 @@
 ;; - several strings of one insertion are one change, and so are all groups of an `undo-more', which is refused before
 ;;   anything is undone;
 ;; - what `save-excursion' and `save-restriction' keep stays at insertions before markers;
-;; - an inserted character's own value wins over an inherited one, and no stickiness is inherited;
+;; - an inserted character's own value wins over an inherited one, and no stickiness is inherited; what else it
+;;   inherits says Emacs, of a copy of the accessible text around point as it is before functions run;
+;; - what is read-only bars a change before its size does, and not where nothing would change; whether it bars says
+;;   Emacs, of a copy of the accessible text that counts;
 ;; - `erase-buffer' shows functions before the change the narrowing; a buffer put into itself keeps its properties;
 ;; - nil as a property's value, values compared by what they hold, `set-text-properties' that changes nothing;
-;; - undo records: no point of an insertion, no end of an overlay, one record for insertions that follow one another;
+;; - undo records: no point of an insertion, no end of an overlay, one record for insertions that follow one another,
+;;   and of a change of properties one for each stretch of one value, one property after the other; the old values that
+;;   `set-text-properties' may lose;
 ;; - hook functions are entered from a list of this file: one that ends by a fault empties it, and the change goes on;
-;;   what was current is put back, and a change whose buffer is gone is refused;
+;;   what was current is put back, and a change whose buffer is gone is refused; text goes in at its place, which stays
+;;   at insertions before markers, and may lie outside of what a function has narrowed to;
 ;; - names of buffers and processes, which buffer is current behind `kill-buffer', recording in each new buffer;
 ;; - the whole order of waits: Emacs reads and decodes, and the pieces are handed over in the kernel's rounds;
 ;; - the default filter and sentinel, what a sentinel is told, the shipped handlers, nesting, pipes for children, their
 ;;   standard error (dropped here), sending to an input that was closed.
 ;;
 ;; Not masked, so a difference may show: bytes of codes above 10FFFF, and bytes above 7F that finish no character, in
-;; what a child writes; a child that closes its output and lives on; how many objects, records and bytes there may be;
-;; where point is while hook functions run at an insertion of output; ends of a deletion or of a change of properties
-;; that functions before it move; properties to which Emacs gives a meaning, as `category' and `modification-hooks'.
+;; what a child writes; carriage returns in its output, and what came before its coding was set; a child that closes
+;; its output and lives on; how many objects, records and bytes there may be; where point is while hook functions run at
+;; an insertion of output; ends of a deletion or of a change of properties that functions before it move, and where
+;; those behind a change are told that it was; records of properties that undoing leaves; properties to which Emacs
+;; gives a meaning, as `category' and `modification-hooks'.
 ;; Numbers of exchanges aren't compared, and `exchanges-spent' never comes. A script that is none isn't told as such.
 
 (require 'cl-lib)
@@ -40,7 +48,7 @@
 (defconst beside-faults
   [nil args-out-of-range wrong-type-argument void-variable no-such-buffer buffer-killed no-further-undo undo-outside
        undo-disabled no-such-process process-ended broken-pipe spawn-failed nesting exchanges-spent buffer-full
-       too-many])
+       too-many buffer-read-only text-read-only coding-fixed])
 
 (define-error 'beside-refused "A call is refused; with the number of its fault")
 (define-error 'beside-told "A refusal whose line is written")
@@ -57,6 +65,8 @@
           ((eq (car err) 'void-variable) 3)
           ((eq (car err) 'file-missing) 12)
           ((eq (car err) 'excessive-lisp-nesting) 13)
+          ((eq (car err) 'buffer-read-only) 17)
+          ((eq (car err) 'text-read-only) 18)
           ((string-match-p "No buffer named" text) 4)
           ((string-match-p "deleted buffer" text) 5)
           ((string-match-p "No further undo information" text) 6)
@@ -80,15 +90,19 @@
 (defvar beside-markers nil)
 (defvar beside-overlays nil)
 (defvar beside-processes nil)
+(defvar beside-lifted nil "Whether a block says that nothing is read-only.")
 (defvar beside-kept nil "Markers at the points and beginnings that blocks keep.")
 (defvar beside-bounds nil "Two ends that hook functions see instead, and whether those behind the change see them too.")
-(defvar beside-inserted nil "The text of an insertion under way that inherits.")
+(defvar beside-begun nil "What notes the undo records before the change under way.")
+(defvar beside-narrowed nil "The portion to which functions before an insertion elsewhere have narrowed its buffer.")
+(defvar beside-changed nil "What puts right the undo records of the change under way, until that is done.")
 (defvar-local beside-before nil)
 (defvar-local beside-after nil)
 (defvar-local beside-pending t "The undo records that are pending; t where there are none.")
 
 (cl-defstruct beside-process
-  name child buffer mark filter sentinel (status 'run) exit pieces ended drained closed (listed t))
+  name child buffer mark filter sentinel (status 'run) exit pieces ended drained closed (listed t) heard
+  (coding 'utf-8-unix))
 
 ;; LINES
 (defun beside-line (depth &rest words)
@@ -178,7 +192,7 @@
 ;; NAMES, numbered in the order of their first place
 (defconst beside-first-names
   '(front-sticky rear-nonsticky evaporate priority before-change-functions after-change-functions run exit signal failed
-    read-only invisible before-string after-string))
+    read-only invisible before-string after-string utf-8-unix utf-8-dos latin-1-unix))
 
 (defconst beside-shipped '(insert-filter drop-filter note-sentinel))
 
@@ -209,7 +223,7 @@
      (beside-note-atom (nth 1 form))
      (beside-note-atom (nth 2 form))
      (mapc #'beside-note-form (nthcdr 3 form)))
-    ((or 'save-excursion 'save-restriction 'save-current-buffer 'inhibit-hooks)
+    ((or 'save-excursion 'save-restriction 'save-current-buffer 'inhibit-hooks 'inhibit-read-only)
      (mapc #'beside-note-form (cdr form)))
     (_ (mapc #'beside-note-atom (cdr form)))))
 
@@ -264,6 +278,7 @@
     ('save-restriction (beside-restriction (cdr form)))
     ('save-current-buffer (save-current-buffer (beside-forms (cdr form))))
     ('inhibit-hooks (let ((inhibit-modification-hooks t)) (beside-forms (cdr form))))
+    ('inhibit-read-only (let ((beside-lifted t)) (beside-forms (cdr form))))
     (_ (beside-call (car form) (cdr form)))))
 
 (defun beside-excursion (forms)
@@ -300,7 +315,7 @@
 (defconst beside-calls
   '((set-buffer buffer) (get-buffer got) (get-buffer-create got) (generate-new-buffer name) (rename-buffer name)
     (kill-buffer here) (buffer-live-p any) (buffer-name named) (buffer-modified-p here) (set-buffer-modified-p any)
-    (buffer-size here) (goto-char pos) (char-after limit) (buffer-substring acc acc)
+    (buffer-read-only-p here) (set-buffer-read-only any) (buffer-size here) (goto-char pos) (char-after limit) (buffer-substring acc acc)
     (buffer-substring-no-properties acc acc) (insert &rest string) (insert-and-inherit &rest string)
     (insert-before-markers &rest string) (insert-before-markers-and-inherit &rest string)
     (insert-buffer-substring buffer limit limit) (delete-region acc acc) (delete-and-extract-region acc acc)
@@ -319,7 +334,8 @@
     (process-buffer process) (process-mark process) (process-live-p process) (process-exit-status process)
     (process-filter process) (process-sentinel process) (set-process-filter process filter)
     (set-process-sentinel process handler) (set-process-buffer process here) (process-send-string process string)
-    (process-send-eof process) (delete-process process) (accept-process-output target rounds any)))
+    (process-send-eof process) (delete-process process) (accept-process-output target rounds any)
+    (process-coding-system process) (set-process-coding-system process coding)))
 
 (defun beside-pairs (kinds args)
   "Each of KINDS with its argument, which is nil where it was left out."
@@ -376,6 +392,7 @@
             ('function (beside-is-symbol v))
             ('filter (symbolp v))
             ('hook (memq v '(before-change-functions after-change-functions)))
+            ('coding (memq v '(utf-8-unix utf-8-dos latin-1-unix)))
             (_ t))
     (beside-refuse 2)))
 
@@ -414,12 +431,16 @@
 (defun beside-short (name)
   (when (> (length name) 256) (beside-refuse 16)))
 
+(defun beside-watch ()
+  "Have Emacs tell of each change of the current buffer."
+  (add-hook 'before-change-functions #'beside-before-change nil t)
+  (add-hook 'after-change-functions #'beside-after-change nil t))
+
 (defun beside-take-buffer (buffer)
   "BUFFER with its hooks, recorded and under the next number."
   (with-current-buffer buffer
     (buffer-enable-undo)
-    (add-hook 'before-change-functions #'beside-before-change nil t)
-    (add-hook 'after-change-functions #'beside-after-change nil t))
+    (beside-watch))
   (setq beside-buffers (append beside-buffers (list buffer)))
   buffer)
 
@@ -485,14 +506,30 @@
         (when records (push (pop records) out))))
     (nreverse out)))
 
-(defun beside-settle (old inserting point)
-  "Give the undo records in front of OLD this editor's form, with POINT as the point that a deletion keeps."
+(defun beside-by-property (records)
+  "RECORDS of one change of properties: one property after the other, and one record for each stretch of one value."
+  (let ((out nil))
+    (dolist (record (sort records (lambda (a b)
+                                    (let ((m (beside-number (nth 1 a))) (n (beside-number (nth 1 b))))
+                                      (or (< m n) (and (= m n) (< (nth 3 a) (nth 3 b))))))))
+      (pcase-let ((`(nil ,name ,value ,from . ,to) record) (last (car out)))
+        (if (and (eq name (nth 1 last)) (equal value (nth 2 last)) (eql from (nthcdr 4 last)))
+            (setcar out (cl-list* nil name value (nth 3 last) to))
+          (push record out))))
+    (nreverse out)))
+
+(defun beside-settle (old kind point)
+  "Give the undo records in front of OLD this editor's form, with POINT as the point that a deletion keeps.
+KIND is `text' where text was put in, and `properties' where some were changed."
   (unless (eq buffer-undo-list t)
-    (let ((new nil) (rest buffer-undo-list))
+    (let ((new nil) (rest buffer-undo-list) (inserting (eq kind 'text)))
       (while (and rest (not (eq rest old)))
         (dolist (record (beside-record (car rest) inserting)) (push record new))
         (setq rest (cdr rest)))
       ;; NEW has the oldest one first
+      (when (eq kind 'properties)
+        (let ((first (lambda (record) (eq (car record) t))))
+          (setq new (append (cl-remove-if-not first new) (beside-by-property (cl-remove-if first new))))))
       (when (and point new)
         (if (eq (car-safe (car new)) t)
             (setcdr new (cons (list 'apply 'goto-char point) (cdr new)))
@@ -500,13 +537,22 @@
       (let ((all (nconc (beside-in-order (nreverse new)) rest)))
         (setq buffer-undo-list (if inserting (beside-merged all) all))))))
 
-(defun beside-change (inserting point work)
-  "Do WORK, a change of the current buffer, and put its undo records right."
-  (let ((buffer (current-buffer)) (old buffer-undo-list) (tick (buffer-modified-tick)))
-    (prog1 (funcall work)
-      (when (and (buffer-live-p buffer) (eq buffer (current-buffer)))
-        (unless (eq old t) (beside-settle old inserting point))
-        (unless (= tick (buffer-modified-tick)) (setq beside-pending t))))))
+(defun beside-change (kind start work)
+  "Do WORK, a change of the current buffer, from START where it deletes. Its undo records are put right before functions
+after the change run, if any do, and those of functions before it are no part of them."
+  (let* ((buffer (current-buffer)) (tick (buffer-modified-tick)) (old nil) (point nil)
+         (beside-narrowed nil)
+         (beside-begun (lambda () (setq old buffer-undo-list point (and start (beside-kept-point start)))))
+         (beside-changed (lambda ()
+                           (unless (eq old t) (beside-settle old kind point))
+                           (unless (= tick (buffer-modified-tick)) (setq beside-pending t)))))
+    (funcall beside-begun)
+    (unwind-protect
+        (prog1 (funcall work)
+          (when (and beside-changed (buffer-live-p buffer) (eq buffer (current-buffer)))
+            (funcall beside-changed)))
+      ;; where a function before the change has killed its buffer, Emacs takes the hook off the current one
+      (beside-watch))))
 
 (defun beside-kept-point (start)
   "Point, where a deletion from START keeps it: at the beginning of a group, and elsewhere than at START."
@@ -525,20 +571,71 @@
 
 (defun beside-own (start text)
   "Give the inserted TEXT at START its own values back, and take away a stickiness that it inherited."
-  (let ((buffer-undo-list t) (inhibit-modification-hooks t))
-    (dotimes (i (length text))
-      (let ((plist (text-properties-at i text)) (at (+ start i)))
-        (dolist (name '(front-sticky rear-nonsticky))
-          (unless (plist-member plist name) (remove-text-properties at (1+ at) (list name nil))))
-        (add-text-properties at (1+ at) plist)))))
+  (dotimes (i (length text))
+    (let ((plist (text-properties-at i text)) (at (+ start i)))
+      (dolist (name '(front-sticky rear-nonsticky))
+        (unless (plist-member plist name) (remove-text-properties at (1+ at) (list name nil))))
+      (add-text-properties at (1+ at) plist))))
+
+(defun beside-around (work)
+  "Do WORK in a copy of what stands around point in the accessible portion."
+  (let* ((at (point)) (from (max (point-min) (1- at))) (around (buffer-substring from (min (point-max) (1+ at)))))
+    (with-temp-buffer
+      (insert around)
+      (goto-char (1+ (- at from)))
+      (funcall work))))
+
+(defun beside-inheriting (text)
+  "TEXT with what it inherits at point, as Emacs has it in a copy of the text around."
+  (beside-around
+   (lambda ()
+     (let ((start (point)))
+       (insert-and-inherit text)
+       (beside-own start text)
+       (buffer-substring start (point))))))
+
+;; WHAT IS READ-ONLY. Nothing is while Emacs makes a change; what bars one it says before, of a copy of the text that counts.
+(defun beside-writable ()
+  "Refuse to change the current buffer where it is read-only."
+  (let ((inhibit-read-only nil)) (barf-if-buffer-read-only)))
+
+(defun beside-tried (text work)
+  "Refuse what Emacs refuses of WORK in a buffer of TEXT."
+  (with-temp-buffer
+    (insert text)
+    (let ((inhibit-read-only nil)) (funcall work))))
+
+(defun beside-may-put-in (n)
+  "Refuse to put in N characters at point beside read-only text of the accessible portion."
+  (unless (or beside-lifted (= n 0))
+    (beside-around (lambda () (let ((inhibit-read-only nil)) (insert "x"))))))
+
+(defun beside-may-insert (n)
+  (unless (or beside-lifted (= n 0)) (beside-writable))
+  (beside-may-put-in n))
+
+(defun beside-may-delete (from to)
+  (unless (or beside-lifted (= from to))
+    (beside-writable)
+    (beside-tried (buffer-substring from to) (lambda () (delete-region 1 (point-max))))))
+
+(defun beside-may-change (from to work)
+  "Refuse WORK, which changes properties of the region, where it changes some and something is read-only."
+  (unless (or beside-lifted (= from to))
+    (let ((text (buffer-substring from to)))
+      (when (with-temp-buffer
+              (insert text)
+              (let ((inhibit-modification-hooks t)) (funcall work 1 (point-max))))
+        (beside-writable)
+        (beside-tried text (lambda () (put-text-property 1 (point-max) 'beside-tried t)))))))
 
 (defun beside-insert (args function)
-  (let* ((text (apply #'concat args)) (at (point))
-         (inherits (memq function '(insert-and-inherit insert-before-markers-and-inherit)))
-         (beside-inserted (and inherits (not inhibit-modification-hooks) text)))
+  (let ((text (apply #'concat args)))
     (beside-room (length text))
-    (beside-change t nil (lambda () (funcall function text)))
-    (when (and inherits inhibit-modification-hooks) (beside-own at text)))
+    (pcase function
+      ('insert-and-inherit (setq text (beside-inheriting text) function #'insert))
+      ('insert-before-markers-and-inherit (setq text (beside-inheriting text) function #'insert-before-markers)))
+    (beside-change 'text nil (lambda () (funcall function text))))
   nil)
 
 (defun beside-insert-before (args function)
@@ -554,16 +651,22 @@
         (to (or to (with-current-buffer buffer (point-max)))))
     (with-current-buffer buffer
       (unless (and (<= (point-min) from (point-max)) (<= (point-min) to (point-max))) (beside-refuse 1)))
+    (beside-may-insert (abs (- to from)))
     (beside-fit (abs (- to from)))
     (beside-insert (list (with-current-buffer buffer (buffer-substring from to))) #'insert)))
 
 (defun beside-delete (from to function)
   (let ((start (min from to)))
-    (beside-change nil (and (/= from to) (beside-kept-point start)) (lambda () (funcall function start (max from to))))))
+    (beside-may-delete start (max from to))
+    (when (eq function #'delete-and-extract-region) (beside-fit (abs (- to from))))
+    (beside-change nil (and (/= from to) start) (lambda () (funcall function start (max from to))))))
 
 (defun beside-erase ()
+  (save-restriction
+    (widen)
+    (beside-may-delete 1 (point-max)))
   (let ((narrowed (list (copy-marker (point-min)) (copy-marker (point-max) t) nil)))
-    (beside-change nil (and (> (buffer-size) 0) (beside-kept-point 1))
+    (beside-change nil (and (> (buffer-size) 0) 1)
                    (lambda () (let ((beside-bounds narrowed)) (erase-buffer))))
     nil))
 
@@ -585,7 +688,7 @@
                (unless (<= low a (cdr record) high) (beside-refuse 7))
                (setq high (- high (- (cdr record) a))))
               ((stringp a)
-               (unless (<= low (cdr record) high) (beside-refuse 7))
+               (unless (<= low (abs (cdr record)) high) (beside-refuse 7))
                (setq high (+ high (length a))))
               ((and (consp record) (null a))
                (unless (<= low (nth 3 record) (nthcdr 4 record) high) (beside-refuse 7))))))))
@@ -593,22 +696,29 @@
 (defun beside-undo (n)
   "Undo N groups of the pending records, with the hooks run once."
   (unless (<= 1 n 65536) (beside-refuse 1))
+  (unless beside-lifted (beside-writable))
   (when (eq buffer-undo-list t) (beside-refuse 8))
-  (when (or (null beside-pending) (eq beside-pending t)) (beside-refuse 6))
-  (beside-try n beside-pending)
-  (let* ((pending-undo-list beside-pending)
-         (size (- (point-max) (point-min)))
-         (quiet (or inhibit-modification-hooks (not (beside-has-record n beside-pending)))))
+  (beside-undoable n)
+  (let ((size (- (point-max) (point-min)))
+        (quiet (or inhibit-modification-hooks (not (beside-has-record n beside-pending)))))
     (let ((inhibit-modification-hooks t))
-      (unless quiet (beside-before-change (point-min) (point-max)))
-      (beside-change nil nil (lambda () (undo-more n) (beside-strip)))
-      (setq beside-pending (if (consp pending-undo-list) pending-undo-list t))
+      (unless quiet
+        (beside-before-change (point-min) (point-max))
+        (beside-undoable n))
+      (let ((pending-undo-list beside-pending))
+        (beside-change nil nil (lambda () (undo-more n) (beside-strip)))
+        (setq beside-pending (if (consp pending-undo-list) pending-undo-list t)))
       (unless quiet (beside-after-change (point-min) (point-max) size)))
     nil))
 
+(defun beside-undoable (n)
+  "Refuse to undo N groups where none is pending, or one reaches outside."
+  (when (or (null beside-pending) (eq beside-pending t)) (beside-refuse 6))
+  (beside-try n beside-pending))
+
 (defun beside-strip ()
   "Take away the properties whose value is nil, which undoing leaves in Emacs."
-  (let ((buffer-undo-list t))
+  (let ((buffer-undo-list t) (modified (buffer-modified-p)))
     (save-restriction
       (widen)
       (let ((i 1))
@@ -618,7 +728,8 @@
               (unless (cadr plist) (setq names (cons (car plist) (cons nil names))))
               (setq plist (cddr plist)))
             (when names (remove-text-properties i (1+ i) names)))
-          (setq i (1+ i)))))))
+          (setq i (1+ i)))))
+    (restore-buffer-modified-p modified)))
 
 (defun beside-shown-record (record)
   "RECORD as `buffer-undo-list' shows it."
@@ -653,17 +764,26 @@
                ((null new) (remove-text-properties from to gone))
                (t (beside-both from to new gone))))))
 
+(defun beside-part (from to)
+  "Have Emacs part its intervals at the ends of the region, as else it may record the values there as nil."
+  (let ((buffer-undo-list t) (inhibit-modification-hooks t) (modified (buffer-modified-p)))
+    (put-text-property from to 'beside-part t)
+    (remove-text-properties from to '(beside-part nil))
+    (restore-buffer-modified-p modified)))
+
 (defun beside-replace (from to plist)
   (let* ((set (beside-set plist)) (copy (buffer-substring from to)) (same t))
     (dotimes (i (- to from))
       (unless (equal set (beside-set (text-properties-at i copy))) (setq same nil)))
     (unless same
+      (beside-part from to)
       (set-text-properties from to (beside-flat set))
       t)))
 
 (defun beside-properties (from to work)
   "Do WORK on the region by rising ends; whether it changed something."
-  (and (beside-change nil nil (lambda () (funcall work (min from to) (max from to)))) t))
+  (beside-may-change (min from to) (max from to) work)
+  (and (beside-change 'properties nil (lambda () (funcall work (min from to) (max from to)))) t))
 
 (defun beside-up-to (found limit)
   (cond ((null limit) found)
@@ -715,17 +835,24 @@
 
 (defun beside-before-change (from to)
   (when beside-before
-    (let ((buffer (current-buffer)) (start (copy-marker from)))
+    (let* ((buffer (current-buffer)) (start (copy-marker from)) (beside-kept (cons start beside-kept)))
       (beside-in-bounds beside-bounds (lambda () (beside-run-hooks 'beside-before "before" (list from to))))
       (unless (buffer-live-p buffer) (beside-refuse 5))
-      (when (= from to) (goto-char start))
+      (when beside-begun (funcall beside-begun))
+      (when (= from to)
+        (unless (<= (point-min) start (point-max))
+          (setq beside-narrowed (list (copy-marker (point-min)) (copy-marker (point-max) t)))
+          (widen))
+        (goto-char start))
       (set-marker start nil))))
 
 (defun beside-after-change (from to length)
-  (when beside-inserted (beside-own from beside-inserted))
-  (let ((beside-inserted nil))
-    (beside-in-bounds (and (nth 2 beside-bounds) beside-bounds)
-                      (lambda () (beside-run-hooks 'beside-after "after" (list from to length))))))
+  (when beside-narrowed (apply #'narrow-to-region beside-narrowed))
+  (setq beside-narrowed nil)
+  (when beside-changed (funcall beside-changed))
+  (setq beside-changed nil)
+  (beside-in-bounds (and (nth 2 beside-bounds) beside-bounds)
+                    (lambda () (beside-run-hooks 'beside-after "after" (list from to length)))))
 
 (defun beside-set-hook (hook name adding)
   (let* ((list (if (eq hook 'before-change-functions) 'beside-before 'beside-after)) (names (symbol-value list)))
@@ -754,8 +881,9 @@
           (definition
            (dolist (name (nth 1 definition)) (push (cons name (pop args)) beside-scope))
            (beside-forms (nthcdr 2 definition)))
-          ((eq handler 'insert-filter) (beside-insert-filter (car args) (cadr args)))
-          ((eq handler 'note-sentinel) (beside-note-sentinel (cadr args))))))
+          ;; a call that is refused ends these, and not by a fault
+          ((eq handler 'insert-filter) (ignore-error beside-told (beside-insert-filter (car args) (cadr args))))
+          ((eq handler 'note-sentinel) (ignore-error beside-told (beside-note-sentinel (cadr args)))))))
 
 (defun beside-insert-filter (process text)
   (let ((buffer (beside-apply 'process-buffer (list process))))
@@ -791,14 +919,23 @@
          (was (copy-marker (point)))
          (bounds (unless (<= (point-min) at (point-max))
                    (list (copy-marker (point-min)) (copy-marker (point-max) t) t))))
-    (save-restriction
-      (when bounds (widen))
-      (let ((beside-bounds bounds))
-        (goto-char at)
-        (beside-telling (lambda () (beside-insert-before (list text) #'insert-before-markers))))
-      (set-marker mark (point)))
+    (if bounds
+        (save-restriction
+          (widen)
+          (let ((beside-bounds bounds)) (beside-output-at mark at text)))
+      (beside-may-put-in-at at text)
+      (beside-output-at mark at text))
     (goto-char was)
     (set-marker was nil)))
+
+(defun beside-output-at (mark at text)
+  (goto-char at)
+  (beside-telling (lambda () (beside-insert-before (list text) #'insert-before-markers)))
+  (set-marker mark (point)))
+
+(defun beside-may-put-in-at (at text)
+  (goto-char at)
+  (beside-telling (lambda () (beside-may-put-in (length text)))))
 
 ;; PROCESSES
 (defun beside-listed (name)
@@ -820,10 +957,18 @@
    :name "child" :buffer nil :connection-type 'pipe :coding 'utf-8-unix :noquery t
    :command (append (list "/bin/sh" "-c" "exec \"$0\" \"$@\" 2> /dev/null" program) arguments)
    :filter (lambda (_child text)
-             (setf (beside-process-pieces process) (append (beside-process-pieces process) (list text))))
+             (setf (beside-process-pieces process) (append (beside-process-pieces process)
+                                                           ;; without the charset that Emacs notes of latin-1
+                                                           (list (substring-no-properties text)))))
    :sentinel (lambda (child _event)
                (unless (process-live-p child)
                  (setf (beside-process-ended process) (cons (process-status child) (process-exit-status child)))))))
+
+(defun beside-set-coding (process coding)
+  "Have Emacs decode the output of PROCESS by CODING, unless some of it was read."
+  (when (beside-process-heard process) (beside-refuse 19))
+  (set-process-coding-system (beside-process-child process) coding 'utf-8-unix)
+  (setf (beside-process-coding process) coding))
 
 (defun beside-start (name home program arguments)
   (unless (beside-is-word program) (beside-refuse 2))
@@ -864,7 +1009,8 @@
       (accept-process-output (beside-process-child process) 1 nil t))
     (let ((text (pop (beside-process-pieces process))))
       (cond ((null text) (setf (beside-process-drained process) t) nil)
-            (t (unless (equal text "")
+            (t (setf (beside-process-heard process) t)
+               (unless (equal text "")
                  (beside-enter "filter" (beside-process-filter process) (list process text)))
                t)))))
 
@@ -926,17 +1072,21 @@
       ('buffer-list (beside-live-buffers))
       ('buffer-modified-p (and (buffer-modified-p (or a (current-buffer))) t))
       ('set-buffer-modified-p (set-buffer-modified-p (and a t)) (and a t))
+      ('buffer-read-only-p (and (buffer-local-value 'buffer-read-only (or a (current-buffer))) t))
+      ('set-buffer-read-only (setq buffer-read-only (and a t)))
       ('buffer-narrowed-p (and (buffer-narrowed-p) t))
       ('buffer-size (buffer-size (or a (current-buffer))))
       ('goto-char (goto-char a) (car raw))
       ('char-after (char-after (or a (point))))
       ('buffer-string (beside-fit (- (point-max) (point-min))) (buffer-string))
       ((or 'buffer-substring 'buffer-substring-no-properties) (beside-fit (abs (- a b))) (funcall word a b))
-      ((or 'insert 'insert-and-inherit) (beside-insert args word))
-      ((or 'insert-before-markers 'insert-before-markers-and-inherit) (beside-insert-before args word))
+      ((or 'insert 'insert-and-inherit) (beside-may-insert (length (apply #'concat args))) (beside-insert args word))
+      ((or 'insert-before-markers 'insert-before-markers-and-inherit)
+       (beside-may-insert (length (apply #'concat args)))
+       (beside-insert-before args word))
       ('insert-buffer-substring (beside-insert-part a b c))
       ('delete-region (beside-delete a b #'delete-region) nil)
-      ('delete-and-extract-region (beside-fit (abs (- a b))) (beside-delete a b #'delete-and-extract-region))
+      ('delete-and-extract-region (beside-delete a b #'delete-and-extract-region))
       ('erase-buffer (beside-erase))
       ('narrow-to-region (narrow-to-region a b) nil)
       ('widen (widen) nil)
@@ -986,6 +1136,8 @@
       ('process-exit-status (if (eq (beside-process-status a) 'run) 0 (beside-process-exit a)))
       ('process-filter (beside-process-filter a))
       ('process-sentinel (beside-process-sentinel a))
+      ('process-coding-system (beside-process-coding a))
+      ('set-process-coding-system (beside-set-coding a b))
       ('set-process-filter (setf (beside-process-filter a) b) b)
       ('set-process-sentinel (setf (beside-process-sentinel a) b) b)
       ('set-process-buffer (setf (beside-process-buffer a) b) (nth 1 raw))
@@ -1014,7 +1166,8 @@
     (with-current-buffer buffer
       (apply #'beside-line 0 "buffer" (beside-text (buffer-name)) "point" (number-to-string (point))
              "min" (number-to-string (point-min)) "max" (number-to-string (point-max))
-             "modified" (if (buffer-modified-p) "t" "nil") (and current (list "current")))
+             "modified" (if (buffer-modified-p) "t" "nil")
+             (append (and buffer-read-only (list "read-only")) (and current (list "current"))))
       (save-restriction
         (widen)
         (beside-line 0 "text" (beside-shown (buffer-string)))))))
