@@ -578,10 +578,14 @@ after the change run, if any do, and those of functions before it are no part of
       (add-text-properties at (1+ at) plist))))
 
 (defun beside-around (work)
-  "Do WORK in a copy of what stands around point in the accessible portion."
+  "Do WORK in a copy of what stands around point in the accessible portion, without stickiness that is no list of names."
   (let* ((at (point)) (from (max (point-min) (1- at))) (around (buffer-substring from (min (point-max) (1+ at)))))
     (with-temp-buffer
       (insert around)
+      (dolist (i (number-sequence 1 (1- (point-max))))
+        (dolist (name '(front-sticky rear-nonsticky))
+          (let ((value (get-text-property i name)))
+            (unless (or (eq value t) (listp value)) (remove-text-properties i (1+ i) (list name nil))))))
       (goto-char (1+ (- at from)))
       (funcall work))))
 
