@@ -27,8 +27,9 @@
 ;;   and of a change of properties one for each stretch of one value, one property after the other; the old values that
 ;;   `set-text-properties' may lose;
 ;; - hook functions are entered from a list of this file: one that ends by a fault empties it, and the change goes on;
-;;   what was current is put back, and a change whose buffer is gone is refused; text goes in at its place, which stays
-;;   at insertions before markers, and may lie outside of what a function has narrowed to;
+;;   what was current is put back, and a change whose buffer is gone is refused; where functions before a change have
+;;   changed its text or narrowed it away, the change is begun again at its ends as they have moved, which stay where
+;;   text comes in at them;
 ;; - names of buffers and processes, which buffer is current behind `kill-buffer', recording in each new buffer;
 ;; - the whole order of waits: Emacs reads and decodes, and the pieces are handed over in the kernel's rounds;
 ;; - the default filter and sentinel, what a sentinel is told, the shipped handlers, nesting, pipes for children, their
@@ -37,9 +38,8 @@
 ;; Not masked, so a difference may show: bytes of codes above 10FFFF, and bytes above 7F that finish no character, in
 ;; what a child writes; carriage returns in its output, and what came before its coding was set; a child that closes
 ;; its output and lives on; how many objects, records and bytes there may be; where point is while hook functions run at
-;; an insertion of output; ends of a deletion or of a change of properties that functions before it move, and where
-;; those behind a change are told that it was; records of properties that undoing leaves; properties to which Emacs
-;; gives a meaning, as `category' and `modification-hooks'.
+;; an insertion of output; records of properties that undoing leaves; properties to which Emacs gives a meaning, as
+;; `category' and `modification-hooks'.
 ;; Numbers of exchanges aren't compared, and `exchanges-spent' never comes. A script that is none isn't told as such.
 
 (require 'cl-lib)
@@ -52,6 +52,7 @@
 
 (define-error 'beside-refused "A call is refused; with the number of its fault")
 (define-error 'beside-told "A refusal whose line is written")
+(define-error 'beside-moved "Functions before a change have changed its text; with the ends that it has by then")
 
 (defun beside-refuse (number)
   (signal 'beside-refused (list number)))
@@ -94,7 +95,6 @@
 (defvar beside-kept nil "Markers at the points and beginnings that blocks keep.")
 (defvar beside-bounds nil "Two ends that hook functions see instead, and whether those behind the change see them too.")
 (defvar beside-begun nil "What notes the undo records before the change under way.")
-(defvar beside-narrowed nil "The portion to which functions before an insertion elsewhere have narrowed its buffer.")
 (defvar beside-changed nil "What puts right the undo records of the change under way, until that is done.")
 (defvar-local beside-before nil)
 (defvar-local beside-after nil)
@@ -537,22 +537,32 @@ KIND is `text' where text was put in, and `properties' where some were changed."
       (let ((all (nconc (beside-in-order (nreverse new)) rest)))
         (setq buffer-undo-list (if inserting (beside-merged all) all))))))
 
-(defun beside-change (kind start work)
-  "Do WORK, a change of the current buffer, from START where it deletes. Its undo records are put right before functions
-after the change run, if any do, and those of functions before it are no part of them."
-  (let* ((buffer (current-buffer)) (tick (buffer-modified-tick)) (old nil) (point nil)
-         (beside-narrowed nil)
-         (beside-begun (lambda () (setq old buffer-undo-list point (and start (beside-kept-point start)))))
+(defun beside-change (kind from to work)
+  "Do WORK, a change of the current buffer between FROM and TO. Its undo records are put right before functions after the
+change run, if any do, and those of functions before it are no part of them."
+  (let* ((buffer (current-buffer)) (tick nil) (old nil) (point nil)
+         (beside-begun (lambda (start)
+                         (setq tick (buffer-modified-tick) old buffer-undo-list
+                               point (and (eq kind 'deletion) (beside-kept-point start)))))
          (beside-changed (lambda ()
                            (unless (eq old t) (beside-settle old kind point))
                            (unless (= tick (buffer-modified-tick)) (setq beside-pending t)))))
-    (funcall beside-begun)
+    (funcall beside-begun from)
     (unwind-protect
-        (prog1 (funcall work)
+        (prog1 (condition-case moved (funcall work from to)
+                 (beside-moved (beside-again (nth 1 moved) (nth 2 moved) work)))
           (when (and beside-changed (buffer-live-p buffer) (eq buffer (current-buffer)))
             (funcall beside-changed)))
-      ;; where a function before the change has killed its buffer, Emacs takes the hook off the current one
+      ;; where a function before the change ends it so, or has killed its buffer, Emacs takes the hook off the current one
       (beside-watch))))
+
+(defun beside-again (from to work)
+  "Do WORK between FROM and TO, its ends behind functions before it, and enter the functions after it."
+  (let ((inhibit-modification-hooks t) (size (buffer-size)))
+    (prog1 (save-restriction
+             (unless (<= (point-min) from to (point-max)) (widen))
+             (funcall work from to))
+      (beside-after-change from (+ to (- (buffer-size) size)) (- to from)))))
 
 (defun beside-kept-point (start)
   "Point, where a deletion from START keeps it: at the beginning of a group, and elsewhere than at START."
@@ -639,7 +649,7 @@ after the change run, if any do, and those of functions before it are no part of
     (pcase function
       ('insert-and-inherit (setq text (beside-inheriting text) function #'insert))
       ('insert-before-markers-and-inherit (setq text (beside-inheriting text) function #'insert-before-markers)))
-    (beside-change 'text nil (lambda () (funcall function text))))
+    (beside-change 'text (point) (point) (lambda (from _to) (goto-char from) (funcall function text))))
   nil)
 
 (defun beside-insert-before (args function)
@@ -660,18 +670,26 @@ after the change run, if any do, and those of functions before it are no part of
     (beside-insert (list (with-current-buffer buffer (buffer-substring from to))) #'insert)))
 
 (defun beside-delete (from to function)
-  (let ((start (min from to)))
-    (beside-may-delete start (max from to))
-    (when (eq function #'delete-and-extract-region) (beside-fit (abs (- to from))))
-    (beside-change nil (and (/= from to) start) (lambda () (funcall function start (max from to))))))
+  (let ((start (min from to)) (end (max from to)) (text nil) (times 0))
+    (beside-may-delete start end)
+    (when (eq function #'delete-and-extract-region)
+      (beside-fit (- end start))
+      (setq text (buffer-substring start end)))
+    (let ((answer (beside-change (and (/= from to) 'deletion) start end
+                                 (lambda (from to) (setq times (1+ times)) (funcall function from to)))))
+      (if (= times 1) answer text))))
 
 (defun beside-erase ()
   (save-restriction
     (widen)
     (beside-may-delete 1 (point-max)))
   (let ((narrowed (list (copy-marker (point-min)) (copy-marker (point-max) t) nil)))
-    (beside-change nil (and (> (buffer-size) 0) 1)
-                   (lambda () (let ((beside-bounds narrowed)) (erase-buffer))))
+    (beside-change (and (> (buffer-size) 0) 'deletion) 1 (1+ (buffer-size))
+                   (lambda (from to)
+                     (let ((beside-bounds narrowed))
+                       (if (and (= from 1) (= to (1+ (buffer-size))))
+                           (erase-buffer)
+                         (delete-region from to)))))
     nil))
 
 (defun beside-has-record (n records)
@@ -703,14 +721,15 @@ after the change run, if any do, and those of functions before it are no part of
   (unless beside-lifted (beside-writable))
   (when (eq buffer-undo-list t) (beside-refuse 8))
   (beside-undoable n)
-  (let ((size (- (point-max) (point-min)))
+  (let ((size nil)
         (quiet (or inhibit-modification-hooks (not (beside-has-record n beside-pending)))))
-    (let ((inhibit-modification-hooks t))
+    (let ((inhibit-modification-hooks t) (beside-begun nil))
       (unless quiet
         (beside-before-change (point-min) (point-max))
         (beside-undoable n))
+      (setq size (- (point-max) (point-min)))
       (let ((pending-undo-list beside-pending))
-        (beside-change nil nil (lambda () (undo-more n) (beside-strip)))
+        (beside-change nil 1 1 (lambda (_from _to) (undo-more n) (beside-strip)))
         (setq beside-pending (if (consp pending-undo-list) pending-undo-list t)))
       (unless quiet (beside-after-change (point-min) (point-max) size)))
     nil))
@@ -787,7 +806,11 @@ after the change run, if any do, and those of functions before it are no part of
 (defun beside-properties (from to work)
   "Do WORK on the region by rising ends; whether it changed something."
   (beside-may-change (min from to) (max from to) work)
-  (and (beside-change 'properties nil (lambda () (funcall work (min from to) (max from to)))) t))
+  (let ((times 0))
+    (and (or (beside-change 'properties (min from to) (max from to)
+                            (lambda (from to) (setq times (1+ times)) (funcall work from to)))
+             (> times 1))
+         t)))
 
 (defun beside-up-to (found limit)
   (cond ((null limit) found)
@@ -839,20 +862,20 @@ after the change run, if any do, and those of functions before it are no part of
 
 (defun beside-before-change (from to)
   (when beside-before
-    (let* ((buffer (current-buffer)) (start (copy-marker from)) (beside-kept (cons start beside-kept)))
+    (let* ((buffer (current-buffer)) (tick (buffer-modified-tick)) (start (copy-marker from)) (end (copy-marker to))
+           (beside-kept (cons start (cons end beside-kept))))
       (beside-in-bounds beside-bounds (lambda () (beside-run-hooks 'beside-before "before" (list from to))))
       (unless (buffer-live-p buffer) (beside-refuse 5))
-      (when beside-begun (funcall beside-begun))
-      (when (= from to)
-        (unless (<= (point-min) start (point-max))
-          (setq beside-narrowed (list (copy-marker (point-min)) (copy-marker (point-max) t)))
-          (widen))
-        (goto-char start))
-      (set-marker start nil))))
+      (let ((from (marker-position start)) (to (marker-position end)))
+        (set-marker start nil)
+        (set-marker end nil)
+        (when beside-begun
+          (funcall beside-begun from)
+          (unless (and (= tick (buffer-modified-tick)) (<= (point-min) from to (point-max)))
+            (signal 'beside-moved (list from to)))
+          (when (= from to) (goto-char from)))))))
 
 (defun beside-after-change (from to length)
-  (when beside-narrowed (apply #'narrow-to-region beside-narrowed))
-  (setq beside-narrowed nil)
   (when beside-changed (funcall beside-changed))
   (setq beside-changed nil)
   (beside-in-bounds (and (nth 2 beside-bounds) beside-bounds)
