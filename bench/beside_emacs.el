@@ -559,9 +559,11 @@ change run, if any do, and those of functions before it are no part of them."
 (defun beside-again (from to work)
   "Do WORK between FROM and TO, its ends behind functions before it, and enter the functions after it."
   (let ((inhibit-modification-hooks t) (size (buffer-size)))
-    (prog1 (save-restriction
-             (unless (<= (point-min) from to (point-max)) (widen))
-             (funcall work from to))
+    (prog1 (if (<= (point-min) from to (point-max))
+               (funcall work from to)
+             (save-restriction
+               (widen)
+               (funcall work from to)))
       (beside-after-change from (+ to (- (buffer-size) size)) (- to from)))))
 
 (defun beside-kept-point (start)
@@ -952,13 +954,14 @@ change run, if any do, and those of functions before it are no part of them."
           (let ((beside-bounds bounds)) (beside-output-at mark at text)))
       (beside-may-put-in-at at text)
       (beside-output-at mark at text))
-    (goto-char was)
+    (when (eq (marker-buffer was) (current-buffer)) (goto-char was))
     (set-marker was nil)))
 
 (defun beside-output-at (mark at text)
-  (goto-char at)
-  (beside-telling (lambda () (beside-insert-before (list text) #'insert-before-markers)))
-  (set-marker mark (point)))
+  (let ((buffer (current-buffer)))
+    (goto-char at)
+    (beside-telling (lambda () (beside-insert-before (list text) #'insert-before-markers)))
+    (when (eq buffer (current-buffer)) (set-marker mark (point)))))
 
 (defun beside-may-put-in-at (at text)
   (goto-char at)
@@ -1255,6 +1258,8 @@ change run, if any do, and those of functions before it are no part of them."
           (beside-told nil))))
     (beside-finish)
     (let ((coding-system-for-write 'no-conversion))
-      (write-region (encode-coding-string (apply #'concat (nreverse beside-lines)) 'utf-8-unix) nil output nil 'silent))))
+      (write-region (encode-coding-string (apply #'concat (nreverse beside-lines)) 'utf-8-unix) nil output nil 'silent))
+    ;; before Emacs puts anything into *scratch*
+    (kill-emacs)))
 
 ;;; beside_emacs.el ends here
