@@ -5,7 +5,7 @@
 
 Of COUNT random scripts (200), from the SEED (1) on, those that start no child are compared, and those that may start one
 with children that write once at most and end. Emacs does the forms by bench/beside_emacs.el, whose head says what is masked.
-Ends with status 1 where a script differs otherwise than by what isn't masked.
+Ends with status 1 where a script without functions before a change differs in more than records of properties.
 """
 import os
 import random
