@@ -1,8 +1,8 @@
 -- Changes of one buffer.
 use Rattle.std.proofs.Common.{◌≡◌, ℕ, Bool, true, false, List, [], ◌∷◌, refl, sym, ap, ◌∙◌}
 use Rattle.std.specs.Prelude.{Option, Some, None, is_some, slice_set}
-use Rattle.text_model.specs.Commit.{Site, Buffer}
-use Rattle.editor_model.specs.Editor.{Editor, Live, live, is_live, buffer_at, empty_buffer, change_site, change_buffer}
+use Rattle.text_model.specs.Commit.{Site}
+use Rattle.editor_model.specs.Editor.{Editor, Live, live, is_live, change_site}
 use Rattle.editor_model.specs.Values.{Value, Fault, Answered}
 use Rattle.editor_model.specs.Answers.{Test, refuse, first_fault, Applied, applied, applied_of}
 

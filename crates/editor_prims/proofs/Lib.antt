@@ -18,4 +18,3 @@ pub mod Symbols
 pub mod Committing
 pub mod Planning
 pub mod Ends
-pub mod Others

@@ -1,6 +1,6 @@
 -- A change that is refused by one of the tests in front of its last.
 use Rattle.std.proofs.Common.{◌≡◌, List, [], ◌∷◌, ◌++◌, ap}
-use Rattle.std.specs.Prelude.{Option, Some, Result, Ok, Err, IsErr, IsErrAnd}
+use Rattle.std.specs.Prelude.{Some, Result, Ok, Err, IsErr, IsErrAnd}
 use Rattle.std.proofs.lemmas.Bool.{false≢true}
 use Rattle.editor_model.specs.Answers.{Test, first_fault, prepared, prepared_of}
 use Rattle.editor_model.specs.Answers as answers

@@ -6,7 +6,7 @@ use Rattle.text_model.specs.Properties.{Cell, PropVal, get, same_option, same_va
 use Rattle.text_model.specs.PropertyQuestions.{first_where, has_value}
 use Rattle.text_model.specs.Undo.{Rec}
 use Rattle.editor_model.specs.Values.{Fault, Nil}
-use Rattle.editor_model.specs.Answers.{Change, Prepared, Changes, Nothing, Barred, prepared}
+use Rattle.editor_model.specs.Answers.{Change, Changes, Nothing, Barred, prepared}
 use Rattle.editor_model.specs.ReadOnly.{read_only, has_read_only, must_be_writable}
 use Rattle.editor_model.specs.PropertyCalls.{change_of}
 use Rattle.buffer_core.specs.Changes.{is_some_record}

@@ -3,4 +3,3 @@ pub mod Names
 pub mod Overlays
 pub mod Planning
 pub mod PropertyArguments
-pub mod Subjects

@@ -1,6 +1,5 @@
 use Rattle.std.proofs.Common.{List, ◌≡◌, ◌∙◌, ℕ, refl, subst, sym, ap}
 use Rattle.std.specs.Prelude.{Option, Some, None}
-use Rattle.std.specs.Result.{IfOk}
 use Rattle.std.proofs.lemmas.Result.{IfOk-weaker}
 use Rattle.editor_model.specs.Values.{Fault}
 use Rattle.editor_model.specs.Editor.{Editor, buffer_at}
@@ -13,7 +12,7 @@ use Rattle.ek_call.specs.Meaning.{view}
 use Rattle.buffer_table.specs.Kept.{editor_of}
 use Rattle.editor_prims.specs.declared.change.What.{What}
 use Rattle.editor_prims.specs.declared.change.Committed.{Committed}
-use Rattle.editor_prims.specs.Meaning.{Commits, IsFailed, committed_of, what_of, change_of}
+use Rattle.editor_prims.specs.Meaning.{Commits, IsFailed, committed_of, what_of}
 use Rattle.editor_prims.proofs.commits.commit_at.Goals as goal
 
 -- a commit that was made is no failure, whatever was changed

@@ -1,5 +1,4 @@
 use Rattle.std.proofs.Common.{sym, ◌∙◌}
-use Rattle.std.specs.Prelude.{Some}
 use Rattle.text_model.proofs.Sameness.{same_set-sound}
 use Rattle.editor_prims.proofs.Inheriting.{run_kept}
 use Rattle.editor_prims.proofs.inserts.put_in_run.Goals as goal
