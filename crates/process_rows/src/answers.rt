@@ -1,9 +1,9 @@
 //! What is entered for answers: ends of all kinds, tails that are held when the output ends, and handlers set meanwhile.
-ghost use Rattle.std.specs.Prelude.{◌≡◌, ◌<◌, ◌≤◌, [], length};
+ghost use Rattle.std.specs.Prelude.{[]};
 ghost use Rattle.handler_run.specs.Answers.{IsRead};
 
 use super::processes::one;
-use crate::checking::{holds, is, is_text};
+use crate::checking::{get, holds, is, is_text, set_filter, set_sentinel};
 use ek_call::{Value, Values};
 use ek_types::{Ch, Sym};
 use handler_run::{Entry, ended, enter, ready};
@@ -12,23 +12,26 @@ use process_table::{Filter, Processes, Status};
 use std::alloc::Global;
 use std::process::Abort;
 
-/// What is entered for the answer to a read.
-fn read(rt: &impl Abort, alloc: Global, table: &mut Processes, got: Got, bytes: &[u8]) -> Entry
-    requires made { 0 < length table.old }
-    requires read { IsRead got bytes.now }
-    ensures { length table.new ≡ length table.old }
+/// What is entered for bytes that were read.
+fn read(rt: &impl Abort, alloc: Global, table: &mut Processes, bytes: &[u8]) -> Entry {
+    assert!(rt; table.count() > 0 && !table.get(0).drained());
+    assert!(rt; !bytes.is_empty() && bytes.len() <= 4096);
+    let slot = ready(alloc, table.get(0)).expect(rt, "room");
+    enter(table, 0, slot, &Got::Bytes(bytes.len()), bytes)
+}
+
+/// What is entered for a read that gave no bytes.
+fn read_none(rt: &impl Abort, alloc: Global, table: &mut Processes, got: Got) -> Entry
+    requires { IsRead got [] }
 {
-    let process = table.get(0);
-    assert!(rt; !process.drained());
-    let slot = ready(alloc, process).expect(rt, "room");
-    enter(table, 0, slot, &got, bytes)
+    assert!(rt; table.count() > 0 && !table.get(0).drained());
+    let slot = ready(alloc, table.get(0)).expect(rt, "room");
+    enter(table, 0, slot, &got, &[])
 }
 
 /// What is entered for the answer about the end.
-fn end(rt: &impl Abort, alloc: Global, table: &mut Processes, how: Ended) -> Entry
-    requires { 0 < length table.old }
-    ensures { length table.new ≡ length table.old }
-{
+fn end(rt: &impl Abort, alloc: Global, table: &mut Processes, how: Ended) -> Entry {
+    assert!(rt; table.count() > 0);
     let slot = ready(alloc, table.get(0)).expect(rt, "room");
     ended(table, 0, slot, &how)
 }
@@ -65,16 +68,16 @@ fn is_none(entry: &Entry) -> bool {
 
 /// A part of a character that is held comes out as raw bytes when the output ends in this way.
 fn held_tail(rt: &impl Abort, alloc: Global, tail: &[u8], raw: &[Ch], how: Got)
-    requires short { (1 ≤ length tail.now) × (length tail.now ≤ 3) }
-    requires over { IsRead how [] }
+    requires { IsRead how [] }
 {
     let mut table = one(rt, alloc);
-    let entry = read(rt, alloc, &mut table, Got::Bytes(tail.len()), tail);
+    let entry = read(rt, alloc, &mut table, tail);
     holds(rt, is_none(&entry));
-    let entry = read(rt, alloc, &mut table, how, &[]);
+    let entry = read_none(rt, alloc, &mut table, how);
     is_filter(rt, &entry, None, raw);
-    holds(rt, table.get(0).drained());
-    holds(rt, table.get(0).held().is_empty());
+    let process = get(rt, &table, 0);
+    holds(rt, process.drained());
+    holds(rt, process.held().is_empty());
 }
 
 #[test]
@@ -91,21 +94,19 @@ fn tails_held_at_the_end_of_output(rt: HostRuntime) {
 fn the_filter_set_now_hears_a_character_cut_in_two(rt: HostRuntime) {
     let alloc = rt.alloc();
     let mut table = one(&rt, alloc);
-    let entry = read(&rt, alloc, &mut table, Got::Bytes(3), b"a\xE2\x82");
+    let entry = read(&rt, alloc, &mut table, b"a\xE2\x82");
     is_filter(&rt, &entry, None, &[Ch::Scalar('a')]);
-    table.set_filter(0, Filter::Named(Sym(30)));
-    holds(
-        &rt,
-        is_none(&read(&rt, alloc, &mut table, Got::Nothing, &[])),
-    );
-    let entry = read(&rt, alloc, &mut table, Got::Bytes(1), b"\xAC");
+    set_filter(&rt, &mut table, 0, Filter::Named(Sym(30)));
+    let entry = read_none(&rt, alloc, &mut table, Got::Nothing);
+    holds(&rt, is_none(&entry));
+    let entry = read(&rt, alloc, &mut table, b"\xAC");
     is_filter(&rt, &entry, Some(Sym(30)), &[Ch::Scalar('€')]);
 }
 
 /// The sentinel is told this of an end, and the process has this status then.
 fn is_told(rt: &impl Abort, alloc: Global, how: Ended, text: &[u8], status: Status) {
     let mut table = one(rt, alloc);
-    table.set_sentinel(0, Some(Sym(31)));
+    set_sentinel(rt, &mut table, 0, Sym(31));
     let mut told = Vec::new(alloc);
     for byte in text {
         told.push(Ch::Scalar(char::from(*byte)))
@@ -118,7 +119,7 @@ fn is_told(rt: &impl Abort, alloc: Global, how: Ended, text: &[u8], status: Stat
         }
         _ => panic!(rt; "a sentinel"),
     }
-    is(rt, table.get(0).status(), status);
+    is(rt, get(rt, &table, 0).status(), status);
 }
 
 #[test]
@@ -143,5 +144,5 @@ fn ends_of_all_kinds(rt: HostRuntime) {
     is_told(&rt, alloc, Ended::Failed, b"failed\n", Status::Failed);
     let mut table = one(&rt, alloc);
     holds(&rt, is_none(&end(&rt, alloc, &mut table, Ended::Running)));
-    is(&rt, table.get(0).status(), Status::Run);
+    is(&rt, get(&rt, &table, 0).status(), Status::Run);
 }

@@ -1,7 +1,8 @@
-//! Comparing. Each comparison is a call, so a test that makes many of them branches at none. They tell nothing to what comes
-//! behind them: where a later call rests on what is tested, an assert stands in the test itself.
+//! Comparing, and calls about a process that has to be there. Each comparison is a call, so a test that makes many of them
+//! branches at none. What a call requires is asserted in a helper with that call, so a test proves none of it.
 
-use ek_types::{Ch, Chars};
+use ek_types::{Ch, Chars, Sym};
+use process_table::{Filter, Process, Processes, Status};
 use std::fmt::Debug;
 use std::process::Abort;
 
@@ -20,4 +21,25 @@ pub fn is_text(rt: &impl Abort, out: &Chars, text: &[Ch]) {
     for i in 0..out.len() {
         is(rt, out.at(i), text[i]);
     }
+}
+
+/// A process of the table.
+pub fn get<'a>(rt: &impl Abort, table: &'a Processes, p: u32) -> &'a Process {
+    assert!(rt; p < table.count());
+    table.get(p)
+}
+
+pub fn set_filter(rt: &impl Abort, table: &mut Processes, p: u32, filter: Filter) {
+    assert!(rt; p < table.count());
+    table.set_filter(p, filter);
+}
+
+pub fn set_sentinel(rt: &impl Abort, table: &mut Processes, p: u32, sentinel: Sym) {
+    assert!(rt; p < table.count());
+    table.set_sentinel(p, Some(sentinel));
+}
+
+pub fn note_end(rt: &impl Abort, table: &mut Processes, p: u32, status: Status) {
+    assert!(rt; p < table.count());
+    table.note_end(p, status);
 }

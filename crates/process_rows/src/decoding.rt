@@ -8,9 +8,8 @@ use utf8_stream::{Coding, Decoder};
 
 /// Room is made, and a piece is fed.
 fn feed(rt: &impl Abort, decoder: &mut Decoder, piece: &[u8], out: &mut Chars) {
-    let held = decoder.held().len();
-    assert!(rt; piece.len() <= 2_000_000);
-    out.reserve(held + piece.len()).expect(rt, "room");
+    let room = decoder.held().len().checked_add(piece.len());
+    out.reserve(room.expect(rt, "room")).expect(rt, "room");
     decoder.feed(piece, out);
 }
 
@@ -181,13 +180,11 @@ fn a_held_part_that_goes_wrong(rt: HostRuntime) {
     is(&rt, out.len(), 2);
     is(&rt, decoder.held().len(), 1);
     feed(&rt, &mut decoder, b"\xA9\xE2", &mut out);
-    assert_eq!(rt; out.len(), 3);
-    is(&rt, out.at(0), Ch::Raw(0xF0));
-    is(&rt, out.at(1), Ch::Raw(0x9F));
-    is(&rt, out.at(2), Ch::Scalar('\u{E9}'));
+    let found = [Ch::Raw(0xF0), Ch::Raw(0x9F), Ch::Scalar('\u{E9}')];
+    is_text(&rt, &out, &found);
     finish(&rt, &mut decoder, &mut out);
-    assert_eq!(rt; out.len(), 4);
-    is(&rt, out.at(3), Ch::Raw(0xE2));
+    let [first, second, third] = found;
+    is_text(&rt, &out, &[first, second, third, Ch::Raw(0xE2)]);
 }
 
 /// The letter a, é, € and a face, a byte of no sequence, and a part of one.
@@ -203,28 +200,29 @@ const CHARACTERS: [Ch; 7] = [
     Ch::Raw(0x82),
 ];
 
-/// What bytes are in a coding, whole and cut at each place: these characters without what is held back, which are so many
-/// bytes, and these at the end.
-fn becomes(
-    rt: &impl Abort,
-    alloc: Global,
+/// Bytes in a coding with their characters: those without what is held back, how many bytes that is, and those at the end.
+struct Row {
     coding: Coding,
-    bytes: &[u8],
-    (open, held): (&[Ch], usize),
-    all: &[Ch],
-) {
-    for cut in 0..bytes.len() {
-        let (front, rest) = bytes.split_at(cut);
+    bytes: &'static [u8],
+    open: &'static [Ch],
+    held: usize,
+    all: &'static [Ch],
+}
+
+/// What the bytes become, whole and cut at each place.
+fn becomes(rt: &impl Abort, alloc: Global, row: &Row) {
+    for cut in 0..row.bytes.len() {
+        let (front, rest) = row.bytes.split_at(cut);
         let mut out = Chars::new(alloc);
-        let mut decoder = Decoder::with(coding);
+        let mut decoder = Decoder::with(row.coding);
         feed(rt, &mut decoder, front, &mut out);
         feed(rt, &mut decoder, rest, &mut out);
-        holds(rt, decoder.coding() == coding);
-        is(rt, decoder.held().len(), held);
-        is_text(rt, &out, open);
+        holds(rt, decoder.coding() == row.coding);
+        is(rt, decoder.held().len(), row.held);
+        is_text(rt, &out, row.open);
         finish(rt, &mut decoder, &mut out);
         holds(rt, decoder.held().is_empty());
-        is_text(rt, &out, all);
+        is_text(rt, &out, row.all);
     }
 }
 
@@ -234,120 +232,189 @@ const FEED: Ch = Ch::Scalar('\n');
 
 const RETURN: Ch = Ch::Scalar('\r');
 
-/// Each with its characters by the definition: UTF-8 is decoded, and then a carriage return directly before a line feed goes.
+const E2: Ch = Ch::Raw(0xE2);
+
+const X82: Ch = Ch::Raw(0x82);
+
+const FF: Ch = Ch::Raw(0xFF);
+
+/// Line ends, each with its characters by the definition: UTF-8 is decoded, and then a carriage return directly before a line
+/// feed goes.
+const LINE_ENDS: [Row; 8] = [
+    Row {
+        coding: Coding::Utf8Dos,
+        bytes: b"a\r\n",
+        open: &[A, FEED],
+        held: 0,
+        all: &[A, FEED],
+    },
+    Row {
+        coding: Coding::Utf8Dos,
+        bytes: b"a\r",
+        open: &[A],
+        held: 1,
+        all: &[A, RETURN],
+    },
+    Row {
+        coding: Coding::Utf8Dos,
+        bytes: b"\r",
+        open: &[],
+        held: 1,
+        all: &[RETURN],
+    },
+    Row {
+        coding: Coding::Utf8Dos,
+        bytes: b"\ra",
+        open: &[RETURN, A],
+        held: 0,
+        all: &[RETURN, A],
+    },
+    Row {
+        coding: Coding::Utf8Dos,
+        bytes: b"\n\r",
+        open: &[FEED],
+        held: 1,
+        all: &[FEED, RETURN],
+    },
+    Row {
+        coding: Coding::Utf8Dos,
+        bytes: b"\r\r",
+        open: &[RETURN],
+        held: 1,
+        all: &[RETURN, RETURN],
+    },
+    Row {
+        coding: Coding::Utf8Dos,
+        bytes: b"\r\r\n",
+        open: &[RETURN, FEED],
+        held: 0,
+        all: &[RETURN, FEED],
+    },
+    Row {
+        coding: Coding::Utf8Dos,
+        bytes: b"\r\n\r\n",
+        open: &[FEED, FEED],
+        held: 0,
+        all: &[FEED, FEED],
+    },
+];
+
 #[test]
 fn line_ends(rt: HostRuntime) {
-    let alloc = rt.alloc();
-    let dos = Coding::Utf8Dos;
-    becomes(&rt, alloc, dos, b"a\r\n", (&[A, FEED], 0), &[A, FEED]);
-    becomes(&rt, alloc, dos, b"a\r", (&[A], 1), &[A, RETURN]);
-    becomes(&rt, alloc, dos, b"\r", (&[], 1), &[RETURN]);
-    becomes(&rt, alloc, dos, b"\ra", (&[RETURN, A], 0), &[RETURN, A]);
-    becomes(&rt, alloc, dos, b"\n\r", (&[FEED], 1), &[FEED, RETURN]);
-    becomes(&rt, alloc, dos, b"\r\r", (&[RETURN], 1), &[RETURN, RETURN]);
-    becomes(
-        &rt,
-        alloc,
-        dos,
-        b"\r\r\n",
-        (&[RETURN, FEED], 0),
-        &[RETURN, FEED],
-    );
-    becomes(
-        &rt,
-        alloc,
-        dos,
-        b"\r\n\r\n",
-        (&[FEED, FEED], 0),
-        &[FEED, FEED],
-    );
+    for row in &LINE_ENDS {
+        becomes(&rt, rt.alloc(), row);
+    }
 }
+
+const BESIDE_MALFORMED: [Row; 5] = [
+    Row {
+        coding: Coding::Utf8Dos,
+        bytes: b"\r\xFF",
+        open: &[RETURN, FF],
+        held: 0,
+        all: &[RETURN, FF],
+    },
+    Row {
+        coding: Coding::Utf8Dos,
+        bytes: b"\r\xE2",
+        open: &[RETURN],
+        held: 1,
+        all: &[RETURN, E2],
+    },
+    Row {
+        coding: Coding::Utf8Dos,
+        bytes: b"\xE2\x82\r",
+        open: &[E2, X82],
+        held: 1,
+        all: &[E2, X82, RETURN],
+    },
+    Row {
+        coding: Coding::Utf8Dos,
+        bytes: b"\xE2\x82\r\n",
+        open: &[E2, X82, FEED],
+        held: 0,
+        all: &[E2, X82, FEED],
+    },
+    Row {
+        coding: Coding::Utf8Dos,
+        bytes: b"\r\xE2\n",
+        open: &[RETURN, E2, FEED],
+        held: 0,
+        all: &[RETURN, E2, FEED],
+    },
+];
 
 #[test]
 fn line_ends_beside_malformed_bytes(rt: HostRuntime) {
-    let alloc = rt.alloc();
-    let dos = Coding::Utf8Dos;
-    let (e2, x82, ff) = (Ch::Raw(0xE2), Ch::Raw(0x82), Ch::Raw(0xFF));
-    becomes(
-        &rt,
-        alloc,
-        dos,
-        b"\r\xFF",
-        (&[RETURN, ff], 0),
-        &[RETURN, ff],
-    );
-    becomes(&rt, alloc, dos, b"\r\xE2", (&[RETURN], 1), &[RETURN, e2]);
-    becomes(
-        &rt,
-        alloc,
-        dos,
-        b"\xE2\x82\r",
-        (&[e2, x82], 1),
-        &[e2, x82, RETURN],
-    );
-    becomes(
-        &rt,
-        alloc,
-        dos,
-        b"\xE2\x82\r\n",
-        (&[e2, x82, FEED], 0),
-        &[e2, x82, FEED],
-    );
-    becomes(
-        &rt,
-        alloc,
-        dos,
-        b"\r\xE2\n",
-        (&[RETURN, e2, FEED], 0),
-        &[RETURN, e2, FEED],
-    );
+    for row in &BESIDE_MALFORMED {
+        becomes(&rt, rt.alloc(), row);
+    }
 }
+
+const SINGLE: [Row; 2] = [
+    Row {
+        coding: Coding::Latin1,
+        bytes: b"\xE9a\r\n\xFF",
+        open: &[Ch::Scalar('\u{E9}'), A, RETURN, FEED, Ch::Scalar('\u{FF}')],
+        held: 0,
+        all: &[Ch::Scalar('\u{E9}'), A, RETURN, FEED, Ch::Scalar('\u{FF}')],
+    },
+    Row {
+        coding: Coding::Utf8,
+        bytes: b"a\r\n",
+        open: &[A, RETURN, FEED],
+        held: 0,
+        all: &[A, RETURN, FEED],
+    },
+];
 
 #[test]
 fn single_bytes(rt: HostRuntime) {
-    let alloc = rt.alloc();
-    let text = [Ch::Scalar('\u{E9}'), A, RETURN, FEED, Ch::Scalar('\u{FF}')];
-    becomes(
-        &rt,
-        alloc,
-        Coding::Latin1,
-        b"\xE9a\r\n\xFF",
-        (&text, 0),
-        &text,
-    );
-    becomes(
-        &rt,
-        alloc,
-        Coding::Utf8,
-        b"a\r\n",
-        (&[A, RETURN, FEED], 0),
-        &[A, RETURN, FEED],
-    );
+    for row in &SINGLE {
+        becomes(&rt, rt.alloc(), row);
+    }
 }
 
-/// About 1 MiB of mixed text, in pieces of all lengths from `least` to `most`, in turn.
-fn comes_through(rt: &impl Abort, alloc: Global, least: usize, most: usize) {
-    assert!(rt; 0 < least && least <= most);
-    let times = 80_660;
+/// The mixed text, so many times.
+fn repeated(rt: &impl Abort, alloc: Global, times: usize) -> Vec<u8> {
     let mut text = Vec::new(alloc);
     for _ in 0..times {
         text.extend_from_slice(&MIXED).expect(rt, "a text");
     }
-    let mut out = Chars::new(alloc);
+    text
+}
+
+/// What a text is in pieces of all lengths from `least` to `most`, in turn.
+fn in_pieces(rt: &impl Abort, text: &[u8], least: usize, most: usize, out: &mut Chars) {
     let mut decoder = Decoder::new();
-    let mut rest = text.as_slice();
+    let mut rest = text;
     let mut length = most;
-    while !rest.is_empty() {
+    for _ in text {
+        if rest.is_empty() {
+            break;
+        }
         length = if length < most { length + 1 } else { least };
         let (piece, more) = rest.split_at(length.min(rest.len()));
-        feed(rt, &mut decoder, piece, &mut out);
+        feed(rt, &mut decoder, piece, out);
         rest = more;
     }
-    finish(rt, &mut decoder, &mut out);
-    assert_eq!(rt; out.len(), 7 * times);
+    finish(rt, &mut decoder, out);
+}
+
+/// The characters are those of the mixed text, over and over.
+fn are_repeated(rt: &impl Abort, out: &Chars) {
     for i in 0..out.len() {
         is(rt, out.at(i), CHARACTERS[i % 7]);
     }
+}
+
+/// About 1 MiB of mixed text, in pieces of all lengths from `least` to `most`, in turn.
+fn comes_through(rt: &impl Abort, alloc: Global, least: usize, most: usize) {
+    let text = repeated(rt, alloc, 80_660);
+    let mut out = Chars::new(alloc);
+    in_pieces(rt, text.as_slice(), least, most, &mut out);
+    is(rt, out.len(), 564_620);
+    are_repeated(rt, &out);
 }
 
 #[test]

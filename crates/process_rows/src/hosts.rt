@@ -1,71 +1,113 @@
 //! A host in memory and a recorder: every kind of call with its line, calls that fail, and spawns that are refused.
-ghost use Rattle.std.specs.Prelude.{◌≡◌, [], IfOk};
+ghost use Rattle.std.specs.Prelude.{◌≡◌, ◌∷◌, [], false, true};
 
 use crate::checking::is;
-use ek_types::{Copied, ListOf, Mem, NoMemory};
-use host_link::{Answer, Answers, ByteList, Exchanges, Host, MemoryHost, Play, Recorder, Spawned};
+use ek_types::{Copied, ListOf};
+use host_link::{Answer, Answers, Exchanges, Host, MemoryHost, Play, Recorder, Spawned};
 use std::alloc::Global;
 use std::process::Abort;
 
-fn list_of(alloc: Global, bytes: &[u8]) -> Mem<ByteList> {
+/// Two answers.
+fn answers(rt: &impl Abort, alloc: Global, first: Answer, second: Answer) -> Answers {
     let mut list = ListOf::new(alloc);
-    for byte in bytes {
-        list.push(*byte)?;
-    }
-    Ok(list)
+    list.push(first).expect(rt, "memory");
+    list.push(second).expect(rt, "memory");
+    list
 }
 
-fn answers(alloc: Global, first: Answer, second: Answer) -> Mem<Answers> {
+/// The answer to a read that gives "abc".
+fn abc(rt: &impl Abort, alloc: Global) -> Answer {
     let mut list = ListOf::new(alloc);
-    list.push(first)?;
-    list.push(second)?;
-    Ok(list)
+    for byte in b"abc" {
+        list.push(*byte).expect(rt, "memory");
+    }
+    Answer::Bytes(list)
 }
 
 /// One child that is read as "abc" and then by an answer of another kind, and has ended with code 3.
-fn host(alloc: Global, fails: Vec<u32>) -> Mem<MemoryHost>
-    ensures { IfOk result (λ h. h.kills ≡ []) }
+fn host(rt: &impl Abort, alloc: Global, fails: &[u32]) -> MemoryHost
+    ensures { result.kills ≡ [] }
 {
-    let text = list_of(alloc, b"abc")?;
+    let play = Play {
+        reads: answers(rt, alloc, abc(rt, alloc), Answer::Sent),
+        ends: answers(rt, alloc, Answer::Nothing, Answer::Code(3)),
+    };
     let mut plays = Vec::new(alloc);
-    plays.push(Play {
-        reads: answers(alloc, Answer::Bytes(text), Answer::Sent)?,
-        ends: answers(alloc, Answer::Nothing, Answer::Code(3))?,
-    })?;
-    Ok(MemoryHost::new(plays, fails))
+    plays.push(play).expect(rt, "memory");
+    MemoryHost::new(plays, fails.to_vec(alloc).expect(rt, "memory"))
 }
 
 /// A line for each exchange.
-fn shown(alloc: Global, list: &Exchanges) -> Mem<String> {
+fn shown(rt: &impl Abort, alloc: Global, list: &Exchanges) -> String {
     let mut text = String::new(alloc);
     for exchange in list.as_slice() {
-        writeln!(text, "{exchange}")?;
+        writeln!(text, "{exchange}").expect(rt, "memory");
     }
-    Ok(text)
+    text
+}
+
+/// Whether the program is started.
+fn starts<H: Host>(rt: &impl Abort, alloc: Global, host: &mut H) -> bool
+    requires { (H.state host.old).kills ≡ [] }
+    ensures { result ≡ true → (H.state host.new).kills ≡ false ∷ [] }
+{
+    let option = String::from_str(alloc, "-u").expect(rt, "memory");
+    let args = [option];
+    match host.spawn("cat", &args).expect(rt, "memory") {
+        Spawned::Started(_) => true,
+        Spawned::Refused => false,
+    }
+}
+
+#[derive(Clone, Copy)]
+enum Call {
+    Read,
+    Send,
+    Close,
+    End,
+}
+
+/// Every kind of call but a kill.
+const CALLS: [Call; 9] = [
+    Call::Read,
+    Call::Read,
+    Call::Read,
+    Call::Read,
+    Call::Send,
+    Call::Close,
+    Call::End,
+    Call::End,
+    Call::End,
+];
+
+/// A call on the child.
+fn make<H: Host>(rt: &impl Abort, host: &mut H, call: Call)
+    requires { (H.state host.old).kills ≡ false ∷ [] }
+    ensures { (H.state host.new).kills ≡ false ∷ [] }
+{
+    match call {
+        Call::Read => {
+            let _ = host.read(0, &mut [0u8; 2]).expect(rt, "memory");
+        }
+        Call::Send => {
+            let _ = host.send(0, b"xy").expect(rt, "memory");
+        }
+        Call::Close => host.close(0).expect(rt, "memory"),
+        Call::End => {
+            let _ = host.end(0).expect(rt, "memory");
+        }
+    }
 }
 
 /// Every kind of call on a host that has one play.
-fn all_calls<H: Host>(alloc: Global, host: &mut H) -> Mem<String>
+fn all_calls<H: Host>(rt: &impl Abort, alloc: Global, host: &mut H)
     requires { (H.state host.old).kills ≡ [] }
 {
-    let mut args = Vec::new(alloc);
-    args.push(String::from_str(alloc, "-u")?)?;
-    let mut room = [0u8; 2];
-    if let Spawned::Started(child) = host.spawn("cat", args.as_slice())? {
-        let _ = host.read(child, &mut room)?;
-        let _ = host.read(child, &mut room)?;
-        let _ = host.read(child, &mut room)?;
-        let _ = host.read(child, &mut room)?;
-        let _ = host.send(child, b"xy")?;
-        host.close(child)?;
-        let _ = host.end(child)?;
-        let _ = host.end(child)?;
-        let _ = host.end(child)?;
-        let _ = host.kill(child);
-    }
-    match host.told() {
-        Some(list) => shown(alloc, list),
-        None => Err(NoMemory),
+    if starts(rt, alloc, host) {
+        for call in CALLS {
+            make(rt, host, call);
+        }
+        let _ = host.kill(0);
     }
 }
 
@@ -82,37 +124,41 @@ end 0: code 0
 kill 0: killed
 ";
 
-/// What a host tells of every kind of call.
-fn tells<H: Host>(rt: &impl Abort, alloc: Global, host: &mut H, expected: &str)
-    requires { (H.state host.old).kills ≡ [] }
-{
-    let told = all_calls(alloc, host).expect(rt, "memory");
-    assert_eq!(rt; told.as_str(), expected);
+/// The exchanges that a host tells.
+fn told<'a, H: Host>(rt: &impl Abort, host: &'a H) -> &'a Exchanges {
+    host.told().expect(rt, "the host tells")
+}
+
+/// What a host tells.
+fn tells<H: Host>(rt: &impl Abort, alloc: Global, host: &H, expected: &str) {
+    is(rt, shown(rt, alloc, told(rt, host)).as_str(), expected);
+}
+
+/// A host whose calls of these numbers fail, behind every kind of call.
+fn played(rt: &impl Abort, alloc: Global, fails: &[u32]) -> MemoryHost {
+    let mut host = host(rt, alloc, fails);
+    all_calls(rt, alloc, &mut host);
+    host
 }
 
 #[test]
 fn a_child_is_played_in_order(rt: HostRuntime) {
-    let mut host = host(rt.alloc(), Vec::new(rt.alloc())).expect(&rt, "memory");
-    tells(&rt, rt.alloc(), &mut host, ALL);
+    tells(&rt, rt.alloc(), &played(&rt, rt.alloc(), &[]), ALL);
 }
 
 #[test]
 fn exchanges_and_their_copy(rt: HostRuntime) {
-    let mut host = host(rt.alloc(), Vec::new(rt.alloc())).expect(&rt, "memory");
-    let _ = all_calls(rt.alloc(), &mut host).expect(&rt, "memory");
-    let Some(list) = host.told() else {
-        panic!(rt; "the host tells nothing");
-    };
-    let copy = list.copy().expect(&rt, "memory");
-    let told = shown(rt.alloc(), &copy).expect(&rt, "memory");
-    is(&rt, told.as_str(), ALL);
+    let host = played(&rt, rt.alloc(), &[]);
+    let copy = told(&rt, &host).copy().expect(&rt, "memory");
+    is(&rt, shown(&rt, rt.alloc(), &copy).as_str(), ALL);
 }
 
 #[test]
 fn a_recorder_tells_what_its_inner_host_answers(rt: HostRuntime) {
-    let inner = host(rt.alloc(), Vec::new(rt.alloc())).expect(&rt, "memory");
+    let inner = host(&rt, rt.alloc(), &[]);
     let mut recorder = Recorder::new(rt.alloc(), inner);
-    tells(&rt, rt.alloc(), &mut recorder, ALL);
+    all_calls(&rt, rt.alloc(), &mut recorder);
+    tells(&rt, rt.alloc(), &recorder, ALL);
 }
 
 const FAILING: &str = "spawn cat -u: started 0
@@ -130,20 +176,20 @@ kill 0: failed
 
 #[test]
 fn calls_that_fail_use_up_no_answer(rt: HostRuntime) {
-    let fails = vec![in rt.alloc(); 1, 3, 5, 7, 9, 10].expect(&rt, "memory");
-    let mut host = host(rt.alloc(), fails).expect(&rt, "memory");
-    tells(&rt, rt.alloc(), &mut host, FAILING);
+    let host = played(&rt, rt.alloc(), &[1, 3, 5, 7, 9, 10]);
+    tells(&rt, rt.alloc(), &host, FAILING);
 }
+
+const REFUSED: &str = "spawn cat -u: refused\n";
 
 #[test]
 fn a_spawn_past_the_last_play_is_refused(rt: HostRuntime) {
     let mut host = MemoryHost::new(Vec::new(rt.alloc()), Vec::new(rt.alloc()));
-    tells(&rt, rt.alloc(), &mut host, "spawn cat -u: refused\n");
+    all_calls(&rt, rt.alloc(), &mut host);
+    tells(&rt, rt.alloc(), &host, REFUSED);
 }
 
 #[test]
 fn a_spawn_that_fails_starts_no_child(rt: HostRuntime) {
-    let fails = vec![in rt.alloc(); 0].expect(&rt, "memory");
-    let mut host = host(rt.alloc(), fails).expect(&rt, "memory");
-    tells(&rt, rt.alloc(), &mut host, "spawn cat -u: refused\n");
+    tells(&rt, rt.alloc(), &played(&rt, rt.alloc(), &[0]), REFUSED);
 }

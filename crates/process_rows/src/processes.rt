@@ -1,7 +1,6 @@
 //! What runs: names after an unlisting, a character cut in two, arguments, and what each call changes.
-ghost use Rattle.std.specs.Prelude.{◌≡◌, ◌+◌, ◌<◌, length};
 
-use crate::checking::{holds, is};
+use crate::checking::{get, holds, is, is_text, note_end, set_filter, set_sentinel};
 use ek_call::{Fault, Value};
 use ek_types::{Ch, Chars, Piece, Sym};
 use process_table::{Filter, Processes, Status};
@@ -16,28 +15,36 @@ fn text(rt: &impl Abort, alloc: Global, bytes: &[u8]) -> Chars {
     chars
 }
 
-fn is_name(rt: &impl Abort, chars: &Chars, bytes: &[u8]) {
-    assert_eq!(rt; chars.len(), bytes.len());
-    for i in 0..bytes.len() {
-        is(rt, chars.at(i), Ch::Scalar(char::from(bytes[i])));
-    }
+/// The names are alike.
+fn is_name(rt: &impl Abort, found: &Chars, expected: &Chars) {
+    is(rt, found.codes(), expected.codes());
 }
 
 /// A process of this name, or of the first that is free, as is said by `becomes`.
-fn start(rt: &impl Abort, alloc: Global, table: &mut Processes, name: &[u8], becomes: &[u8]) -> u32
-    ensures number { result ≡ length table.old }
-    ensures count { length table.new ≡ length table.old + 1 }
-{
+fn start(
+    rt: &impl Abort,
+    alloc: Global,
+    table: &mut Processes,
+    name: &[u8],
+    becomes: &[u8],
+) -> u32 {
     let given = text(rt, alloc, name);
+    let becomes = text(rt, alloc, becomes);
     let free = table.free_name(&given).expect(rt, "a name");
-    is_name(rt, &free, becomes);
+    is_name(rt, &free, &becomes);
     assert!(rt; table.count() < 256);
     let child = 100 + table.count();
     let place = table.reserve(&free).expect(rt, "a place");
     let p = table.add_reserved(place, child, Some(3), 7);
-    is_name(rt, table.get(p).name(), becomes);
-    is(rt, table.get(p).child(), child);
+    let process = get(rt, table, p);
+    is_name(rt, process.name(), &becomes);
+    is(rt, process.child(), child);
     p
+}
+
+fn unlist(rt: &impl Abort, table: &mut Processes, p: u32) {
+    assert!(rt; p < table.count());
+    table.unlist(p);
 }
 
 #[test]
@@ -49,18 +56,16 @@ fn names_after_an_unlisting(rt: HostRuntime) {
     start(&rt, alloc, &mut table, b"p", b"p<2>");
     start(&rt, alloc, &mut table, b"q", b"q");
     start(&rt, alloc, &mut table, b"p<1>", b"p<1><1>");
-    table.unlist(second);
+    unlist(&rt, &mut table, second);
     start(&rt, alloc, &mut table, b"p", b"p<1>");
-    table.unlist(first);
+    unlist(&rt, &mut table, first);
     start(&rt, alloc, &mut table, b"p", b"p");
     start(&rt, alloc, &mut table, b"p", b"p<3>");
     is(&rt, table.count(), 8);
 }
 
 /// A process by itself, which isn't drained.
-pub fn one(rt: &impl Abort, alloc: Global) -> Processes
-    ensures { length result ≡ 1 }
-{
+pub fn one(rt: &impl Abort, alloc: Global) -> Processes {
     let mut table = Processes::new(alloc);
     let name = text(rt, alloc, b"p");
     table.add(&name, 0, None, 0).expect(rt, "a process");
@@ -68,14 +73,42 @@ pub fn one(rt: &impl Abort, alloc: Global) -> Processes
 }
 
 /// Room is made, and process 0 is fed.
-fn feed(rt: &impl Abort, table: &mut Processes, bytes: &[u8], out: &mut Chars)
-    requires { 0 < length table.old }
-    ensures { length table.new ≡ length table.old }
-{
-    assert!(rt; bytes.len() <= 4096);
-    let held = table.get(0).held().len();
-    out.reserve(held + bytes.len()).expect(rt, "room");
+fn feed(rt: &impl Abort, table: &mut Processes, bytes: &[u8], out: &mut Chars) {
+    assert!(rt; table.count() > 0);
+    let room = table.get(0).held().len().checked_add(bytes.len());
+    out.reserve(room.expect(rt, "room")).expect(rt, "room");
     table.feed(0, bytes, out);
+}
+
+/// Room is made, and the output of process 0 ends.
+fn drain(rt: &impl Abort, table: &mut Processes, out: &mut Chars) {
+    assert!(rt; table.count() > 0);
+    let held = table.get(0).held().len();
+    out.reserve(held).expect(rt, "room");
+    table.drain(0, out);
+}
+
+/// Whether process 0 took a coding.
+fn set_coding(rt: &impl Abort, table: &mut Processes, coding: Coding) -> bool {
+    assert!(rt; table.count() > 0);
+    table.set_coding(0, coding)
+}
+
+/// Whether process 0 is drained.
+fn drained(rt: &impl Abort, table: &Processes) -> bool {
+    get(rt, table, 0).drained()
+}
+
+/// Process 0 has this coding, and was fed or wasn't.
+fn decodes(rt: &impl Abort, table: &Processes, coding: Coding, fed: bool) {
+    let process = get(rt, table, 0);
+    is(rt, process.coding(), coding);
+    is(rt, process.fed(), fed);
+}
+
+/// The bytes that process 0 holds are these.
+fn holds_back(rt: &impl Abort, table: &Processes, bytes: &[u8]) {
+    is(rt, get(rt, table, 0).held(), bytes);
 }
 
 #[test]
@@ -84,12 +117,10 @@ fn a_character_cut_in_two(rt: HostRuntime) {
     let mut out = Chars::new(rt.alloc());
     feed(&rt, &mut table, b"a\xE2\x82", &mut out);
     is(&rt, out.len(), 1);
-    is(&rt, table.get(0).held(), b"\xE2\x82".as_slice());
+    holds_back(&rt, &table, b"\xE2\x82");
     feed(&rt, &mut table, b"\xAC", &mut out);
-    assert_eq!(rt; out.len(), 2);
-    is(&rt, out.at(0), Ch::Scalar('a'));
-    is(&rt, out.at(1), Ch::Scalar('€'));
-    holds(&rt, table.get(0).held().is_empty());
+    is_text(&rt, &out, &[Ch::Scalar('a'), Ch::Scalar('€')]);
+    holds_back(&rt, &table, b"");
 }
 
 #[test]
@@ -99,17 +130,12 @@ fn what_is_held_at_the_end_of_output(rt: HostRuntime) {
     feed(&rt, &mut table, b"\xF0\x9F", &mut out);
     feed(&rt, &mut table, b"\x98", &mut out);
     holds(&rt, out.is_empty());
-    holds(&rt, !table.get(0).drained());
-    let held = table.get(0).held().len();
-    out.reserve(held).expect(&rt, "room");
-    table.drain(0, &mut out);
-    assert_eq!(rt; out.len(), 3);
-    is(&rt, out.at(0), Ch::Raw(0xF0));
-    is(&rt, out.at(1), Ch::Raw(0x9F));
-    is(&rt, out.at(2), Ch::Raw(0x98));
-    holds(&rt, table.get(0).drained());
-    assert!(rt; table.get(0).held().is_empty());
-    table.drain(0, &mut out);
+    is(&rt, drained(&rt, &table), false);
+    drain(&rt, &mut table, &mut out);
+    is_text(&rt, &out, &[Ch::Raw(0xF0), Ch::Raw(0x9F), Ch::Raw(0x98)]);
+    holds(&rt, drained(&rt, &table));
+    holds_back(&rt, &table, b"");
+    drain(&rt, &mut table, &mut out);
     is(&rt, out.len(), 3);
 }
 
@@ -117,31 +143,28 @@ fn what_is_held_at_the_end_of_output(rt: HostRuntime) {
 fn a_coding_until_bytes_are_read(rt: HostRuntime) {
     let mut table = one(&rt, rt.alloc());
     let mut out = Chars::new(rt.alloc());
-    is(&rt, table.get(0).coding(), Coding::Utf8);
-    holds(&rt, table.set_coding(0, Coding::Latin1));
-    holds(&rt, table.set_coding(0, Coding::Utf8Dos));
-    holds(&rt, !table.get(0).fed());
+    decodes(&rt, &table, Coding::Utf8, false);
+    holds(&rt, set_coding(&rt, &mut table, Coding::Latin1));
+    holds(&rt, set_coding(&rt, &mut table, Coding::Utf8Dos));
+    decodes(&rt, &table, Coding::Utf8Dos, false);
     feed(&rt, &mut table, b"a\r", &mut out);
-    is(&rt, table.get(0).held(), b"\r".as_slice());
-    holds(&rt, table.get(0).fed());
-    holds(&rt, !table.set_coding(0, Coding::Latin1));
-    is(&rt, table.get(0).coding(), Coding::Utf8Dos);
-    is(&rt, table.get(0).held(), b"\r".as_slice());
+    holds_back(&rt, &table, b"\r");
+    decodes(&rt, &table, Coding::Utf8Dos, true);
+    is(&rt, set_coding(&rt, &mut table, Coding::Latin1), false);
+    decodes(&rt, &table, Coding::Utf8Dos, true);
+    holds_back(&rt, &table, b"\r");
     feed(&rt, &mut table, b"\n", &mut out);
-    assert_eq!(rt; out.len(), 2);
-    is(&rt, out.at(1), Ch::Scalar('\n'));
+    is_text(&rt, &out, &[Ch::Scalar('a'), Ch::Scalar('\n')]);
 }
 
 #[test]
 fn a_coding_behind_the_end_of_output(rt: HostRuntime) {
     let mut table = one(&rt, rt.alloc());
     let mut out = Chars::new(rt.alloc());
-    let held = table.get(0).held().len();
-    out.reserve(held).expect(&rt, "room");
-    table.drain(0, &mut out);
+    drain(&rt, &mut table, &mut out);
     holds(&rt, out.is_empty());
-    holds(&rt, table.set_coding(0, Coding::Latin1));
-    is(&rt, table.get(0).coding(), Coding::Latin1);
+    holds(&rt, set_coding(&rt, &mut table, Coding::Latin1));
+    decodes(&rt, &table, Coding::Latin1, false);
 }
 
 /// What a string gives as an argument of a call.
@@ -151,9 +174,8 @@ fn by_name(rt: &impl Abort, alloc: Global, table: &Processes, bytes: &[u8]) -> R
 }
 
 /// What a process gives as an argument of a call.
-fn by_number(table: &Processes, p: u32) -> Result<u32, Fault>
-    requires { p < length table.now }
-{
+fn by_number(rt: &impl Abort, table: &Processes, p: u32) -> Result<u32, Fault> {
+    assert!(rt; p < table.count());
     table.resolve(&Value::Process(p))
 }
 
@@ -163,31 +185,16 @@ fn arguments_that_give_a_process(rt: HostRuntime) {
     let mut table = Processes::new(alloc);
     let first = start(&rt, alloc, &mut table, b"p", b"p");
     let second = start(&rt, alloc, &mut table, b"p", b"p<1>");
+    let none = Err(Fault::NoSuchProcess);
     is(&rt, by_name(&rt, alloc, &table, b"p"), Ok(0));
     is(&rt, by_name(&rt, alloc, &table, b"p<1>"), Ok(1));
-    is(
-        &rt,
-        by_name(&rt, alloc, &table, b"p<"),
-        Err(Fault::NoSuchProcess),
-    );
-    is(
-        &rt,
-        by_name(&rt, alloc, &table, b"P"),
-        Err(Fault::NoSuchProcess),
-    );
-    is(
-        &rt,
-        by_name(&rt, alloc, &table, b""),
-        Err(Fault::NoSuchProcess),
-    );
-    table.unlist(second);
-    is(
-        &rt,
-        by_name(&rt, alloc, &table, b"p<1>"),
-        Err(Fault::NoSuchProcess),
-    );
-    is(&rt, by_number(&table, second), Ok(1));
-    is(&rt, by_number(&table, first), Ok(0));
+    is(&rt, by_name(&rt, alloc, &table, b"p<"), none);
+    is(&rt, by_name(&rt, alloc, &table, b"P"), none);
+    is(&rt, by_name(&rt, alloc, &table, b""), none);
+    unlist(&rt, &mut table, second);
+    is(&rt, by_name(&rt, alloc, &table, b"p<1>"), none);
+    is(&rt, by_number(&rt, &table, second), Ok(1));
+    is(&rt, by_number(&rt, &table, first), Ok(0));
 }
 
 #[test]
@@ -205,18 +212,44 @@ fn arguments_of_a_wrong_type(rt: HostRuntime) {
 }
 
 /// The process is as it was started.
-fn is_new(rt: &impl Abort, table: &Processes, p: u32)
-    requires { p < length table.now }
-{
-    let process = table.get(p);
+fn is_new(rt: &impl Abort, table: &Processes, p: u32) {
+    let process = get(rt, table, p);
     is(rt, process.status(), Status::Run);
     is(rt, process.buffer(), Some(3));
     is(rt, process.mark(), 7);
     is(rt, process.filter(), Filter::Default);
     is(rt, process.sentinel(), None);
     holds(rt, process.held().is_empty());
-    holds(rt, !process.drained());
-    holds(rt, !process.closed());
+    is(rt, process.drained(), false);
+    is(rt, process.closed(), false);
+    holds(rt, process.listed());
+}
+
+/// Each call that changes a process, but those for its name and its output.
+fn change(rt: &impl Abort, table: &mut Processes, p: u32) {
+    set_filter(rt, table, p, Filter::Named(Sym(20)));
+    set_sentinel(rt, table, p, Sym(21));
+    assert!(rt; p < table.count());
+    table.set_buffer(p, None);
+    table.close_input(p);
+    note_end(rt, table, p, Status::Exit(-1));
+}
+
+/// The process has this filter and this status.
+fn stands(rt: &impl Abort, table: &Processes, p: u32, filter: Filter, status: Status) {
+    let process = get(rt, table, p);
+    is(rt, process.filter(), filter);
+    is(rt, process.status(), status);
+}
+
+/// The process is as `change` leaves it.
+fn is_changed(rt: &impl Abort, table: &Processes, p: u32) {
+    stands(rt, table, p, Filter::Named(Sym(20)), Status::Exit(-1));
+    let process = get(rt, table, p);
+    is(rt, process.sentinel(), Some(Sym(21)));
+    is(rt, process.buffer(), None);
+    holds(rt, process.closed());
+    is(rt, process.mark(), 7);
     holds(rt, process.listed());
 }
 
@@ -228,24 +261,12 @@ fn one_process_is_changed_and_no_other(rt: HostRuntime) {
     let second = start(&rt, alloc, &mut table, b"q", b"q");
     let third = start(&rt, alloc, &mut table, b"r", b"r");
     is_new(&rt, &table, second);
-    table.set_filter(second, Filter::Named(Sym(20)));
-    table.set_sentinel(second, Some(Sym(21)));
-    table.set_buffer(second, None);
-    table.close_input(second);
-    table.note_end(second, Status::Exit(-1));
+    change(&rt, &mut table, second);
     is_new(&rt, &table, first);
     is_new(&rt, &table, third);
-    let process = table.get(second);
-    is(&rt, process.filter(), Filter::Named(Sym(20)));
-    is(&rt, process.sentinel(), Some(Sym(21)));
-    is(&rt, process.buffer(), None);
-    holds(&rt, process.closed());
-    is(&rt, process.status(), Status::Exit(-1));
-    is(&rt, process.mark(), 7);
-    holds(&rt, process.listed());
-    table.set_filter(second, Filter::Off);
-    table.note_end(second, Status::Signal);
-    is(&rt, table.get(second).filter(), Filter::Off);
-    is(&rt, table.get(second).status(), Status::Signal);
+    is_changed(&rt, &table, second);
+    set_filter(&rt, &mut table, second, Filter::Off);
+    note_end(&rt, &mut table, second, Status::Signal);
+    stands(&rt, &table, second, Filter::Off, Status::Signal);
     is_new(&rt, &table, first);
 }

@@ -1,123 +1,206 @@
 //! Worked cases of waits: whom they ask, in which order, and what they answer.
-ghost use Rattle.std.specs.Prelude.{◌≡◌, ◌+◌, ◌<◌, ◌≤◌, length, IfOk, OnOk};
+ghost use Rattle.std.specs.Prelude.{◌≡◌};
 
-use crate::checking::is;
-use ek_types::{Chars, Mem};
+use crate::checking::{is, note_end, set_filter};
+use ek_types::Chars;
 use process_table::{Filter, Processes, Status};
 use std::alloc::Global;
 use std::process::Abort;
 use wait_loop::{Step, Wait};
 
+/// A wait, over so many processes that run.
+#[derive(Clone, Copy)]
+struct Case {
+    processes: u32,
+    target: Option<u32>,
+    rounds: u32,
+    just: bool,
+    room: u32,
+}
+
+/// A wait for any of two processes, for two rounds.
+const ANY: Case = Case {
+    processes: 2,
+    target: None,
+    rounds: 2,
+    just: false,
+    room: 256,
+};
+
+/// What the wait is to do next, or what happens meanwhile.
+#[derive(Clone, Copy)]
+enum Event {
+    /// The wait asks this process.
+    Asks(u32),
+    /// The wait is over, with this answer.
+    Done(bool),
+    /// A read of this process gave bytes, or none.
+    Reads(u32, bool),
+    /// This process ends.
+    Ends(u32, Status),
+    /// One process more starts.
+    Starts,
+    /// The filter of this process is turned off.
+    IsOff(u32),
+}
+
+use Event::{Asks, Done, Ends, IsOff, Reads, Starts};
+
 /// A process that just started.
-fn start(alloc: Global, table: &mut Processes) -> Mem<()>
-    requires { length table.old < 256 }
-    ensures { OnOk result (length table.new ≡ length table.old + 1) }
-{
-    let name = table.free_name(&Chars::new(alloc))?;
+fn start(rt: &impl Abort, alloc: Global, table: &mut Processes) {
+    let name = table.free_name(&Chars::new(alloc)).expect(rt, "a name");
     let child = table.count();
-    table.add(&name, child, None, 0)?;
-    Ok(())
+    assert!(rt; child < 256);
+    table.add(&name, child, None, 0).expect(rt, "a process");
 }
 
 /// Processes that run, as many as are asked for.
-fn table_of(alloc: Global, count: u32) -> Mem<Processes>
-    requires { count ≤ 256 }
-    ensures { IfOk result (λ table. length table ≡ count) }
-{
+fn table_of(rt: &impl Abort, alloc: Global, count: u32) -> Processes {
     let mut table = Processes::new(alloc);
     for _ in 0..count {
-        start(alloc, &mut table)?;
+        start(rt, alloc, &mut table);
     }
-    Ok(table)
+    table
 }
 
-/// Whom the wait asks, up to so many processes or until it is done.
-fn asked(alloc: Global, wait: &mut Wait, table: &Processes, most: usize) -> Mem<Vec<u32>>
-    requires { length table.now ≤ wait.old.room }
-    ensures { wait.new.room ≡ wait.old.room }
+/// What a wait does next, which has room for so many processes.
+fn next(rt: &impl Abort, wait: &mut Wait, table: &Processes, room: u32) -> Step
+    requires { wait.old.room ≡ room }
+    ensures { wait.new.room ≡ room }
 {
-    let mut list = Vec::new(alloc);
-    for _ in 0..most {
-        let Step::Ask(p) = wait.next(table) else {
-            break;
-        };
-        list.push(p)?;
-    }
-    Ok(list)
+    assert!(rt; table.count() <= room);
+    wait.next(table)
 }
 
-fn are(rt: &impl Abort, list: Mem<Vec<u32>>, expected: &[u32]) {
-    assert_eq!(rt; list.expect(rt, "memory").as_slice(), expected);
+/// An event comes to pass.
+fn pass(
+    rt: &impl Abort,
+    alloc: Global,
+    wait: &mut Wait,
+    table: &mut Processes,
+    room: u32,
+    event: Event,
+)
+    requires { wait.old.room ≡ room }
+    ensures { wait.new.room ≡ room }
+{
+    match event {
+        Asks(p) => is(rt, next(rt, wait, table, room), Step::Ask(p)),
+        Done(bytes) => is(rt, next(rt, wait, table, room), Step::Done(bytes)),
+        Reads(p, bytes) => wait.note(p, bytes),
+        Ends(p, status) => note_end(rt, table, p, status),
+        Starts => start(rt, alloc, table),
+        IsOff(p) => set_filter(rt, table, p, Filter::Off),
+    }
+}
+
+/// A wait takes this course.
+fn goes(rt: &impl Abort, alloc: Global, case: Case, course: &[Event]) {
+    let mut table = table_of(rt, alloc, case.processes);
+    let wait = Wait::new(alloc, case.target, case.rounds, case.just, case.room);
+    let mut wait = wait.expect(rt, "memory");
+    for event in course {
+        pass(rt, alloc, &mut wait, &mut table, case.room, *event);
+    }
 }
 
 #[test]
 fn a_wait_for_just_one_process_asks_no_other(rt: HostRuntime) {
-    let table = table_of(rt.alloc(), 2).expect(&rt, "memory");
-    let mut wait = Wait::new(rt.alloc(), Some(0), 3, true, 256).expect(&rt, "memory");
-    are(&rt, asked(rt.alloc(), &mut wait, &table, 9), &[0, 0, 0]);
-    is(&rt, wait.next(&table), Step::Done(false));
+    let case = Case {
+        target: Some(0),
+        rounds: 3,
+        just: true,
+        ..ANY
+    };
+    let course = [Asks(0), Asks(0), Asks(0), Done(false)];
+    goes(&rt, rt.alloc(), case, &course);
 }
 
 #[test]
 fn a_wait_for_a_process_asks_the_others_too(rt: HostRuntime) {
-    let table = table_of(rt.alloc(), 2).expect(&rt, "memory");
-    let mut wait = Wait::new(rt.alloc(), Some(0), 2, false, 256).expect(&rt, "memory");
-    are(&rt, asked(rt.alloc(), &mut wait, &table, 9), &[0, 1, 0, 1]);
-    is(&rt, wait.next(&table), Step::Done(false));
+    let case = Case {
+        target: Some(0),
+        ..ANY
+    };
+    let course = [Asks(0), Asks(1), Asks(0), Asks(1), Done(false)];
+    goes(&rt, rt.alloc(), case, &course);
 }
 
 #[test]
 fn the_target_is_asked_first(rt: HostRuntime) {
-    let table = table_of(rt.alloc(), 4).expect(&rt, "memory");
-    let mut wait = Wait::new(rt.alloc(), Some(2), 1, false, 4).expect(&rt, "memory");
-    are(&rt, asked(rt.alloc(), &mut wait, &table, 9), &[2, 0, 1, 3]);
+    let case = Case {
+        processes: 4,
+        target: Some(2),
+        rounds: 1,
+        room: 4,
+        ..ANY
+    };
+    let course = [Asks(2), Asks(0), Asks(1), Asks(3), Done(false)];
+    goes(&rt, rt.alloc(), case, &course);
 }
 
 #[test]
 fn a_process_that_ends_in_the_middle_of_a_round_is_passed_over(rt: HostRuntime) {
-    let mut table = table_of(rt.alloc(), 3).expect(&rt, "memory");
-    let mut wait = Wait::new(rt.alloc(), None, 2, false, 256).expect(&rt, "memory");
-    is(&rt, wait.next(&table), Step::Ask(0));
-    table.note_end(1, Status::Exit(0));
-    are(&rt, asked(rt.alloc(), &mut wait, &table, 9), &[2, 0, 2]);
+    let case = Case {
+        processes: 3,
+        ..ANY
+    };
+    let end = Ends(1, Status::Exit(0));
+    let course = [Asks(0), end, Asks(2), Asks(0), Asks(2), Done(false)];
+    goes(&rt, rt.alloc(), case, &course);
 }
 
 #[test]
 fn a_process_that_starts_in_the_middle_of_a_round_joins_the_next(rt: HostRuntime) {
-    let mut table = table_of(rt.alloc(), 2).expect(&rt, "memory");
-    let mut wait = Wait::new(rt.alloc(), None, 2, false, 256).expect(&rt, "memory");
-    is(&rt, wait.next(&table), Step::Ask(0));
-    start(rt.alloc(), &mut table).expect(&rt, "memory");
-    are(&rt, asked(rt.alloc(), &mut wait, &table, 9), &[1, 0, 1, 2]);
+    let course = [
+        Asks(0),
+        Starts,
+        Asks(1),
+        Asks(0),
+        Asks(1),
+        Asks(2),
+        Done(false),
+    ];
+    goes(&rt, rt.alloc(), ANY, &course);
 }
 
 #[test]
 fn bytes_of_the_target_end_a_wait_for_it(rt: HostRuntime) {
-    let mut table = table_of(rt.alloc(), 2).expect(&rt, "memory");
-    let mut wait = Wait::new(rt.alloc(), Some(1), 1000, false, 256).expect(&rt, "memory");
-    wait.note(0, true);
-    wait.note(1, false);
-    is(&rt, wait.next(&table), Step::Ask(1));
-    wait.note(1, true);
-    table.note_end(1, Status::Signal);
-    is(&rt, wait.next(&table), Step::Done(true));
+    let case = Case {
+        target: Some(1),
+        rounds: 1000,
+        ..ANY
+    };
+    let course = [
+        Reads(0, true),
+        Reads(1, false),
+        Asks(1),
+        Reads(1, true),
+        Ends(1, Status::Signal),
+        Done(true),
+    ];
+    goes(&rt, rt.alloc(), case, &course);
 }
 
 #[test]
 fn bytes_of_any_process_end_a_wait_for_none(rt: HostRuntime) {
-    let table = table_of(rt.alloc(), 2).expect(&rt, "memory");
-    let mut wait = Wait::new(rt.alloc(), None, 1000, true, 256).expect(&rt, "memory");
-    are(&rt, asked(rt.alloc(), &mut wait, &table, 2), &[0, 1]);
-    wait.note(1, true);
-    is(&rt, wait.next(&table), Step::Done(true));
+    let case = Case {
+        rounds: 1000,
+        just: true,
+        ..ANY
+    };
+    let course = [Asks(0), Asks(1), Reads(1, true), Done(true)];
+    goes(&rt, rt.alloc(), case, &course);
 }
 
 #[test]
 fn a_wait_for_a_process_that_is_not_heard_is_over(rt: HostRuntime) {
-    let mut table = table_of(rt.alloc(), 2).expect(&rt, "memory");
-    table.set_filter(0, Filter::Off);
-    let mut wait = Wait::new(rt.alloc(), Some(0), 1000, false, 256).expect(&rt, "memory");
-    is(&rt, wait.next(&table), Step::Done(false));
-    let mut wait = Wait::new(rt.alloc(), None, 1, false, 256).expect(&rt, "memory");
-    are(&rt, asked(rt.alloc(), &mut wait, &table, 9), &[1]);
+    let case = Case {
+        target: Some(0),
+        rounds: 1000,
+        ..ANY
+    };
+    goes(&rt, rt.alloc(), case, &[IsOff(0), Done(false)]);
+    let case = Case { rounds: 1, ..ANY };
+    goes(&rt, rt.alloc(), case, &[IsOff(0), Asks(1), Done(false)]);
 }
