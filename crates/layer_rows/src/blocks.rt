@@ -7,12 +7,8 @@ use text_pool::Pool;
 fn two_reserved_blocks_are_taken_and_one_is_given_back(rt: HostRuntime) {
     let mut pool = Pool::new(rt.alloc());
     pool.reserve(2).expect(&rt, "memory");
-    let Some(first) = pool.take() else {
-        panic!(rt; "no first block");
-    };
-    let Some(second) = pool.take() else {
-        panic!(rt; "no second block");
-    };
+    let first = pool.take().expect(&rt, "a first block");
+    let second = pool.take().expect(&rt, "a second block");
     if let Some(third) = pool.take() {
         pool.give(third);
         panic!(rt; "a third block");
@@ -29,12 +25,8 @@ fn two_reserved_blocks_are_taken_and_one_is_given_back(rt: HostRuntime) {
 fn each_block_keeps_its_cells(rt: HostRuntime) {
     let mut pool = Pool::new(rt.alloc());
     pool.reserve(2).expect(&rt, "memory");
-    let Some(first) = pool.take() else {
-        panic!(rt; "no first block");
-    };
-    let Some(second) = pool.take() else {
-        panic!(rt; "no second block");
-    };
+    let first = pool.take().expect(&rt, "a first block");
+    let second = pool.take().expect(&rt, "a second block");
     pool.set_cell(&first, 0, 10);
     pool.set_cell(&first, 255, 11);
     pool.set_cell(&second, 0, 20);
@@ -51,9 +43,7 @@ fn each_block_keeps_its_cells(rt: HostRuntime) {
 fn a_part_is_copied_over_itself(rt: HostRuntime) {
     let mut pool = Pool::new(rt.alloc());
     pool.reserve(1).expect(&rt, "memory");
-    let Some(block) = pool.take() else {
-        panic!(rt; "no block");
-    };
+    let block = pool.take().expect(&rt, "a block");
     pool.set_cell(&block, 0, 10);
     pool.set_cell(&block, 1, 11);
     pool.copy_cells(&block, 0, &block, 1, 2);
@@ -67,12 +57,8 @@ fn a_part_is_copied_over_itself(rt: HostRuntime) {
 fn a_part_is_copied_to_another_block(rt: HostRuntime) {
     let mut pool = Pool::new(rt.alloc());
     pool.reserve(2).expect(&rt, "memory");
-    let Some(first) = pool.take() else {
-        panic!(rt; "no first block");
-    };
-    let Some(second) = pool.take() else {
-        panic!(rt; "no second block");
-    };
+    let first = pool.take().expect(&rt, "a first block");
+    let second = pool.take().expect(&rt, "a second block");
     pool.set_cell(&first, 1, 10);
     pool.copy_cells(&first, 1, &second, 255, 1);
     is(&rt, pool.cell(&second, 255), 10);

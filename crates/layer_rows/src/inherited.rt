@@ -1,7 +1,8 @@
 //! Worked cases of what a character inherits.
 
 use crate::checking::is;
-use ek_types::{PropSet, PropVal, Sym, SymList};
+use crate::lists::{just, with};
+use ek_types::{PropSet, PropVal, Sym};
 use std::alloc::Global;
 use std::process::Abort;
 use stickiness::{inherited, inherits};
@@ -18,24 +19,12 @@ const BOLD: PropVal = PropVal::Sym(Sym(30));
 
 const ITALIC: PropVal = PropVal::Sym(Sym(31));
 
-/// A list of one name.
-fn just(rt: &impl Abort, alloc: Global, name: Sym) -> PropVal {
-    let mut names = SymList::new(alloc);
-    names.push(name).expect(rt, "memory");
-    PropVal::Syms(names)
-}
-
 /// The number of the symbol that a property has as its value, or 0.
 fn symbol(set: &PropSet, name: Sym) -> u32 {
     match set.get(name) {
         Some(PropVal::Sym(s)) => s.0,
         _ => 0,
     }
-}
-
-/// A set with one property more.
-fn with(rt: &impl Abort, set: &PropSet, name: Sym, value: &PropVal) -> PropSet {
-    set.with(name, value).expect(rt, "memory")
 }
 
 /// Two faces and a stickiness property.
@@ -60,7 +49,8 @@ fn inherit(
 fn a_list_that_withholds_at_the_rear_and_all_offered_at_the_front(rt: HostRuntime) {
     let alloc = rt.alloc();
     let before = with(&rt, &PropSet::empty(alloc), FACE, &BOLD);
-    let before = with(&rt, &before, REAR_NONSTICKY, &just(&rt, alloc, FACE));
+    let withheld = PropVal::Syms(just(&rt, alloc, FACE));
+    let before = with(&rt, &before, REAR_NONSTICKY, &withheld);
     let after = with(&rt, &PropSet::empty(alloc), FACE, &ITALIC);
     let after = with(&rt, &after, FRONT_STICKY, &PropVal::Truth);
     let set = inherit(&rt, alloc, Some(&before), Some(&after));
@@ -83,7 +73,7 @@ fn the_preceding_value_is_taken_where_both_offer_one(rt: HostRuntime) {
 #[test]
 fn the_end_of_the_text_offers_nothing(rt: HostRuntime) {
     let alloc = rt.alloc();
-    let offered = just(&rt, alloc, FACE);
+    let offered = PropVal::Syms(just(&rt, alloc, FACE));
     let after = faces(&rt, alloc, FRONT_STICKY, &offered, &ITALIC);
     is(&rt, inherit(&rt, alloc, None, Some(&after)), (1, 31, 0));
     is(&rt, inherit(&rt, alloc, None, None), (0, 0, 0));

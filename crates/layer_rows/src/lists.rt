@@ -1,7 +1,7 @@
 //! Characters, lists and property sets: each call that takes memory, once with ample memory.
 
 use crate::checking::{holds, is};
-use ek_types::{Ch, Chars, Copied, ListOf, PropSet, PropVal, Sym};
+use ek_types::{Ch, Chars, Copied, ListOf, PropSet, PropVal, Sym, SymList};
 use std::alloc::Global;
 use std::process::Abort;
 
@@ -17,6 +17,11 @@ fn a_list_and_its_copy(rt: HostRuntime) {
     is(&rt, copy.len(), 2);
 }
 
+pub fn at(rt: &impl Abort, text: &Chars, i: usize) -> Ch {
+    assert!(rt; i < text.len());
+    text.at(i)
+}
+
 #[test]
 fn characters_behind_others(rt: HostRuntime) {
     let mut text = Chars::new(rt.alloc());
@@ -24,9 +29,9 @@ fn characters_behind_others(rt: HostRuntime) {
     let mut whole = Chars::new(rt.alloc());
     whole.extend(&text).expect(&rt, "memory");
     whole.extend(&text).expect(&rt, "memory");
-    assert_eq!(rt; whole.len(), 4);
-    is(&rt, whole.at(2), Ch::Scalar('a'));
-    is(&rt, whole.at(3), Ch::Scalar('é'));
+    is(&rt, whole.len(), 4);
+    is(&rt, at(&rt, &whole, 2), Ch::Scalar('a'));
+    is(&rt, at(&rt, &whole, 3), Ch::Scalar('é'));
 }
 
 #[test]
@@ -36,9 +41,9 @@ fn characters_and_their_copy(rt: HostRuntime) {
     text.push_spare(Ch::Scalar('€'));
     text.push(Ch::Raw(0x82)).expect(&rt, "memory");
     let copy = text.copy().expect(&rt, "memory");
-    assert_eq!(rt; copy.len(), 2);
-    is(&rt, copy.at(0), Ch::Scalar('€'));
-    is(&rt, copy.at(1), Ch::Raw(0x82));
+    is(&rt, copy.len(), 2);
+    is(&rt, at(&rt, &copy, 0), Ch::Scalar('€'));
+    is(&rt, at(&rt, &copy, 1), Ch::Raw(0x82));
 }
 
 /// The number, where the value is one.
@@ -53,12 +58,17 @@ const PRIORITY: Sym = Sym(3);
 
 const FACE: Sym = Sym(14);
 
+/// A set with one property more.
+pub fn with(rt: &impl Abort, set: &PropSet, name: Sym, value: &PropVal) -> PropSet {
+    set.with(name, value).expect(rt, "memory")
+}
+
 /// A face that is given anew behind a priority, copied.
 fn copied_set(rt: &impl Abort, alloc: Global) -> PropSet {
-    let set = PropSet::empty(alloc).with(FACE, &PropVal::Int(1));
-    let set = set.expect(rt, "memory").with(PRIORITY, &PropVal::Int(2));
-    let set = set.expect(rt, "memory").with(FACE, &PropVal::Int(5));
-    set.expect(rt, "memory").copy().expect(rt, "memory")
+    let set = with(rt, &PropSet::empty(alloc), FACE, &PropVal::Int(1));
+    let set = with(rt, &set, PRIORITY, &PropVal::Int(2));
+    let set = with(rt, &set, FACE, &PropVal::Int(5));
+    set.copy().expect(rt, "memory")
 }
 
 #[test]
@@ -81,9 +91,7 @@ fn a_property_taken_away(rt: HostRuntime) {
 #[test]
 fn nil_takes_a_property_away(rt: HostRuntime) {
     let nil = PropVal::Syms(ListOf::new(rt.alloc()));
-    let set = copied_set(&rt, rt.alloc())
-        .with(FACE, &nil)
-        .expect(&rt, "memory");
+    let set = with(&rt, &copied_set(&rt, rt.alloc()), FACE, &nil);
     is(&rt, set.len(), 1);
     is(&rt, number(set.get(PRIORITY)), Some(2));
 }
@@ -107,6 +115,13 @@ fn values_of_one_word_and_their_copies(rt: HostRuntime) {
     copies_as_itself(&rt, &PropVal::Sym(Sym(8)));
 }
 
+/// A list of one name.
+pub fn just(rt: &impl Abort, alloc: Global, name: Sym) -> SymList {
+    let mut names = SymList::new(alloc);
+    names.push(name).expect(rt, "memory");
+    names
+}
+
 /// Whether a value is a list of one name.
 fn names_one(value: &PropVal, name: Sym) -> bool {
     match value {
@@ -117,9 +132,8 @@ fn names_one(value: &PropVal, name: Sym) -> bool {
 
 #[test]
 fn names_and_their_copy(rt: HostRuntime) {
-    let mut names = ListOf::new(rt.alloc());
-    names.push(Sym(14)).expect(&rt, "memory");
-    let copy = PropVal::Syms(names).copy().expect(&rt, "memory");
+    let names = PropVal::Syms(just(&rt, rt.alloc(), Sym(14)));
+    let copy = names.copy().expect(&rt, "memory");
     holds(&rt, names_one(&copy, Sym(14)));
 }
 

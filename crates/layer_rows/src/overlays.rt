@@ -20,11 +20,9 @@ fn span(rt: &impl Abort, overlays: &Overlays, k: u32) -> Option<(u32, usize, usi
     overlays.span(k)
 }
 
-/// An overlay whose ends stay, where nothing else of the list is asked later.
-fn make(rt: &impl Abort, overlays: &mut Overlays, buffer: u32, from: usize, to: usize) -> u32
-    requires { from ≤ to }
-{
-    assert!(rt; overlays.count() < 100_000);
+/// An overlay, between whose ends no insertion at them comes.
+fn make(rt: &impl Abort, overlays: &mut Overlays, buffer: u32, from: usize, to: usize) -> u32 {
+    assert!(rt; from <= to && overlays.count() < 100_000);
     let made = overlays.make(buffer, from, to, false, false);
     made.expect(rt, "memory")
 }
@@ -136,10 +134,8 @@ fn the_next_and_the_previous_change(rt: HostRuntime) {
 }
 
 /// Moves an overlay to a part of a buffer.
-fn shift(rt: &impl Abort, overlays: &mut Overlays, k: u32, buffer: u32, from: usize, to: usize)
-    requires { from ≤ to }
-{
-    assert!(rt; k < overlays.count());
+fn shift(rt: &impl Abort, overlays: &mut Overlays, k: u32, buffer: u32, from: usize, to: usize) {
+    assert!(rt; k < overlays.count() && from <= to);
     overlays.shift(k, buffer, from, to).expect(rt, "memory");
 }
 
@@ -189,9 +185,7 @@ fn an_overlay_moves_to_another_buffer_and_is_killed_with_it(rt: HostRuntime) {
 }
 
 /// An overlay of buffer 0 with a face.
-fn with_face(rt: &impl Abort, overlays: &mut Overlays, from: usize, to: usize)
-    requires { from ≤ to }
-{
+fn with_face(rt: &impl Abort, overlays: &mut Overlays, from: usize, to: usize) {
     let k = make(rt, overlays, 0, from, to);
     put(rt, overlays, k, FACE, &PropVal::Truth);
 }

@@ -1,8 +1,7 @@
 //! Pieces of text with their properties, and their copies.
-ghost use Rattle.std.specs.Prelude.{◌≡◌, length};
 
 use crate::checking::{holds, is};
-use crate::lists::number;
+use crate::lists::{number, with};
 use ek_types::{Ch, Chars, Piece, PropSet, PropVal, Sym};
 use std::alloc::Global;
 use std::process::Abort;
@@ -14,20 +13,8 @@ pub fn face_of(set: &PropSet) -> i64 {
     number(set.get(FACE)).unwrap_or(0)
 }
 
-/// The face of each character.
-fn faces(rt: &impl Abort, alloc: Global, piece: &Piece) -> Vec<i64> {
-    let mut faces = Vec::new(alloc);
-    for i in 0..piece.len() {
-        let face = face_of(piece.props(i));
-        faces.push(face).expect(rt, "memory");
-    }
-    faces
-}
-
 /// So many letters without properties.
-pub fn bare_text(rt: &impl Abort, alloc: Global, size: usize) -> Piece
-    ensures { length result ≡ size }
-{
+pub fn bare_text(rt: &impl Abort, alloc: Global, size: usize) -> Piece {
     let mut text = Chars::new(alloc);
     for _ in 0..size {
         text.push(Ch::Scalar('x')).expect(rt, "memory");
@@ -41,7 +28,7 @@ pub fn faced(rt: &impl Abort, alloc: Global, face: i64) -> PropSet {
     if face == 0 {
         return set;
     }
-    set.with(FACE, &PropVal::Int(face)).expect(rt, "memory")
+    with(rt, &set, FACE, &PropVal::Int(face))
 }
 
 /// Gives a part a face, or none where it is 0.
@@ -93,9 +80,18 @@ const PARTS: [Part; 5] = [
     },
 ];
 
+/// The properties of a character.
+fn set<'a>(rt: &impl Abort, piece: &'a Piece, i: usize) -> &'a PropSet {
+    assert!(rt; i < piece.len());
+    piece.props(i)
+}
+
 /// The characters of a piece have these faces.
-fn are(rt: &impl Abort, alloc: Global, piece: &Piece, expected: &[i64]) {
-    is(rt, faces(rt, alloc, piece).as_slice(), expected);
+fn are(rt: &impl Abort, piece: &Piece, expected: &[i64]) {
+    is(rt, piece.len(), expected.len());
+    for i in 0..expected.len() {
+        is(rt, face_of(set(rt, piece, i)), expected[i]);
+    }
 }
 
 #[test]
@@ -104,9 +100,9 @@ fn properties_of_the_parts_of_a_piece(rt: HostRuntime) {
     let mut piece = bare_text(&rt, alloc, 8);
     for part in PARTS.iter() {
         paint(&rt, alloc, &mut piece, part.from, part.to, part.face);
-        are(&rt, alloc, &piece, part.faces.as_slice());
+        are(&rt, &piece, part.faces.as_slice());
         let copy = piece.copy().expect(&rt, "memory");
-        are(&rt, alloc, &copy, part.faces.as_slice());
+        are(&rt, &copy, part.faces.as_slice());
     }
 }
 
@@ -114,12 +110,6 @@ fn properties_of_the_parts_of_a_piece(rt: HostRuntime) {
 fn run_end(rt: &impl Abort, piece: &Piece, i: usize) -> usize {
     assert!(rt; i < piece.len());
     piece.run_end(i)
-}
-
-/// Whether two characters have the same properties.
-fn are_alike(rt: &impl Abort, piece: &Piece, i: usize, j: usize) -> bool {
-    assert!(rt; i < piece.len() && j < piece.len());
-    piece.props(i).same(piece.props(j))
 }
 
 #[test]
@@ -130,18 +120,12 @@ fn a_piece_behind_another(rt: HostRuntime) {
     let mut more = bare_text(&rt, alloc, 2);
     paint(&rt, alloc, &mut more, 1, 2, 2);
     piece.append(&more).expect(&rt, "memory");
-    are(&rt, alloc, &piece, &[1, 1, 0, 0, 2]);
+    are(&rt, &piece, &[1, 1, 0, 0, 2]);
     is(&rt, run_end(&rt, &piece, 0), 2);
     is(&rt, run_end(&rt, &piece, 4), 5);
     holds(&rt, piece.text().same(bare_text(&rt, alloc, 5).text()));
-    holds(&rt, are_alike(&rt, &piece, 0, 1));
-    holds(&rt, !are_alike(&rt, &piece, 0, 2));
-}
-
-/// How many properties a character has.
-fn properties(rt: &impl Abort, piece: &Piece, i: usize) -> usize {
-    assert!(rt; i < piece.len());
-    piece.props(i).len()
+    holds(&rt, set(&rt, &piece, 0).same(set(&rt, &piece, 1)));
+    holds(&rt, !set(&rt, &piece, 0).same(set(&rt, &piece, 2)));
 }
 
 #[test]
@@ -150,7 +134,7 @@ fn a_run_and_its_copy(rt: HostRuntime) {
     paint(&rt, rt.alloc(), &mut piece, 0, 3, 1);
     let copy = piece.copy().expect(&rt, "memory");
     is(&rt, run_end(&rt, &copy, 0), 3);
-    is(&rt, properties(&rt, &copy, 0), 1);
+    is(&rt, set(&rt, &copy, 0).len(), 1);
 }
 
 /// Two letters of three with a face, shared.
@@ -169,7 +153,7 @@ fn a_shared_piece_and_its_copies(rt: HostRuntime) {
     let mut second = second.shared(alloc).expect(&rt, "memory");
     first.append(&shared).expect(&rt, "memory");
     paint(&rt, alloc, &mut second, 1, 3, 2);
-    are(&rt, alloc, &shared, &[1, 1, 0]);
-    are(&rt, alloc, &first, &[1, 1, 0, 1, 1, 0]);
-    are(&rt, alloc, &second, &[1, 2, 2]);
+    are(&rt, &shared, &[1, 1, 0]);
+    are(&rt, &first, &[1, 1, 0, 1, 1, 0]);
+    are(&rt, &second, &[1, 2, 2]);
 }

@@ -1,9 +1,10 @@
 //! Worked cases of property sets, and the time of many insertions.
-ghost use Rattle.std.specs.Prelude.{◌≡◌, ◌+◌, ◌-◌, ◌<◌, ◌≤◌, ◌^◌, length, IfOk};
+ghost use Rattle.std.specs.Prelude.{◌≡◌, length};
 
 use crate::checking::is;
+use crate::lists::{just, with};
 use crate::pieces::{FACE, bare_text, face_of, faced, paint};
-use ek_types::{Mem, Piece, PropSet, PropVal, Sym, SymList};
+use ek_types::{Piece, PropSet, PropVal, Sym, SymList};
 use prop_intervals::{PropEdit, Props};
 use std::alloc::Global;
 use std::process::Abort;
@@ -11,78 +12,95 @@ use std::slice;
 
 const MOUSE_FACE: Sym = Sym(21);
 
-/// The faces of all characters are these.
-fn are(rt: &impl Abort, alloc: Global, props: &Props, expected: &[i64])
-    requires { length expected.now ≡ length props.now }
+/// How many characters have a set.
+fn size(props: &Props) -> usize
+    ensures { result ≡ length props.now }
 {
-    let mut faces = Vec::new(alloc);
+    props.runs().len()
+}
+
+fn at<'a>(rt: &impl Abort, props: &'a Props, i: usize) -> &'a PropSet {
+    assert!(rt; i < size(props));
+    props.at(i)
+}
+
+fn run_end(rt: &impl Abort, props: &Props, i: usize) -> usize {
+    assert!(rt; i < size(props));
+    props.run_end(i)
+}
+
+fn next_change(rt: &impl Abort, props: &Props, i: usize, name: Option<Sym>) -> Option<usize> {
+    assert!(rt; i <= size(props));
+    props.next_change(i, name)
+}
+
+fn prev_change(rt: &impl Abort, props: &Props, i: usize, name: Option<Sym>) -> Option<usize> {
+    assert!(rt; i <= size(props));
+    props.prev_change(i, name)
+}
+
+/// The faces of all characters are these.
+fn are(rt: &impl Abort, props: &Props, expected: &[i64]) {
+    is(rt, size(props), expected.len());
     for i in 0..expected.len() {
-        let face = face_of(props.at(i));
-        faces.push(face).expect(rt, "memory");
+        is(rt, face_of(at(rt, props, i)), expected[i]);
     }
-    is(rt, faces.as_slice(), expected);
+}
+
+/// A part is replaced by a text.
+fn replace(rt: &impl Abort, props: &mut Props, from: usize, to: usize, text: &Piece) {
+    assert!(rt; from <= to && to <= size(props));
+    props
+        .splice(from, to, slice::from_ref(text))
+        .expect(rt, "memory");
 }
 
 /// The properties of a text alone.
-fn of_text(rt: &impl Abort, alloc: Global, text: &Piece) -> Props
-    ensures { length result ≡ length text.now }
-{
+fn of_text(rt: &impl Abort, alloc: Global, text: &Piece) -> Props {
     let mut props = Props::new(alloc);
+    replace(rt, &mut props, 0, 0, text);
     props
-        .splice(0, 0, slice::from_ref(text))
-        .expect(rt, "memory");
-    props
+}
+
+/// A text whose part has a face.
+fn part(rt: &impl Abort, alloc: Global, size: usize, from: usize, to: usize, face: i64) -> Piece {
+    let mut text = bare_text(rt, alloc, size);
+    paint(rt, alloc, &mut text, from, to, face);
+    text
 }
 
 /// A text with a face from one place to another.
-fn with_face(rt: &impl Abort, alloc: Global, size: usize, from: usize, to: usize) -> Props
-    ensures { length result ≡ size }
-{
-    let mut text = bare_text(rt, alloc, size);
-    paint(rt, alloc, &mut text, from, to, 1);
-    assert_eq!(rt; text.len(), size);
-    of_text(rt, alloc, &text)
+fn with_face(rt: &impl Abort, alloc: Global, size: usize, from: usize, to: usize) -> Props {
+    of_text(rt, alloc, &part(rt, alloc, size, from, to, 1))
 }
 
 /// Whether a change of a text changes something.
-fn changes(rt: &impl Abort, props: &mut Props, from: usize, to: usize, edit: &PropEdit) -> bool
-    requires order { from ≤ to }
-    requires within { to ≤ length props.old }
-    ensures { length props.new ≡ length props.old }
-{
+fn changes(rt: &impl Abort, props: &mut Props, from: usize, to: usize, edit: &PropEdit) -> bool {
+    assert!(rt; from <= to && to <= size(props));
     props.change(from, to, edit).expect(rt, "memory")
-}
-
-/// A list of one name.
-fn just(rt: &impl Abort, alloc: Global, name: Sym) -> SymList {
-    let mut names = SymList::new(alloc);
-    names.push(name).expect(rt, "memory");
-    names
 }
 
 #[test]
 fn next_changes_and_a_change_to_what_is_there(rt: HostRuntime) {
     let alloc = rt.alloc();
     let mut props = with_face(&rt, alloc, 4, 1, 3);
-    is(&rt, props.next_change(0, None), Some(1));
-    is(&rt, props.next_change(1, None), Some(3));
-    is(&rt, props.next_change(3, None), None);
-    is(&rt, props.next_change(4, None), None);
-    is(&rt, props.prev_change(4, None), Some(3));
-    is(&rt, props.prev_change(3, None), Some(1));
-    is(&rt, props.prev_change(1, None), None);
-    is(&rt, props.prev_change(0, None), None);
+    is(&rt, next_change(&rt, &props, 0, None), Some(1));
+    is(&rt, next_change(&rt, &props, 1, None), Some(3));
+    is(&rt, next_change(&rt, &props, 3, None), None);
+    is(&rt, next_change(&rt, &props, 4, None), None);
+    is(&rt, prev_change(&rt, &props, 4, None), Some(3));
+    is(&rt, prev_change(&rt, &props, 3, None), Some(1));
+    is(&rt, prev_change(&rt, &props, 1, None), None);
+    is(&rt, prev_change(&rt, &props, 0, None), None);
     let again = PropEdit::Add(faced(&rt, alloc, 1), SymList::new(alloc));
     is(&rt, changes(&rt, &mut props, 1, 3, &again), false);
     is(&rt, changes(&rt, &mut props, 1, 4, &again), true);
-    are(&rt, alloc, &props, &[0, 1, 1, 1]);
+    are(&rt, &props, &[0, 1, 1, 1]);
 }
 
 /// A set of a face and one more property.
 fn both_faces(rt: &impl Abort, alloc: Global) -> PropSet {
-    faced(rt, alloc, 2)
-        .with(MOUSE_FACE, &PropVal::Truth)
-        .expect(rt, "memory")
+    with(rt, &faced(rt, alloc, 2), MOUSE_FACE, &PropVal::Truth)
 }
 
 #[test]
@@ -93,21 +111,21 @@ fn adding_with_nil_takes_away(rt: HostRuntime) {
     is(&rt, changes(&rt, &mut props, 1, 3, &replace), true);
     let add = PropEdit::Add(faced(&rt, alloc, 3), just(&rt, alloc, MOUSE_FACE));
     is(&rt, changes(&rt, &mut props, 0, 3, &add), true);
-    are(&rt, alloc, &props, &[3, 3, 3]);
-    is(&rt, props.at(1).len(), 1);
-    is(&rt, props.run_end(0), 3);
+    are(&rt, &props, &[3, 3, 3]);
+    is(&rt, at(&rt, &props, 1).len(), 1);
+    is(&rt, run_end(&rt, &props, 0), 3);
 }
 
 #[test]
 fn runs_join_after_a_change_back(rt: HostRuntime) {
     let alloc = rt.alloc();
     let mut props = with_face(&rt, alloc, 3, 1, 2);
-    is(&rt, props.run_end(0), 1);
-    is(&rt, props.run_end(1), 2);
+    is(&rt, run_end(&rt, &props, 0), 1);
+    is(&rt, run_end(&rt, &props, 1), 2);
     let remove = PropEdit::Remove(just(&rt, alloc, FACE));
     is(&rt, changes(&rt, &mut props, 1, 2, &remove), true);
-    is(&rt, props.run_end(0), 3);
-    is(&rt, props.next_change(0, None), None);
+    is(&rt, run_end(&rt, &props, 0), 3);
+    is(&rt, next_change(&rt, &props, 0, None), None);
     is(&rt, changes(&rt, &mut props, 0, 3, &remove), false);
 }
 
@@ -115,38 +133,15 @@ fn runs_join_after_a_change_back(rt: HostRuntime) {
 fn changes_of_one_property(rt: HostRuntime) {
     let alloc = rt.alloc();
     let mut props = with_face(&rt, alloc, 4, 0, 3);
-    let mouse = PropSet::empty(alloc)
-        .with(MOUSE_FACE, &PropVal::Truth)
-        .expect(&rt, "memory");
+    let mouse = with(&rt, &PropSet::empty(alloc), MOUSE_FACE, &PropVal::Truth);
     let add = PropEdit::Add(mouse, SymList::new(alloc));
     is(&rt, changes(&rt, &mut props, 1, 2, &add), true);
-    is(&rt, props.next_change(0, None), Some(1));
-    is(&rt, props.next_change(0, Some(FACE)), Some(3));
-    is(&rt, props.next_change(1, Some(MOUSE_FACE)), Some(2));
-    is(&rt, props.prev_change(4, Some(FACE)), Some(3));
-    is(&rt, props.prev_change(4, Some(MOUSE_FACE)), Some(2));
-    is(&rt, props.prev_change(3, Some(FACE)), None);
-}
-
-/// A part is replaced by a text.
-fn replace(rt: &impl Abort, props: &mut Props, from: usize, to: usize, text: &Piece)
-    requires order { from ≤ to }
-    requires within { to ≤ length props.old }
-    ensures { length props.new + (to - from) ≡ length props.old + length text.now }
-{
-    props
-        .splice(from, to, slice::from_ref(text))
-        .expect(rt, "memory");
-}
-
-/// Characters whose first has a face.
-fn with_first_face(rt: &impl Abort, alloc: Global, size: usize) -> Piece
-    ensures { length result ≡ size }
-{
-    let mut text = bare_text(rt, alloc, size);
-    paint(rt, alloc, &mut text, 0, 1, 2);
-    assert_eq!(rt; text.len(), size);
-    text
+    is(&rt, next_change(&rt, &props, 0, None), Some(1));
+    is(&rt, next_change(&rt, &props, 0, Some(FACE)), Some(3));
+    is(&rt, next_change(&rt, &props, 1, Some(MOUSE_FACE)), Some(2));
+    is(&rt, prev_change(&rt, &props, 4, Some(FACE)), Some(3));
+    is(&rt, prev_change(&rt, &props, 4, Some(MOUSE_FACE)), Some(2));
+    is(&rt, prev_change(&rt, &props, 3, Some(FACE)), None);
 }
 
 #[test]
@@ -154,38 +149,28 @@ fn a_part_replaced(rt: HostRuntime) {
     let alloc = rt.alloc();
     let mut props = with_face(&rt, alloc, 6, 2, 4);
     let copy = props.copy().expect(&rt, "memory");
-    replace(&rt, &mut props, 1, 3, &with_first_face(&rt, alloc, 2));
-    are(&rt, alloc, &props, &[0, 2, 0, 1, 0, 0]);
+    replace(&rt, &mut props, 1, 3, &part(&rt, alloc, 2, 0, 1, 2));
+    are(&rt, &props, &[0, 2, 0, 1, 0, 0]);
     replace(&rt, &mut props, 1, 4, &bare_text(&rt, alloc, 0));
-    are(&rt, alloc, &props, &[0, 0, 0]);
-    is(&rt, props.run_end(0), 3);
-    are(&rt, alloc, &copy, &[0, 0, 1, 1, 0, 0]);
+    are(&rt, &props, &[0, 0, 0]);
+    is(&rt, run_end(&rt, &props, 0), 3);
+    are(&rt, &copy, &[0, 0, 1, 1, 0, 0]);
 }
 
 const RUNS: usize = 131_072;
 
 /// A text of as many characters, each with a face of its own.
-fn own_faces(rt: &impl Abort, alloc: Global) -> Props
-    ensures { length result ≡ 131072 }
-{
+fn own_faces(rt: &impl Abort, alloc: Global) -> Props {
     let mut text = bare_text(rt, alloc, RUNS);
     for i in 0..RUNS {
         paint(rt, alloc, &mut text, i, i + 1, i as i64 + 1);
     }
-    assert_eq!(rt; text.len(), RUNS);
     of_text(rt, alloc, &text)
 }
 
-/// One character put in front, and then the face that stands 65,536 places in front of the end.
-fn put_in_front(props: &mut Props, x: &Piece, size: usize) -> Mem<i64>
-    requires one { length x.now ≡ 1 }
-    requires size { size ≡ length props.old }
-    requires long { 65536 ≤ size }
-    requires fits { size < 2 ^ 40 }
-    ensures { IfOk result (λ _. length props.new ≡ size + 1) }
-{
-    props.splice(0, 0, slice::from_ref(x))?;
-    Ok(face_of(props.at(size + 1 - 65_536)))
+/// The face that stands 65,536 places in front of the end.
+fn face_near_the_end(rt: &impl Abort, props: &Props) -> i64 {
+    face_of(at(rt, props, size(props).saturating_sub(65_536)))
 }
 
 #[test]
@@ -193,11 +178,8 @@ fn many_insertions_in_front_of_many_runs(rt: HostRuntime) {
     let alloc = rt.alloc();
     let mut props = own_faces(&rt, alloc);
     let x = bare_text(&rt, alloc, 1);
-    for k in 0..2_000_000usize {
-        is(
-            &rt,
-            put_in_front(&mut props, &x, RUNS + k).expect(&rt, "memory"),
-            65_537,
-        );
+    for _ in 0..2_000_000u32 {
+        replace(&rt, &mut props, 0, 0, &x);
+        is(&rt, face_near_the_end(&rt, &props), 65_537);
     }
 }
