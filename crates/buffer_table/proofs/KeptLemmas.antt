@@ -223,7 +223,7 @@ live_out k id h = let found = some_lives k.buffers id h in ap is_some (live_is k
 pub buffer_is : (k : Kept) (id : ℕ) (n : Named) → Lives k.buffers id n → shown.buffer_at (editor_of k) id ≡ buffer_of k.pool n.buffer
 buffer_is k id n h = ap (λ (o : Option Live). let b : Buffer = elim o [ Some l ↦ l.buffer | None ↦ shown.empty_buffer ] in b) (live_is k id n h)
 
-zip-shorter : {A B : Type 0} (xs : List A) (ys : List B) → (length (zip xs ys) ≤ length xs) × (length (zip xs ys) ≤ length ys)
+pub zip-shorter : {A B : Type 0} (xs : List A) (ys : List B) → (length (zip xs ys) ≤ length xs) × (length (zip xs ys) ≤ length ys)
 zip-shorter [] ys = (omega arith, omega arith)
 zip-shorter (x ∷ xs) [] = (omega arith, omega arith)
 zip-shorter (x ∷ xs) (y ∷ ys) = let r = zip-shorter xs ys in (omega (arith, r.0), omega (arith, r.1))

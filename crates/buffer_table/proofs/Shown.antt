@@ -24,7 +24,7 @@ use Rattle.buffer_table.specs.Kept.{Named, Kept, Lives, IsKept, is_live, named_a
 use Rattle.gap_text.proofs.Texts.{length_characters}
 use Rattle.buffer_table.specs.Standing.{MarkerIn, OverlayIn}
 use Rattle.buffer_table.specs.Places.{IsPlace, IsKeptIn}
-use Rattle.buffer_table.proofs.KeptLemmas.{some_lives, live_in, named_is, live_out, live_is, buffer_is}
+use Rattle.buffer_table.proofs.KeptLemmas.{some_lives, live_in, named_is, live_out, live_is, buffer_is, zip-shorter}
 
 pub is_shown : (e : Editor) (id : ℕ) (b : Buffer) → Some b ≡ option_map (λ l. l.buffer) (live e id) → buffer_at e id ≡ b
 is_shown e id b h = go (live e id) h
@@ -133,6 +133,15 @@ account_cells pool (None ∷ buffers) lie = account_cells pool buffers (λ id n 
 account_cells pool (Some m ∷ buffers) lie =
     let rest : 256 * blocks_in buffers ≡ cells_in pool buffers = account_cells pool buffers (λ id n l. lie (suc id) n l) in
     let here : length (characters pool m.buffer.text) + m.buffer.text.spare ≡ 256 * length m.buffer.text.blocks = length_characters pool m.buffer.text (lie 0 m refl) in
+    omega arith
+
+-- the texts have no more characters than their cells
+pub characters_below : (pool : Pooled) (buffers : List (Option Named)) → characters_in (map (option_map (live_of pool)) buffers) ≤ cells_in pool buffers
+characters_below pool [] = omega arith
+characters_below pool (None ∷ buffers) = characters_below pool buffers
+characters_below pool (Some m ∷ buffers) =
+    let rest : characters_in (map (option_map (live_of pool)) buffers) ≤ cells_in pool buffers = characters_below pool buffers in
+    let here : length (live_of pool m).buffer.text ≤ length (characters pool m.buffer.text) = (zip-shorter (characters pool m.buffer.text) m.buffer.sets).0 in
     omega arith
 
 -- PLACES OF MARKERS AND OVERLAYS

@@ -1,7 +1,7 @@
 //! The editor.
 ghost use Rattle.std.specs.Prelude.{◌≡◌, ◌*◌, ◌<◌, ◌≤◌, true, length, None, option_map, unwrap_or};
 ghost use Rattle.std.specs.Prelude.{slice_get};
-ghost use Rattle.editor_model.specs.Editor.{is_live};
+ghost use Rattle.editor_model.specs.Editor.{characters_in, is_live};
 ghost use Rattle.buffer_table.specs.Kept.{blocks_in, cells_in, editor_of};
 
 use buffer_core::{Buffer, Marks};
@@ -90,6 +90,7 @@ impl Editor {
     pub fn pool_live(&self) -> usize
         ensures blocks { result ≡ blocks_in self.now.buffers }
         ensures account { 256 * result ≡ cells_in self.now.pool self.now.buffers }
+        ensures bound { characters_in (editor_of self.now).buffers ≤ 256 * result }
     {
         self.pool.live()
     }

@@ -1,7 +1,9 @@
 //! The limits that calls keep.
-ghost use Rattle.std.specs.Prelude.{◌≡◌};
+ghost use Rattle.std.specs.Prelude.{◌≡◌, ◌+◌, ◌≤◌, nat_le};
 ghost use Rattle.editor_model.specs.Arguments.{has_room, must_be_fewer, must_be_short};
 ghost use Rattle.editor_model.specs.Arguments.{must_fit_a_string, must_have_room};
+ghost use Rattle.editor_model.specs.Editor.{characters_in};
+ghost use Rattle.editor_model.specs.Limits.{longest_text, longest_texts};
 ghost use Rattle.ek_call.specs.Meaning.{view};
 ghost use Rattle.buffer_table.specs.Kept.{editor_of};
 ghost use Rattle.editor_prims.specs.Meaning.{fault_in};
@@ -47,6 +49,16 @@ pub fn must_fit_a_string(length: usize) -> Result<(), Fault>
     must(length <= LONGEST_STRING, Fault::TooMany)
 }
 
+/// Whether `n` more characters, of one text at most, fit in all texts. Where they would fit if all blocks of the texts were
+/// full, the texts aren't counted.
+fn have_room(editor: &Editor, n: u128) -> bool
+    requires { n ≤ longest_text }
+    ensures { result ≡ nat_le (characters_in (editor_of editor.now).buffers + n) longest_texts }
+{
+    let room = LONGEST_TEXTS - n;
+    256 * editor.pool_live() as u128 <= room || editor.characters() <= room
+}
+
 /// Whether `n` more characters fit in a buffer.
 fn has_room(editor: &Editor, id: u32, n: u128) -> bool
     ensures { result ≡ has_room (editor_of editor.now) id n }
@@ -58,7 +70,7 @@ fn has_room(editor: &Editor, id: u32, n: u128) -> bool
         return false;
     }
     let size = editor.size(id) as u128;
-    size + n <= LONGEST_TEXT && editor.characters() <= LONGEST_TEXTS - n
+    size + n <= LONGEST_TEXT && have_room(editor, n)
 }
 
 /// So many more characters are to be put in a buffer.

@@ -82,7 +82,7 @@ pub(crate) fn property_value(v: &Value) -> Mem<Option<PropVal>>
         Value::T => Ok(Some(PropVal::Truth)),
         Value::Int(i) => Ok(Some(PropVal::Int(*i))),
         Value::Sym(name) => Ok(Some(PropVal::Sym(*name))),
-        Value::Str(text) => Ok(Some(PropVal::Text(text.text().copy()?))),
+        Value::Str(text) => Ok(Some(PropVal::Text(text.shared_text()?))),
         Value::List(items) => symbols_value(items),
         _ => Ok(None),
     }

@@ -98,7 +98,7 @@ pub fn of_prop(alloc: Global, v: Option<&PropVal>) -> Mem<Value>
         Some(PropVal::Int(i)) => Ok(Value::Int(*i)),
         Some(PropVal::Sym(name)) => Ok(Value::Sym(*name)),
         Some(PropVal::Syms(names)) => Ok(list(symbols(names)?)),
-        Some(PropVal::Text(text)) => plain(alloc, text),
+        Some(PropVal::Text(text)) => Ok(Value::Str(Piece::sharing(alloc, text)?)),
     }
 }
 

@@ -14,7 +14,7 @@ prop_of variant.Truth = Truth
 prop_of (variant.Int i) = Number i
 prop_of (variant.Sym s) = Symbol s.0
 prop_of (variant.Syms names) = Symbols (map number_of (items_of names))
-prop_of (variant.Text text) = Text text.items
+prop_of (variant.Text text) = Text text.value.items
 
 -- a name with its value
 abbrev pub pair_of : symbol.Sym × declared.PropVal → ℕ × PropVal

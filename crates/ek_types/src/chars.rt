@@ -141,6 +141,11 @@ impl Chars {
         Ok(())
     }
 
+    /// The allocator that the list keeps.
+    pub fn allocator(&self) -> Global {
+        *self.codes.allocator()
+    }
+
     /// How many characters there are.
     pub fn len(&self) -> usize
         ensures { result ≡ length self.now.items }

@@ -12,8 +12,10 @@ use crate::chars::Chars;
 use crate::list::Copied;
 use crate::memory::{Mem, NoMemory};
 use crate::prop_set::PropSet;
+use crate::text::Text;
 use std::alloc::Global;
 use std::marker::Model;
+use std::rc::Rc;
 
 /// One property set up to a place, from where the run before it ends.
 #[derive(Drop)]
@@ -25,7 +27,7 @@ pub struct Run {
 /// What a piece holds: characters with a property set each, counted from 0.
 #[derive(Drop)]
 pub struct Content {
-    text: Chars,
+    text: Text,
     /// The runs, by rising end. The characters behind the last have no properties.
     runs: Vec<Run>,
     /// The set of those characters.
@@ -144,10 +146,21 @@ impl Content {
         ensures { result ≡ bare text.items }
     {
         Content {
-            text,
+            text: Text::own(text),
             runs: Vec::new(alloc),
             nothing: PropSet::empty(alloc),
         }
+    }
+
+    /// Shared characters without properties.
+    pub fn sharing(alloc: Global, text: &Rc<Chars>) -> Mem<Content>
+        ensures { IfOk result (λ p. p ≡ bare text.now.value.items) }
+    {
+        Ok(Content {
+            text: Text::sharing(text)?,
+            runs: Vec::new(alloc),
+            nothing: PropSet::empty(alloc),
+        })
     }
 
     /// How many characters there are.
@@ -177,7 +190,7 @@ impl Content {
     pub fn text(&self) -> &Chars
         ensures { result.now.items ≡ map (λ c. c.0) self.now }
     {
-        &self.text
+        self.text.chars()
     }
 
     /// The property set of the character at place `i`, which is below the length.
@@ -245,6 +258,24 @@ impl Content {
         })?;
         self.runs.splice(first..behind, new)?;
         Ok(())
+    }
+
+    /// The same piece, whose characters are shared by copies where they are many.
+    pub fn shared(self, alloc: Global) -> Mem<Content>
+        ensures { IfOk result (λ p. p ≡ self) }
+    {
+        Ok(Content {
+            text: self.text.shared(alloc)?,
+            runs: self.runs,
+            nothing: self.nothing,
+        })
+    }
+
+    /// The characters without their properties, as shared ones.
+    pub fn shared_text(&self) -> Mem<Rc<Chars>>
+        ensures { IfOk result (λ c. c.value.items ≡ map (λ c. c.0) self.now) }
+    {
+        self.text.lent()
     }
 
     /// The same piece again.

@@ -17,6 +17,7 @@ mod prop_set;
 mod property;
 mod same;
 mod symbol;
+mod text;
 mod writing;
 
 pub use character::Ch;

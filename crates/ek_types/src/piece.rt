@@ -76,13 +76,22 @@ impl Piece {
         }
     }
 
+    /// The characters without properties, which are shared with others that keep them.
+    pub fn sharing(alloc: Global, text: &Rc<Chars>) -> Mem<Piece>
+        ensures { IfOk result (λ p. p ≡ bare text.now.value.items) }
+    {
+        Ok(Piece {
+            held: Held::Own(Content::sharing(alloc, text)?),
+        })
+    }
+
     /// The same piece, whose copies cost no more than a few steps, however long it is.
     pub fn shared(self, alloc: Global) -> Mem<Piece>
         ensures { IfOk result (λ p. p ≡ self) }
     {
         match self.held {
             Held::Own(content) => {
-                let content = Rc::new(alloc, content)?;
+                let content = Rc::new(alloc, content.shared(alloc)?)?;
                 Ok(Piece {
                     held: Held::Shared(content),
                 })
@@ -119,6 +128,14 @@ impl Piece {
         ensures { result.now.items ≡ map (λ c. c.0) self.now }
     {
         content(&self.held).text()
+    }
+
+    /// The characters without their properties, to be kept beside the piece. Many are copied only where the piece isn't
+    /// shared.
+    pub fn shared_text(&self) -> Mem<Rc<Chars>>
+        ensures { IfOk result (λ c. c.value.items ≡ map (λ c. c.0) self.now) }
+    {
+        content(&self.held).shared_text()
     }
 
     /// The property set of the character at place `i`, which is below the length.

@@ -7,6 +7,7 @@ use crate::chars::Chars;
 use crate::list::{Copied, ListOf};
 use crate::memory::Mem;
 use crate::symbol::Sym;
+use std::rc::Rc;
 
 /// Symbols in order, counted from 0.
 pub type SymList = ListOf<Sym>;
@@ -19,8 +20,8 @@ pub enum PropVal {
     Int(i64),
     Sym(Sym),
     Syms(SymList),
-    /// A string, whose own properties don't count.
-    Text(Chars),
+    /// A string, whose own properties don't count. Copies share it.
+    Text(Rc<Chars>),
 }
 
 impl Copied for PropVal {
@@ -37,7 +38,7 @@ impl Copied for PropVal {
             PropVal::Int(i) => Ok(PropVal::Int(*i)),
             PropVal::Sym(s) => Ok(PropVal::Sym(*s)),
             PropVal::Syms(names) => Ok(PropVal::Syms(names.copy()?)),
-            PropVal::Text(text) => Ok(PropVal::Text(text.copy()?)),
+            PropVal::Text(text) => Ok(PropVal::Text(text.clone()?)),
         }
     }
 }

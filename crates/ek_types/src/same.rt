@@ -66,7 +66,7 @@ impl PropVal {
             (PropVal::Int(x), PropVal::Int(y)) => x == y,
             (PropVal::Sym(x), PropVal::Sym(y)) => x.0 == y.0,
             (PropVal::Syms(x), PropVal::Syms(y)) => same_names(x, y),
-            (PropVal::Text(x), PropVal::Text(y)) => x.same(y),
+            (PropVal::Text(x), PropVal::Text(y)) => x.as_ref().same(y.as_ref()),
             _ => false,
         }
     }

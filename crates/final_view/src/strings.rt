@@ -44,7 +44,7 @@ fn string<K: Sink>(out: &mut Printer<'_, K>, value: Option<&PropVal>)
     ensures { Shows K.state out.old out.new (text_of (option_map (λ v. prop_of v.now) value.entry)) }
 {
     if let Some(PropVal::Text(characters)) = value {
-        text(out, characters);
+        text(out, characters.as_ref());
     }
 }
 

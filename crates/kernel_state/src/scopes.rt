@@ -61,7 +61,7 @@ fn set_in(scope: &mut Scope, name: Sym, value: Value)
 }
 
 /// The same value, of which a string is shared: a copy of it then takes a few steps, however long it is.
-fn shared(alloc: Global, value: Value) -> Mem<Value>
+pub(crate) fn shared(alloc: Global, value: Value) -> Mem<Value>
     ensures { IfOk result (λ v. view v ≡ view value) }
 {
     match value {

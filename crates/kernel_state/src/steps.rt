@@ -1,5 +1,6 @@
 //! The kernel as the steps of a run see it.
 use crate::kernel::KernelState;
+use crate::scopes::shared;
 use crate::{
     blocks, buffers, changes, equal, handlers, hearing, manner, questions, refusals, setting,
     starting, telling, told, words,
@@ -50,6 +51,7 @@ impl kernel_steps::Kernel for KernelState {
     }
 
     fn assign(&mut self, name: Sym, value: Value) -> Mem<()> {
+        let value = shared(self.alloc, value)?;
         if self.scopes.value(name).is_some() {
             self.scopes.set(name, value);
             Ok(())

@@ -4,6 +4,7 @@ use crate::checking::{holds, is};
 use ek_types::{Ch, Chars, Copied, ListOf, PropSet, PropVal, Sym, SymList};
 use std::alloc::Global;
 use std::process::Abort;
+use std::rc::Rc;
 
 #[test]
 fn a_list_and_its_copy(rt: HostRuntime) {
@@ -140,7 +141,7 @@ fn names_and_their_copy(rt: HostRuntime) {
 /// Whether a value is a text of so many characters.
 fn is_text(value: &PropVal, len: usize) -> bool {
     match value {
-        PropVal::Text(text) => text.len() == len,
+        PropVal::Text(text) => text.as_ref().len() == len,
         _ => false,
     }
 }
@@ -149,6 +150,7 @@ fn is_text(value: &PropVal, len: usize) -> bool {
 fn a_text_and_its_copy(rt: HostRuntime) {
     let mut text = Chars::new(rt.alloc());
     text.push(Ch::Scalar('a')).expect(&rt, "memory");
+    let text = Rc::new(rt.alloc(), text).expect(&rt, "memory");
     let copy = PropVal::Text(text).copy().expect(&rt, "memory");
     holds(&rt, is_text(&copy, 1));
 }

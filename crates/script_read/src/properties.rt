@@ -9,22 +9,12 @@ ghost use Rattle.script_read.specs.PropSets.{Gathers, Adds, Lists, AreRising, Is
 ghost use Rattle.script_read.specs.PropSets.{one_given, set_given};
 
 use ek_call::{Value, Values};
-use ek_types::{Chars, ListOf, Mem, Piece, PropSet, PropVal, Sym, SymList};
+use ek_types::{ListOf, Mem, PropSet, PropVal, Sym, SymList};
 use std::alloc::Global;
 use std::collections::BTreeMap;
 
 /// Properties by the number of the name, each given once. Nil takes no place in a set, but is given.
 type Given = BTreeMap<u32, Option<PropVal>>;
-
-fn characters(alloc: Global, text: &Piece) -> Mem<Chars>
-    ensures { IfOk result (λ chars. chars.items ≡ map (λ c. c.0) text.now) }
-{
-    let mut chars = Chars::new(alloc);
-    for i in 0..text.len() {
-        chars.push(text.ch(i))?;
-    }
-    Ok(chars)
-}
 
 /// The symbols of a list that has nothing else.
 fn symbols(alloc: Global, list: &Values) -> Mem<Option<SymList>>
@@ -64,7 +54,7 @@ fn property_value(alloc: Global, value: &Value) -> Mem<Option<Option<PropVal>>>
         Value::T => Ok(Some(Some(PropVal::Truth))),
         Value::Int(i) => Ok(Some(Some(PropVal::Int(*i)))),
         Value::Sym(name) => Ok(Some(Some(PropVal::Sym(*name)))),
-        Value::Str(text) => Ok(Some(Some(PropVal::Text(characters(alloc, text)?)))),
+        Value::Str(text) => Ok(Some(Some(PropVal::Text(text.shared_text()?)))),
         Value::List(list) => symbols_value(alloc, list),
         _ => Ok(None),
     }

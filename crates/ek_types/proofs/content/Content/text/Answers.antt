@@ -1,6 +1,6 @@
-use Rattle.std.proofs.Common.{sym}
+use Rattle.std.proofs.Common.{sym, ◌∙◌}
 use Rattle.ek_types.proofs.Pieces.{firsts-zip, enough_sets}
 use Rattle.ek_types.proofs.content.Content.text.Goals as goal
 
 pub returns : goal.returns
-returns c = rw (← c.self.view_is) (sym (firsts-zip c.self.inside.text.items _ (enough_sets c.self.inside.text.items c.self.inside.runs.items c.self.invariant.0)))
+returns c = rw (← c.self.view_is) (c.chars.ensures ∙ sym (firsts-zip c.self.inside.text.items _ (enough_sets c.self.inside.text.items c.self.inside.runs.items c.self.invariant.0)))
