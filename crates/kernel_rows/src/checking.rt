@@ -172,7 +172,7 @@ fn is_none(rt: &impl Abort, alloc: Global, text: &str, line: u32) {
 }
 
 #[test]
-fn texts_that_are_no_transcripts(rt: HostRuntime) {
+fn texts_that_are_no_transcripts_are_refused(rt: HostRuntime) {
     is_none(&rt, rt.alloc(), "", 1);
     is_none(&rt, rt.alloc(), "script\n(point)", 1);
     is_none(&rt, rt.alloc(), "lines 3\na\nscript\n(point)", 3);

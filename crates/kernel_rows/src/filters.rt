@@ -261,7 +261,7 @@ process 0 #<process c> run 0
 
 /// The seventeenth read isn't made.
 #[test]
-fn a_filter_that_waits_too_deep(rt: HostRuntime) {
+fn a_wait_inside_16_filters_is_refused(rt: HostRuntime) {
     let lines = nested(&rt, rt.alloc());
     let reads = "read 0: bytes a\n"
         .repeat(rt.alloc(), NESTING_BOUND)

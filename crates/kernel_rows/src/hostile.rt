@@ -528,7 +528,7 @@ fn check_hostile(rt: &impl Abort, alloc: Global, hostile: &Hostile) {
 }
 
 #[test]
-fn runs_over_a_host_that_fails(rt: HostRuntime) {
+fn the_rows_of_hosts_that_fail_write_their_lines(rt: HostRuntime) {
     for hostile in &HOSTILE {
         check_hostile(&rt, rt.alloc(), hostile);
     }

@@ -135,7 +135,7 @@ process 1 #<process q> run 0
 /// Each is entered twice, at every other depth, and goes on where it was. A process that has left
 /// the list isn't found by its name; that fault is one more reply.
 #[test]
-fn two_natives_that_wait_for_each_others_process(rt: HostRuntime) {
+fn two_natives_wait_for_each_others_process_and_go_on(rt: HostRuntime) {
     let first = waiting(&rt, rt.alloc(), "ping", 'q');
     let second = waiting(&rt, rt.alloc(), "pong", 'p');
     check(
@@ -163,7 +163,7 @@ kill 1: killed
 
 /// The native goes on in the buffer that is current then; the change has no buffer any more.
 #[test]
-fn a_native_kills_the_buffer_before_a_change(rt: HostRuntime) {
+fn a_change_is_refused_whose_buffer_a_native_kills(rt: HostRuntime) {
     let alloc = rt.alloc();
     let mut first = named(&rt, alloc, "k");
     first.then(&rt, call(alloc, Primitive::KillBuffer));

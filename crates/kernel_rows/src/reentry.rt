@@ -378,7 +378,7 @@ fn succession(rt: &impl Abort, alloc: Global) -> String {
 /// A process is listed while its sentinel is running, so its successor can't have its name, and the
 /// next one can.
 #[test]
-fn a_sentinel_that_starts_its_successor(rt: HostRuntime) {
+fn each_sentinel_starts_its_successor(rt: HostRuntime) {
     check_run(
         &rt,
         rt.alloc(),

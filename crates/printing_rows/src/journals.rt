@@ -42,12 +42,12 @@ fn assert_kept(rt: &impl Abort, alloc: Global, journal: &str) {
 }
 
 #[test]
-fn a_line_of_each_kind(rt: HostRuntime) {
+fn a_line_of_each_kind_is_kept(rt: HostRuntime) {
     assert_kept(&rt, rt.alloc(), ALL);
 }
 
 #[test]
-fn a_script_without_exchanges(rt: HostRuntime) {
+fn a_journal_without_exchanges_is_kept(rt: HostRuntime) {
     assert_kept(&rt, rt.alloc(), "");
 }
 
@@ -70,7 +70,7 @@ fn all_bytes(alloc: Global) -> Result<String, AllocError> {
 }
 
 #[test]
-fn every_byte(rt: HostRuntime) {
+fn every_byte_is_kept(rt: HostRuntime) {
     let text = all_bytes(rt.alloc()).expect(&rt, "a text");
     assert_kept(&rt, rt.alloc(), text.as_str());
 }
@@ -82,7 +82,7 @@ fn long_read(rt: &impl Abort, alloc: Global, bytes: usize) -> String {
 }
 
 #[test]
-fn a_read_of_4096_bytes(rt: HostRuntime) {
+fn a_read_of_4096_bytes_is_kept(rt: HostRuntime) {
     let text = long_read(&rt, rt.alloc(), 4096);
     assert_kept(&rt, rt.alloc(), text.as_str());
 }

@@ -37,7 +37,7 @@ fn assert_parts(rt: &impl Abort, alloc: Global, text: &str, lines: &str, script:
 }
 
 #[test]
-fn the_parts_of_a_transcript(rt: HostRuntime) {
+fn a_transcript_is_read_as_its_parts(rt: HostRuntime) {
     let alloc = rt.alloc();
     let mut text = String::from_str(alloc, JOURNAL).expect(&rt, "a text");
     text.push_str("lines 8\n= t\n= 1\nscript\n(point)")
@@ -49,7 +49,7 @@ fn the_parts_of_a_transcript(rt: HostRuntime) {
 }
 
 #[test]
-fn claims_that_are_empty_or_end_within_a_line(rt: HostRuntime) {
+fn claims_that_are_empty_or_end_within_a_line_are_read(rt: HostRuntime) {
     let alloc = rt.alloc();
     assert_parts(&rt, alloc, "lines 0\nscript\n", "", "");
     assert_parts(&rt, alloc, "lines 2\nabscript\nscript\n", "ab", "script\n");

@@ -49,7 +49,7 @@ fn are_apart(rt: &impl Abort, alloc: Global, bytes: &[u8]) {
 }
 
 #[test]
-fn first_and_last_of_each_row(rt: HostRuntime) {
+fn the_first_and_the_last_of_each_row_are_one_character(rt: HostRuntime) {
     let alloc = rt.alloc();
     is_one(&rt, alloc, b"\x00", 0);
     is_one(&rt, alloc, b"\x7F", 0x7F);
@@ -163,7 +163,7 @@ fn is_held(rt: &impl Abort, alloc: Global, bytes: &[u8], c: char) {
 }
 
 #[test]
-fn cuts_at_each_place(rt: HostRuntime) {
+fn a_character_cut_at_each_place_is_held(rt: HostRuntime) {
     let alloc = rt.alloc();
     is_held(&rt, alloc, b"\xC3\xA9", '\u{E9}');
     is_held(&rt, alloc, b"\xE2\x82\xAC", '\u{20AC}');
@@ -172,7 +172,7 @@ fn cuts_at_each_place(rt: HostRuntime) {
 
 /// What follows a fault is read anew, also where a part of the fault was held.
 #[test]
-fn a_held_part_that_goes_wrong(rt: HostRuntime) {
+fn what_follows_a_fault_is_read_anew(rt: HostRuntime) {
     let mut out = Chars::new(rt.alloc());
     let mut decoder = Decoder::new();
     feed(&rt, &mut decoder, b"\xF0\x9F", &mut out);
@@ -300,7 +300,7 @@ const LINE_ENDS: [Row; 8] = [
 ];
 
 #[test]
-fn line_ends(rt: HostRuntime) {
+fn a_carriage_return_before_a_line_feed_goes(rt: HostRuntime) {
     for row in &LINE_ENDS {
         becomes(&rt, rt.alloc(), row);
     }
@@ -369,7 +369,7 @@ const SINGLE: [Row; 2] = [
 ];
 
 #[test]
-fn single_bytes(rt: HostRuntime) {
+fn line_ends_stay_in_the_other_codings(rt: HostRuntime) {
     for row in &SINGLE {
         becomes(&rt, rt.alloc(), row);
     }
@@ -418,7 +418,7 @@ fn comes_through(rt: &impl Abort, alloc: Global, least: usize, most: usize) {
 }
 
 #[test]
-fn a_long_text_in_pieces(rt: HostRuntime) {
+fn a_long_text_comes_through_in_pieces_of_any_length(rt: HostRuntime) {
     comes_through(&rt, rt.alloc(), 1, 1);
     comes_through(&rt, rt.alloc(), 1, 7);
     comes_through(&rt, rt.alloc(), 1, 64);

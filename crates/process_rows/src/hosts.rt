@@ -147,7 +147,7 @@ fn a_child_is_played_in_order(rt: HostRuntime) {
 }
 
 #[test]
-fn exchanges_and_their_copy(rt: HostRuntime) {
+fn a_copy_of_exchanges_tells_the_same(rt: HostRuntime) {
     let host = played(&rt, rt.alloc(), &[]);
     let copy = told(&rt, &host).copy().expect(&rt, "memory");
     is(&rt, shown(&rt, rt.alloc(), &copy).as_str(), ALL);

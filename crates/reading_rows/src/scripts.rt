@@ -313,7 +313,7 @@ fn is_told(rt: &impl Abort, alloc: Global, bytes: &[u8], fault: Option<u32>) {
 }
 
 #[test]
-fn scripts_and_fault_lines(rt: HostRuntime) {
+fn scripts_are_read_and_faults_told_by_their_lines(rt: HostRuntime) {
     for case in &CASES {
         is_told(&rt, rt.alloc(), case.bytes, case.fault);
     }
@@ -391,7 +391,7 @@ fn check_numbered(rt: &impl Abort, alloc: Global, row: &Numbered) {
 }
 
 #[test]
-fn limits_of_handlers_and_registers(rt: HostRuntime) {
+fn at_most_256_handlers_and_registers_are_read(rt: HostRuntime) {
     for row in &NUMBERED {
         check_numbered(&rt, rt.alloc(), row);
     }
@@ -497,7 +497,7 @@ fn script(rt: &impl Abort, alloc: Global, bytes: &[u8]) -> Script {
 
 /// The fixed names come first, and then all names in the order of their first places.
 #[test]
-fn names_are_numbered(rt: HostRuntime) {
+fn names_are_numbered_in_the_order_of_their_first_places(rt: HostRuntime) {
     let script = script(
         &rt,
         rt.alloc(),
@@ -552,7 +552,7 @@ fn has_characters(rt: &impl Abort, text: &Piece, expected: &[Ch]) {
 
 /// Escapes, a character of two bytes, and bytes that are part of none: each run of plain bytes is decoded by itself.
 #[test]
-fn characters_of_a_string(rt: HostRuntime) {
+fn each_run_of_plain_bytes_is_decoded_by_itself(rt: HostRuntime) {
     let script = script(&rt, rt.alloc(), ESCAPED);
     has_characters(&rt, string(&rt, &script), CHARACTERS.as_slice());
 }
@@ -671,7 +671,7 @@ fn check_decoded(rt: &impl Abort, alloc: Global, row: &Decoded) {
 
 /// Bytes that are no well-formed UTF-8, each kind of them, are raw bytes, and so is a tail that an escape cuts off.
 #[test]
-fn well_formed_sequences_and_raw_bytes(rt: HostRuntime) {
+fn bytes_that_are_no_utf_8_are_raw(rt: HostRuntime) {
     for row in &DECODED {
         check_decoded(&rt, rt.alloc(), row);
     }
@@ -687,7 +687,7 @@ fn has_properties(rt: &impl Abort, text: &Piece, i: usize, count: usize) {
 
 /// Properties stand by the number of the name; nil takes no place.
 #[test]
-fn properties_of_a_string(rt: HostRuntime) {
+fn a_string_has_the_properties_that_are_not_nil(rt: HostRuntime) {
     let bytes = b"(insert #(\"abc\" 1 2 (face bold gone nil run t)))";
     let script = script(&rt, rt.alloc(), bytes.as_slice());
     let text = string(&rt, &script);
@@ -699,7 +699,7 @@ fn properties_of_a_string(rt: HostRuntime) {
 
 /// A long script is read in time that grows with its length, and the fault of its last line is told.
 #[test]
-fn long_script(rt: HostRuntime) {
+fn the_fault_behind_30000_lines_is_told(rt: HostRuntime) {
     let alloc = rt.alloc();
     let mut text = definitions(&rt, alloc, "(when-eq a ", 30_000, " (goto-char 7))\n");
     is(&rt, line(&rt, alloc, text.as_bytes()), None);

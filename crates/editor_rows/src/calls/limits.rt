@@ -65,7 +65,7 @@ fn too_many(rt: &impl Abort, editor: &mut Editor, prim: Prim, words: &[Word]) {
 
 /// The second name of 256 letters gets a number and is longer than that.
 #[test]
-fn names(rt: HostRuntime) {
+fn a_buffer_takes_a_name_of_256_letters_and_no_longer_one(rt: HostRuntime) {
     let mut editor = Editor::new(rt.alloc()).expect(&rt, "an editor");
     check_name(&rt, &mut editor, GetBufferCreate);
     check_name(&rt, &mut editor, GenerateNewBuffer);
@@ -76,7 +76,7 @@ fn names(rt: HostRuntime) {
 
 /// Killed buffers count, and a buffer that is there isn't made.
 #[test]
-fn buffers(rt: HostRuntime) {
+fn killed_buffers_count_among_the_256(rt: HostRuntime) {
     let mut editor = Editor::new(rt.alloc()).expect(&rt, "an editor");
     repeat(&rt, &mut editor, 254, GenerateNewBuffer, &[Str("w")]);
     repeat(&rt, &mut editor, 1, KillBuffer, &[Buffer(9)]);
@@ -88,7 +88,7 @@ fn buffers(rt: HostRuntime) {
 }
 
 #[test]
-fn markers_and_overlays(rt: HostRuntime) {
+fn a_marker_or_overlay_beyond_65536_is_refused(rt: HostRuntime) {
     let mut editor = Editor::new(rt.alloc()).expect(&rt, "an editor");
     repeat(&rt, &mut editor, 65_536, MakeMarker, &[]);
     too_many(&rt, &mut editor, MakeMarker, &[]);
@@ -110,7 +110,7 @@ fn fill(rt: &impl Abort, editor: &mut Editor) {
 }
 
 #[test]
-fn strings_made_from_a_buffer(rt: HostRuntime) {
+fn a_string_from_a_buffer_beyond_1048576_letters_is_refused(rt: HostRuntime) {
     let mut editor = Editor::new(rt.alloc()).expect(&rt, "an editor");
     fill(&rt, &mut editor);
     repeat(&rt, &mut editor, 1, BufferString, &[]);
@@ -153,7 +153,7 @@ fn fill_another(rt: &impl Abort, editor: &mut Editor, name: &'static str, part: 
 
 /// A buffer is filled to its limit, and five buffers to theirs.
 #[test]
-fn texts(rt: HostRuntime) {
+fn one_text_and_all_texts_are_filled_to_their_limits(rt: HostRuntime) {
     let mut editor = Editor::new(rt.alloc()).expect(&rt, "an editor");
     fill(&rt, &mut editor);
     let part = [Buffer(0), Int(1), Int(STRING + 1)];
