@@ -1,9 +1,9 @@
 //! Claimed lines that are checked.
 
-use super::hostile;
 use super::playing::{PLAIN, Ran, Run, Setting, check_ran, plays, run_words};
 use super::recording::SCRIPT;
 use super::replaying::LINES;
+use super::runs;
 use kernel_top::Status;
 use std::alloc::Global;
 use std::process::Abort;
@@ -216,8 +216,7 @@ pub fn is_claimed(rt: &impl Abort, alloc: Global, run: &Run) {
 
 #[test]
 fn the_lines_of_every_run_are_claimed_of_its_journal(rt: HostRuntime) {
-    let runs = hostile::all(&rt, rt.alloc());
-    for run in &runs {
+    for run in &runs::all(&rt, rt.alloc()) {
         is_claimed(&rt, rt.alloc(), run);
     }
 }

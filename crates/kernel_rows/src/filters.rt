@@ -1,6 +1,6 @@
 //! Children whose output goes to filters.
 
-use super::playing::{Child, Row, UNREAD, check_rows, check_run, one_child};
+use super::playing::{Child, Row, UNREAD, check_run, one_child};
 use std::alloc::Global;
 use std::process::Abort;
 
@@ -214,11 +214,6 @@ text ""
 ",
     },
 ];
-
-#[test]
-fn filters(rt: HostRuntime) {
-    check_rows(&rt, rt.alloc(), &ROWS)
-}
 
 /// How deep handlers may be nested.
 const NESTING_BOUND: usize = 16;

@@ -4,33 +4,13 @@
 use super::playing::{
     Calls, Child, PLAIN, Ran, Row, Run, Setting, UNREAD, check_ran, plays, run_over, run_script,
 };
+use super::runs::all;
 use super::shown::shown_one;
-use super::{codings, edits, filters, hooks, nesting, read_only, reentry, undos, waits};
 use handler_code::NoNatives;
 use host_link::{Answer, Ask, Ended, Exchange, Exchanges, MemoryHost};
 use kernel_top::Status;
 use std::alloc::Global;
 use std::process::Abort;
-
-const ROWS: [&[Row]; 8] = [
-    &edits::ROWS,
-    &undos::ROWS,
-    &hooks::ROWS,
-    &waits::ROWS,
-    &filters::ROWS,
-    &reentry::ROWS,
-    &codings::ROWS,
-    &read_only::ROWS,
-];
-
-/// All runs.
-pub fn all(rt: &impl Abort, alloc: Global) -> Vec<Run> {
-    let mut runs = nesting::runs(rt, alloc);
-    for row in ROWS.into_iter().flatten() {
-        runs.push(row.run(rt, alloc)).expect(rt, "memory");
-    }
-    runs
-}
 
 /// More calls of the source or the sink than any of these runs makes.
 const CALLS: u32 = 2000;

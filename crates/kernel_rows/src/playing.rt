@@ -274,18 +274,3 @@ pub fn check_run(
     let ran = run_script(rt, alloc, script, plays, PLAIN);
     check_ran(rt, alloc, shows, &ran, lines, exchanges)
 }
-
-/// Compares each run with its row.
-pub fn check_rows(rt: &impl Abort, alloc: Global, rows: &[Row]) {
-    for row in rows {
-        check_run(
-            rt,
-            alloc,
-            row.shows,
-            row.script,
-            plays(rt, alloc, row.children),
-            row.lines,
-            row.exchanges,
-        );
-    }
-}

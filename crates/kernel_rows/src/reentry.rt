@@ -1,6 +1,6 @@
 //! Handlers that set others, wait, start, delete and kill while they are running themselves.
 
-use super::playing::{Child, Row, UNREAD, check_rows, check_run, plays};
+use super::playing::{Child, Row, UNREAD, check_run, plays};
 use std::alloc::Global;
 use std::process::Abort;
 
@@ -306,11 +306,6 @@ kill 1: killed
 ",
     },
 ];
-
-#[test]
-fn reentry(rt: HostRuntime) {
-    check_rows(&rt, rt.alloc(), &ROWS)
-}
 
 /// How many children end, each of whose sentinels starts the next one. The last one's finds none.
 const CHILDREN: usize = 251;

@@ -1,8 +1,8 @@
 //! Sessions that are replayed.
 
-use super::hostile;
 use super::playing::{PLAIN, Ran, Run, Setting, check_ran, plays, run_words};
 use super::recording::{SCRIPT, SESSION};
+use super::runs;
 use kernel_top::Status;
 use std::alloc::Global;
 use std::process::Abort;
@@ -168,8 +168,7 @@ fn is_replayed(rt: &impl Abort, alloc: Global, run: &Run) {
 
 #[test]
 fn every_run_is_recorded_from_its_host_in_memory_and_replayed(rt: HostRuntime) {
-    let runs = hostile::all(&rt, rt.alloc());
-    for run in &runs {
+    for run in &runs::all(&rt, rt.alloc()) {
         is_replayed(&rt, rt.alloc(), run);
     }
 }

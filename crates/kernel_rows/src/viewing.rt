@@ -3,7 +3,7 @@
 use super::playing::{
     Calls, Child, PLAIN, Ran, Run, Setting, UNREAD, plays, run_script, run_words,
 };
-use super::{hostile, recording};
+use super::{recording, runs};
 use kernel_top::Status;
 use std::alloc::Global;
 use std::process::Abort;
@@ -121,7 +121,7 @@ fn asks_the_same(rt: &impl Abort, alloc: Global, run: &Run) {
 
 #[test]
 fn a_view_asks_what_the_run_asks(rt: HostRuntime) {
-    for run in &hostile::all(&rt, rt.alloc()) {
+    for run in &runs::all(&rt, rt.alloc()) {
         asks_the_same(&rt, rt.alloc(), run);
     }
 }

@@ -13,7 +13,7 @@ struct Case {
     fault: Option<u32>,
 }
 
-const CASES: [Case; 70] = [
+const CASES: [Case; 68] = [
     Case {
         bytes: b"",
         fault: None,
@@ -117,14 +117,6 @@ const CASES: [Case; 70] = [
     Case {
         bytes: b"(save-excursion)",
         fault: None,
-    },
-    Case {
-        bytes: b"(save-excursion (save-excursion (save-excursion (save-excursion (save-excursion (save-excursion (save-excursion (save-excursion (save-excursion (save-excursion (save-excursion (save-excursion (save-excursion (save-excursion (save-excursion (save-excursion))))))))))))))))",
-        fault: None,
-    },
-    Case {
-        bytes: b"(save-excursion (save-excursion (save-excursion (save-excursion (save-excursion (save-excursion (save-excursion (save-excursion (save-excursion (save-excursion (save-excursion (save-excursion (save-excursion (save-excursion (save-excursion (save-excursion (save-excursion)))))))))))))))))",
-        fault: Some(1),
     },
     Case {
         bytes: b"(insert aaaaaaaaaaaaaaaaaaaaaaaaaaaaaaaaaaaaaaaaaaaaaaaaaaaaaaaaaaaaaaaaa)",
@@ -397,95 +389,120 @@ fn at_most_256_handlers_and_registers_are_read(rt: HostRuntime) {
     }
 }
 
-/// So many pieces between a front and an end.
-fn repeated(
-    rt: &impl Abort,
-    alloc: Global,
-    front: &str,
-    piece: &str,
-    count: usize,
-    end: &str,
-) -> String {
-    let pieces = piece.repeat(alloc, count).expect(rt, "room");
-    format!(in alloc; "{front}{pieces}{end}").expect(rt, "room")
-}
-
-fn takes_arguments(rt: &impl Abort, alloc: Global, count: usize, fault: Option<u32>) {
-    let call = repeated(rt, alloc, "(insert", " 1", count, ")");
-    is_told(rt, alloc, call.as_bytes(), fault);
-}
-
-/// A handler whose body has a form so often, and its end, with the line of its fault.
-struct Body {
-    form: &'static str,
+/// A front, a piece so often, and an end, with the line of its fault.
+struct Repeated {
+    front: &'static str,
+    piece: &'static str,
     count: usize,
     end: &'static str,
     fault: Option<u32>,
 }
 
-const BODIES: [Body; 6] = [
-    Body {
-        form: "(point)",
+/// What stands in front of the forms of a body.
+const HEAD: &str = "(point)\n\n(defhandler f ()\n";
+
+/// Arguments of a call, forms of a body, and bytes of a script.
+const REPEATED: [Repeated; 10] = [
+    Repeated {
+        front: "(insert",
+        piece: " 1",
+        count: 64,
+        end: ")",
+        fault: None,
+    },
+    Repeated {
+        front: "(insert",
+        piece: " 1",
+        count: 65,
+        end: ")",
+        fault: Some(1),
+    },
+    Repeated {
+        front: HEAD,
+        piece: "(point)",
         count: 256,
         end: ")",
         fault: None,
     },
-    Body {
-        form: "(point)",
+    Repeated {
+        front: HEAD,
+        piece: "(point)",
         count: 257,
         end: ")",
         fault: Some(3),
     },
-    Body {
-        form: "(setq a (point))",
+    Repeated {
+        front: HEAD,
+        piece: "(setq a (point))",
         count: 256,
         end: ")",
         fault: None,
     },
-    Body {
-        form: "(setq a (point))",
+    Repeated {
+        front: HEAD,
+        piece: "(setq a (point))",
         count: 257,
         end: ")",
         fault: Some(3),
     },
-    Body {
-        form: "(save-excursion (point))",
+    Repeated {
+        front: HEAD,
+        piece: "(save-excursion (point))",
         count: 128,
         end: ")",
         fault: None,
     },
-    Body {
-        form: "(save-excursion (point))",
+    Repeated {
+        front: HEAD,
+        piece: "(save-excursion (point))",
         count: 128,
         end: "(point))",
         fault: Some(3),
     },
+    Repeated {
+        front: "",
+        piece: " ",
+        count: LONGEST_SCRIPT,
+        end: "",
+        fault: None,
+    },
+    Repeated {
+        front: "",
+        piece: " ",
+        count: LONGEST_SCRIPT + 1,
+        end: "",
+        fault: Some(0),
+    },
 ];
 
-fn check_body(rt: &impl Abort, alloc: Global, row: &Body) {
-    let front = "(point)\n\n(defhandler f ()\n";
-    let body = repeated(rt, alloc, front, row.form, row.count, row.end);
-    is_told(rt, alloc, body.as_bytes(), row.fault);
+fn check_repeated(rt: &impl Abort, alloc: Global, row: &Repeated) {
+    let Repeated { front, end, .. } = row;
+    let pieces = row.piece.repeat(alloc, row.count).expect(rt, "room");
+    let text = format!(in alloc; "{front}{pieces}{end}").expect(rt, "room");
+    is_told(rt, alloc, text.as_bytes(), row.fault);
 }
 
 #[test]
-fn arguments_and_forms_of_a_body(rt: HostRuntime) {
-    takes_arguments(&rt, rt.alloc(), 64, None);
-    takes_arguments(&rt, rt.alloc(), 65, Some(1));
-    for row in &BODIES {
-        check_body(&rt, rt.alloc(), row);
+fn one_argument_form_or_byte_beyond_the_limit_is_refused(rt: HostRuntime) {
+    for row in &REPEATED {
+        check_repeated(&rt, rt.alloc(), row);
     }
 }
 
-fn are_blanks(rt: &impl Abort, alloc: Global, count: usize, fault: Option<u32>) {
-    let blanks = " ".repeat(alloc, count).expect(rt, "room");
-    is_told(rt, alloc, blanks.as_bytes(), fault);
+/// So many blocks inside one another.
+fn nested(rt: &impl Abort, alloc: Global, depth: usize) -> String {
+    let openings = " (save-excursion".repeat(alloc, depth).expect(rt, "room");
+    let closings = ")".repeat(alloc, depth).expect(rt, "room");
+    let openings = openings.as_str().trim_start();
+    format!(in alloc; "{openings}{closings}").expect(rt, "room")
 }
 
 #[test]
-fn the_longest_script(rt: HostRuntime) {
-    are_blanks(&rt, rt.alloc(), LONGEST_SCRIPT, None);
-    are_blanks(&rt, rt.alloc(), LONGEST_SCRIPT + 1, Some(0));
+fn blocks_stand_in_one_another_16_deep_and_no_deeper(rt: HostRuntime) {
+    let deepest = nested(&rt, rt.alloc(), 16);
+    is_told(&rt, rt.alloc(), deepest.as_bytes(), None);
+    let deeper = nested(&rt, rt.alloc(), 17);
+    is_told(&rt, rt.alloc(), deeper.as_bytes(), Some(1));
 }
 
 fn script(rt: &impl Abort, alloc: Global, bytes: &[u8]) -> Script {
