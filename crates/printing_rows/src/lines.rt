@@ -176,6 +176,22 @@ fn lines(
     exit(16, None, names, sink)
 }
 
+const PRINTED: &str = concat!(
+    "  = (nil t evaporate #(\"abc\" 0 1 (priority 5) 1 2 (evaporate t priority 5)) \"\" (5 . -1)",
+    " #<buffer *scratch*> #<killed buffer> #<marker in no buffer> #<overlay in no buffer> #<process c>)",
+    "
+    ! 5 buffer-killed
+> sentinel evaporate
+  > after default
+  < default
+< evaporate
+kill #<process c>
+                                  = nil
+                                > filter default
+                                < default
+",
+);
+
 #[test]
 fn each_form_and_each_line_is_printed(rt: HostRuntime) {
     let alloc = rt.alloc();
@@ -193,22 +209,7 @@ fn each_form_and_each_line_is_printed(rt: HostRuntime) {
     };
     let written = lines(&names, &told, &nil, &none, &mut sink);
     editor.close();
-    wrote(
-        &rt,
-        &sink,
-        written,
-        b"  = (nil t evaporate #(\"abc\" 0 1 (priority 5) 1 2 (evaporate t priority 5)) \"\" (5 . -1) #<buffer *scratch*> #<killed buffer> #<marker in no buffer> #<overlay in no buffer> #<process c>)
-    ! 5 buffer-killed
-> sentinel evaporate
-  > after default
-  < default
-< evaporate
-kill #<process c>
-                                  = nil
-                                > filter default
-                                < default
-",
-    );
+    wrote(&rt, &sink, written, PRINTED.as_bytes());
 }
 
 /// A second buffer with a marker, killed.
@@ -218,7 +219,7 @@ fn kill_second(rt: &impl Abort, alloc: Global, editor: &mut Editor) {
     kill_buffer(rt, editor, w);
 }
 
-/// A text of which one character is accessible, with a marker of each type and an overlay.
+/// A text with a marker of each type.
 fn fill_first(rt: &impl Abort, alloc: Global, editor: &mut Editor) {
     fill(rt, editor, 0, &decorated(rt, alloc));
     mark(rt, editor, 0, 3, false);
