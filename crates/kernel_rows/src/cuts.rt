@@ -211,6 +211,7 @@ fn exchanges(rt: &impl Abort, alloc: Global, reads: &[&[u8]]) -> String {
 /// The output in two pieces: each wait hears one, and the last one the end.
 fn check_cut(rt: &impl Abort, alloc: Global, script: &str, cut: &Cut) {
     let (front, back) = OUTPUT.split_at(cut.at.min(OUTPUT.len()));
+    let reads = [front, back];
     let mut want = lines(rt, alloc, &[cut.first, cut.second]);
     want.push_str(ENDING).expect(rt, "memory");
     check_run(
@@ -218,9 +219,9 @@ fn check_cut(rt: &impl Abort, alloc: Global, script: &str, cut: &Cut) {
         alloc,
         "two pieces",
         script,
-        one_child(rt, alloc, &[front, back]),
+        one_child(rt, alloc, &reads),
         want.as_str(),
-        exchanges(rt, alloc, &[front, back]).as_bytes(),
+        exchanges(rt, alloc, &reads).as_bytes(),
     );
 }
 

@@ -2,7 +2,8 @@
 //! here.
 
 use super::playing::{
-    Calls, Child, PLAIN, Ran, Row, Run, Setting, UNREAD, check_ran, plays, run_over, run_script,
+    Calls, Child, PLAIN, RUN, Ran, Row, Run, Setting, UNREAD, check_ran, plays, run_over,
+    run_script,
 };
 use super::runs::all;
 use super::shown::shown_one;
@@ -503,7 +504,7 @@ fn check_hostile(rt: &impl Abort, alloc: Global, hostile: &Hostile) {
     let row = &hostile.row;
     let fails = hostile.fails.to_vec(alloc).expect(rt, "memory");
     let host = MemoryHost::new(plays(rt, alloc, row.children), fails);
-    let ran = run_over(rt, alloc, &["run"], row.script, host, PLAIN, &NoNatives);
+    let ran = run_over(rt, alloc, &RUN, row.script, host, PLAIN, &NoNatives);
     check_ran(rt, alloc, row.shows, &ran, row.lines, row.exchanges);
 }
 

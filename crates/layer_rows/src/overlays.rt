@@ -103,17 +103,68 @@ fn of_two_equal_overlays_the_later_wins(rt: HostRuntime) {
     is(&rt, overlays.winner(0, 2, FACE), Some(0));
 }
 
+/// A region of a buffer, the end of its accessible portion, and the overlays in the region.
+struct Within {
+    buffer: u32,
+    from: usize,
+    to: usize,
+    end: usize,
+    numbers: &'static [u32],
+}
+
+const WITHIN: [Within; 5] = [
+    Within {
+        buffer: 0,
+        from: 1,
+        to: 3,
+        end: 3,
+        numbers: &[0, 1, 2],
+    },
+    Within {
+        buffer: 0,
+        from: 1,
+        to: 3,
+        end: 4,
+        numbers: &[0, 1],
+    },
+    Within {
+        buffer: 0,
+        from: 1,
+        to: 1,
+        end: 3,
+        numbers: &[0, 1],
+    },
+    Within {
+        buffer: 0,
+        from: 2,
+        to: 3,
+        end: 3,
+        numbers: &[2],
+    },
+    Within {
+        buffer: 1,
+        from: 0,
+        to: 3,
+        end: 3,
+        numbers: &[],
+    },
+];
+
+fn are_within(rt: &impl Abort, overlays: &Overlays, row: &Within) {
+    assert!(rt; row.from <= row.to);
+    let found = overlays.within(row.buffer, row.from, row.to, row.end);
+    are(rt, found, row.numbers);
+}
+
 #[test]
 fn empty_overlays_stand_in_a_region_and_at_no_place(rt: HostRuntime) {
     let mut overlays = Overlays::new(rt.alloc());
     make(&rt, &mut overlays, 0, 1, 1);
     make(&rt, &mut overlays, 0, 0, 2);
     make(&rt, &mut overlays, 0, 3, 3);
-    are(&rt, overlays.within(0, 1, 3, 3), &[0, 1, 2]);
-    are(&rt, overlays.within(0, 1, 3, 4), &[0, 1]);
-    are(&rt, overlays.within(0, 1, 1, 3), &[0, 1]);
-    are(&rt, overlays.within(0, 2, 3, 3), &[2]);
-    are(&rt, overlays.within(1, 0, 3, 3), &[]);
+    for row in &WITHIN {
+        are_within(&rt, &overlays, row);
+    }
     are(&rt, overlays.at(0, 1), &[1]);
     are(&rt, overlays.at(0, 2), &[]);
 }
