@@ -172,22 +172,22 @@ kill 0: failed
 const REFUSED: &str = "spawn cat -u: refused\n";
 
 /// The calls that fail, and what is told then.
-struct Played {
+struct Row {
     fails: &'static [u32],
     told: &'static str,
 }
 
 /// None fails, some use up no answer, and a spawn that fails starts no child.
-const PLAYED: [Played; 3] = [
-    Played {
+const ROWS: [Row; 3] = [
+    Row {
         fails: &[],
         told: ALL,
     },
-    Played {
+    Row {
         fails: &[1, 3, 5, 7, 9, 10],
         told: FAILING,
     },
-    Played {
+    Row {
         fails: &[0],
         told: REFUSED,
     },
@@ -195,7 +195,7 @@ const PLAYED: [Played; 3] = [
 
 #[test]
 fn a_child_is_played_in_order_but_for_calls_that_fail(rt: HostRuntime) {
-    for row in &PLAYED {
+    for row in &ROWS {
         let host = played(&rt, rt.alloc(), row.fails);
         tells(&rt, rt.alloc(), &host, row.told);
     }
