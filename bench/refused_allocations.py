@@ -478,7 +478,7 @@ def more_table():
 def test_table(name):
     """The table of a test, without what uses it."""
     code = open(f"{TESTS}/{name}.rt").read()
-    code = code[:code.index("\n#[test]")]
+    code = code[:code.index("\n];\n", code.index("pub const ROWS")) + 4]
     head, body = code.split("\n\n", 2)[0], code[re.search(r"^(///|const|pub const)", code, re.M).start():]
     uses = [word for word in ("Child", "Row", "UNREAD") if re.search(rf"\b{word}\b", body)]
     imports = f"use super::playing::{{{', '.join(uses)}}};\n" + ("use host_link::Ended;\n" if "Ended" in body else "")

@@ -1,16 +1,18 @@
 //! Claimed lines that are checked.
 
-use super::hostile;
-use super::playing::{PLAIN, Ran, Run, Setting, check_ran, plays, run_words};
+use super::playing::{PLAIN, RECORD, Ran, Run, Setting, check_ran, plays, run_words};
 use super::recording::SCRIPT;
 use super::replaying::LINES;
+use super::runs;
 use kernel_top::Status;
 use std::alloc::Global;
 use std::process::Abort;
 
+const CHECK: [&str; 1] = ["check"];
+
 /// What a check of a transcript comes to, over a host without a child.
 fn check(rt: &impl Abort, alloc: Global, text: &str, setting: Setting) -> Ran {
-    run_words(rt, alloc, &["check"], text, Vec::new(alloc), setting)
+    run_words(rt, alloc, &CHECK, text, Vec::new(alloc), setting)
 }
 
 const JOURNAL: &str = "spawn 636174 -> started 0
@@ -172,7 +174,7 @@ fn is_none(rt: &impl Abort, alloc: Global, text: &str, line: u32) {
 }
 
 #[test]
-fn texts_that_are_no_transcripts(rt: HostRuntime) {
+fn texts_that_are_no_transcripts_are_refused(rt: HostRuntime) {
     is_none(&rt, rt.alloc(), "", 1);
     is_none(&rt, rt.alloc(), "script\n(point)", 1);
     is_none(&rt, rt.alloc(), "lines 3\na\nscript\n(point)", 3);
@@ -198,7 +200,7 @@ fn a_sink_that_is_full_holds_a_front_of_the_answer(rt: HostRuntime) {
 /// A run is recorded from its host in memory, and its lines are claimed of its journal.
 pub fn is_claimed(rt: &impl Abort, alloc: Global, run: &Run) {
     let children = plays(rt, alloc, run.children);
-    let recorded = run_words(rt, alloc, &["record"], run.script.as_str(), children, PLAIN);
+    let recorded = run_words(rt, alloc, &RECORD, run.script.as_str(), children, PLAIN);
     let session = String::from_utf8_lossy(alloc, recorded.written.as_slice()).expect(rt, "memory");
     let rest = run.script.as_str().len() + 7;
     assert!(rt; rest <= session.as_str().len(), "{}", run.shows);
@@ -216,8 +218,7 @@ pub fn is_claimed(rt: &impl Abort, alloc: Global, run: &Run) {
 
 #[test]
 fn the_lines_of_every_run_are_claimed_of_its_journal(rt: HostRuntime) {
-    let runs = hostile::all(&rt, rt.alloc());
-    for run in &runs {
+    for run in &runs::all(&rt, rt.alloc()) {
         is_claimed(&rt, rt.alloc(), run);
     }
 }

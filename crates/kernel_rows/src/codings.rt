@@ -1,6 +1,6 @@
 //! Children whose output is decoded otherwise than as UTF-8.
 
-use super::playing::{Child, Row, check_rows};
+use super::playing::{Child, Row};
 
 /// Runs, each with its lines and its exchanges.
 pub const ROWS: [Row; 6] = [
@@ -213,8 +213,3 @@ kill 0: killed
 ",
     },
 ];
-
-#[test]
-fn runs_with_codings(rt: HostRuntime) {
-    check_rows(&rt, rt.alloc(), &ROWS)
-}

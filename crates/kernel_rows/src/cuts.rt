@@ -211,6 +211,7 @@ fn exchanges(rt: &impl Abort, alloc: Global, reads: &[&[u8]]) -> String {
 /// The output in two pieces: each wait hears one, and the last one the end.
 fn check_cut(rt: &impl Abort, alloc: Global, script: &str, cut: &Cut) {
     let (front, back) = OUTPUT.split_at(cut.at.min(OUTPUT.len()));
+    let reads = [front, back];
     let mut want = lines(rt, alloc, &[cut.first, cut.second]);
     want.push_str(ENDING).expect(rt, "memory");
     check_run(
@@ -218,14 +219,14 @@ fn check_cut(rt: &impl Abort, alloc: Global, script: &str, cut: &Cut) {
         alloc,
         "two pieces",
         script,
-        one_child(rt, alloc, &[front, back]),
+        one_child(rt, alloc, &reads),
         want.as_str(),
-        exchanges(rt, alloc, &[front, back]).as_bytes(),
+        exchanges(rt, alloc, &reads).as_bytes(),
     );
 }
 
 #[test]
-fn two_pieces(rt: HostRuntime) {
+fn two_pieces_enter_the_same_text(rt: HostRuntime) {
     let script = waits(&rt, rt.alloc(), 3);
     for cut in &CUTS {
         check_cut(&rt, rt.alloc(), script.as_str(), cut);
@@ -233,7 +234,7 @@ fn two_pieces(rt: HostRuntime) {
 }
 
 #[test]
-fn single_bytes(rt: HostRuntime) {
+fn one_byte_a_read_enters_the_same_text(rt: HostRuntime) {
     let script = waits(&rt, rt.alloc(), 21);
     let mut want = lines(&rt, rt.alloc(), &BYTE_BY_BYTE);
     want.push_str(ENDING).expect(&rt, "memory");
@@ -287,7 +288,7 @@ fn check_long(rt: &impl Abort, alloc: Global, bytes: &[u8], lines: &str) {
 
 /// A read takes 4,096 bytes, so this character is cut in the middle.
 #[test]
-fn a_character_across_two_reads(rt: HostRuntime) {
+fn a_character_across_two_reads_is_entered_whole(rt: HostRuntime) {
     let letters = "x".repeat(rt.alloc(), 4095).expect(&rt, "memory");
     let output = format!(in rt.alloc(); "{letters}éy").expect(&rt, "memory");
     let lines = long_lines(&rt, rt.alloc(), letters.as_str());
@@ -398,7 +399,7 @@ fn check_cutting(rt: &impl Abort, alloc: Global, reads: &'static [&'static [u8]]
 /// Whatever the pieces are that the system makes of a child's output, the text is the same, and the
 /// end comes last.
 #[test]
-fn the_output_of_a_sort_in_each_cutting(rt: HostRuntime) {
+fn each_cutting_of_a_sort_leaves_the_same_text(rt: HostRuntime) {
     for cutting in &CUTTINGS {
         check_cutting(&rt, rt.alloc(), cutting.reads, cutting.texts);
     }

@@ -84,7 +84,7 @@ fn a_summary_is_cut_where_the_sink_is_full(rt: HostRuntime) {
 
 /// 78,882 bytes in 19,722 reads. Eight hold but the first byte of a character, so there are 19,714 entries of 11 lines.
 #[test]
-fn the_largest_drill(rt: HostRuntime) {
+fn the_largest_drill_writes_its_summary(rt: HostRuntime) {
     let ran = run_drill(&rt, rt.alloc(), "9999", 9999, PLAIN);
     ends_with(
         &rt,

@@ -1,6 +1,6 @@
 //! Changes of texts, with what stands at their places, and with hooks.
 
-use super::playing::{Row, check_rows};
+use super::playing::Row;
 
 /// Scripts without a child.
 pub const ROWS: [Row; 13] = [
@@ -228,8 +228,3 @@ text "ab"
         exchanges: b"",
     },
 ];
-
-#[test]
-fn changes_and_hooks(rt: HostRuntime) {
-    check_rows(&rt, rt.alloc(), &ROWS)
-}

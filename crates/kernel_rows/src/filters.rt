@@ -1,6 +1,6 @@
 //! Children whose output goes to filters.
 
-use super::playing::{Child, Row, UNREAD, check_rows, check_run, one_child};
+use super::playing::{Child, Row, UNREAD, check_run, one_child};
 use std::alloc::Global;
 use std::process::Abort;
 
@@ -215,11 +215,6 @@ text ""
     },
 ];
 
-#[test]
-fn filters(rt: HostRuntime) {
-    check_rows(&rt, rt.alloc(), &ROWS)
-}
-
 /// How deep handlers may be nested.
 const NESTING_BOUND: usize = 16;
 
@@ -261,7 +256,7 @@ process 0 #<process c> run 0
 
 /// The seventeenth read isn't made.
 #[test]
-fn a_filter_that_waits_too_deep(rt: HostRuntime) {
+fn a_wait_inside_16_filters_is_refused(rt: HostRuntime) {
     let lines = nested(&rt, rt.alloc());
     let reads = "read 0: bytes a\n"
         .repeat(rt.alloc(), NESTING_BOUND)

@@ -1,6 +1,6 @@
 //! Hook functions that change what they are called for.
 
-use super::playing::{Row, check_rows};
+use super::playing::Row;
 
 /// Runs, each with its lines and its exchanges.
 pub const ROWS: [Row; 12] = [
@@ -233,8 +233,3 @@ text "xzy"
         exchanges: b"",
     },
 ];
-
-#[test]
-fn hooks(rt: HostRuntime) {
-    check_rows(&rt, rt.alloc(), &ROWS)
-}

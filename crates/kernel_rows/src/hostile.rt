@@ -2,35 +2,16 @@
 //! here.
 
 use super::playing::{
-    Calls, Child, PLAIN, Ran, Row, Run, Setting, UNREAD, check_ran, plays, run_over, run_script,
+    Calls, Child, PLAIN, RUN, Ran, Row, Run, Setting, UNREAD, check_ran, plays, run_over,
+    run_script,
 };
+use super::runs::all;
 use super::shown::shown_one;
-use super::{codings, edits, filters, hooks, nesting, read_only, reentry, undos, waits};
 use handler_code::NoNatives;
 use host_link::{Answer, Ask, Ended, Exchange, Exchanges, MemoryHost};
 use kernel_top::Status;
 use std::alloc::Global;
 use std::process::Abort;
-
-const ROWS: [&[Row]; 8] = [
-    &edits::ROWS,
-    &undos::ROWS,
-    &hooks::ROWS,
-    &waits::ROWS,
-    &filters::ROWS,
-    &reentry::ROWS,
-    &codings::ROWS,
-    &read_only::ROWS,
-];
-
-/// All runs.
-pub fn all(rt: &impl Abort, alloc: Global) -> Vec<Run> {
-    let mut runs = nesting::runs(rt, alloc);
-    for row in ROWS.into_iter().flatten() {
-        runs.push(row.run(rt, alloc)).expect(rt, "memory");
-    }
-    runs
-}
 
 /// More calls of the source or the sink than any of these runs makes.
 const CALLS: u32 = 2000;
@@ -523,12 +504,12 @@ fn check_hostile(rt: &impl Abort, alloc: Global, hostile: &Hostile) {
     let row = &hostile.row;
     let fails = hostile.fails.to_vec(alloc).expect(rt, "memory");
     let host = MemoryHost::new(plays(rt, alloc, row.children), fails);
-    let ran = run_over(rt, alloc, &["run"], row.script, host, PLAIN, &NoNatives);
+    let ran = run_over(rt, alloc, &RUN, row.script, host, PLAIN, &NoNatives);
     check_ran(rt, alloc, row.shows, &ran, row.lines, row.exchanges);
 }
 
 #[test]
-fn runs_over_a_host_that_fails(rt: HostRuntime) {
+fn the_rows_of_hosts_that_fail_write_their_lines(rt: HostRuntime) {
     for hostile in &HOSTILE {
         check_hostile(&rt, rt.alloc(), hostile);
     }

@@ -38,6 +38,8 @@ mod reentry;
 #[cfg(test)]
 mod replaying;
 #[cfg(test)]
+mod runs;
+#[cfg(test)]
 mod sessions;
 #[cfg(test)]
 mod shown;

@@ -44,7 +44,7 @@ fn silence(rt: &impl Abort, alloc: Global) -> Vec<&'static [u8]> {
 
 /// Of the 66 waits of 1,000 rounds the last has 535 left. The kill is asked all the same.
 #[test]
-fn no_exchange_is_left(rt: HostRuntime) {
+fn a_wait_beyond_65536_exchanges_is_refused(rt: HostRuntime) {
     let script = repeated(
         &rt,
         rt.alloc(),
@@ -122,7 +122,7 @@ fn filling(rt: &impl Abort, alloc: Global) -> String {
 /// A text that fits when it is prepared doesn't where the output that its hook waits for has filled
 /// the buffer meanwhile. What comes then is refused too: by preparing, and by the default handlers.
 #[test]
-fn output_fills_a_buffer_inside_a_hook(rt: HostRuntime) {
+fn an_insertion_is_refused_whose_hook_lets_output_fill_the_buffer(rt: HostRuntime) {
     let script = filling(&rt, rt.alloc());
     let lines = repeated(
         &rt,

@@ -1,7 +1,7 @@
 //! Handlers of the program's own.
 
 use super::acting::{InTurn, Native};
-use super::playing::{Child, PLAIN, check_ran, plays, run_natives};
+use super::playing::{Child, PLAIN, RUN, check_ran, plays, run_natives};
 use ek_call::{Primitive, Value};
 use ek_types::{Ch, Chars, ListOf, Piece, Sym};
 use handler_code::NativeCall;
@@ -83,7 +83,7 @@ fn check(
     natives.push(second).expect(rt, "memory");
     let natives = InTurn::new(natives);
     let plays = plays(rt, alloc, children);
-    let ran = run_natives(rt, alloc, &["run"], script, plays, PLAIN, &natives);
+    let ran = run_natives(rt, alloc, &RUN, script, plays, PLAIN, &natives);
     check_ran(rt, alloc, script, &ran, lines, exchanges)
 }
 
@@ -135,7 +135,7 @@ process 1 #<process q> run 0
 /// Each is entered twice, at every other depth, and goes on where it was. A process that has left
 /// the list isn't found by its name; that fault is one more reply.
 #[test]
-fn two_natives_that_wait_for_each_others_process(rt: HostRuntime) {
+fn two_natives_wait_for_each_others_process_and_go_on(rt: HostRuntime) {
     let first = waiting(&rt, rt.alloc(), "ping", 'q');
     let second = waiting(&rt, rt.alloc(), "pong", 'p');
     check(
@@ -163,7 +163,7 @@ kill 1: killed
 
 /// The native goes on in the buffer that is current then; the change has no buffer any more.
 #[test]
-fn a_native_kills_the_buffer_before_a_change(rt: HostRuntime) {
+fn a_change_is_refused_whose_buffer_a_native_kills(rt: HostRuntime) {
     let alloc = rt.alloc();
     let mut first = named(&rt, alloc, "k");
     first.then(&rt, call(alloc, Primitive::KillBuffer));

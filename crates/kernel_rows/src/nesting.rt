@@ -6,7 +6,7 @@
 //! numbers behind. Of the calls that kill the buffer `b` the innermost does it, so the others
 //! answer nil.
 
-use super::playing::{Child, Run, UNREAD, check_run, plays};
+use super::playing::{Child, Run, UNREAD};
 use std::alloc::Global;
 use std::process::Abort;
 
@@ -327,23 +327,4 @@ pub fn runs(rt: &impl Abort, alloc: Global) -> Vec<Run> {
         runs.push(nest.run(rt, alloc)).expect(rt, "memory");
     }
     runs
-}
-
-fn check_nest(rt: &impl Abort, alloc: Global, run: &Run) {
-    check_run(
-        rt,
-        alloc,
-        run.shows,
-        run.script.as_str(),
-        plays(rt, alloc, run.children),
-        run.lines.as_str(),
-        run.exchanges.as_slice(),
-    );
-}
-
-#[test]
-fn nesting(rt: HostRuntime) {
-    for run in &runs(&rt, rt.alloc()) {
-        check_nest(&rt, rt.alloc(), run);
-    }
 }

@@ -162,6 +162,11 @@ pub fn one_child(rt: &impl Abort, alloc: Global, reads: &[&[u8]]) -> Vec<Play> {
     plays
 }
 
+/// The words of the command line that run and record a script.
+pub const RUN: [&str; 1] = ["run"];
+
+pub const RECORD: [&str; 1] = ["record"];
+
 /// Runs these words of the command line over a host that has started no child, with these natives.
 pub fn run_over<N: Natives>(
     rt: &impl Abort,
@@ -238,7 +243,7 @@ pub fn run_script(
     plays: Vec<Play>,
     setting: Setting,
 ) -> Ran {
-    run_words(rt, alloc, &["run"], script, plays, setting)
+    run_words(rt, alloc, &RUN, script, plays, setting)
 }
 
 /// Compares what a run writes with its lines.
@@ -273,19 +278,4 @@ pub fn check_run(
 ) {
     let ran = run_script(rt, alloc, script, plays, PLAIN);
     check_ran(rt, alloc, shows, &ran, lines, exchanges)
-}
-
-/// Compares each run with its row.
-pub fn check_rows(rt: &impl Abort, alloc: Global, rows: &[Row]) {
-    for row in rows {
-        check_run(
-            rt,
-            alloc,
-            row.shows,
-            row.script,
-            plays(rt, alloc, row.children),
-            row.lines,
-            row.exchanges,
-        );
-    }
 }

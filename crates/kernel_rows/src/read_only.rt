@@ -1,6 +1,6 @@
 //! Buffers and texts that are read-only, and the block in which nothing is.
 
-use super::playing::{Child, Row, check_rows};
+use super::playing::{Child, Row};
 
 /// Runs, each with its lines and its exchanges.
 pub const ROWS: [Row; 7] = [
@@ -158,8 +158,3 @@ end 0: code 0
 ",
     },
 ];
-
-#[test]
-fn what_is_read_only(rt: HostRuntime) {
-    check_rows(&rt, rt.alloc(), &ROWS)
-}

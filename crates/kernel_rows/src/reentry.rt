@@ -1,6 +1,6 @@
 //! Handlers that set others, wait, start, delete and kill while they are running themselves.
 
-use super::playing::{Child, Row, UNREAD, check_rows, check_run, plays};
+use super::playing::{Child, Row, UNREAD, check_run, plays};
 use std::alloc::Global;
 use std::process::Abort;
 
@@ -307,11 +307,6 @@ kill 1: killed
     },
 ];
 
-#[test]
-fn reentry(rt: HostRuntime) {
-    check_rows(&rt, rt.alloc(), &ROWS)
-}
-
 /// How many children end, each of whose sentinels starts the next one. The last one's finds none.
 const CHILDREN: usize = 251;
 
@@ -378,7 +373,7 @@ fn succession(rt: &impl Abort, alloc: Global) -> String {
 /// A process is listed while its sentinel is running, so its successor can't have its name, and the
 /// next one can.
 #[test]
-fn a_sentinel_that_starts_its_successor(rt: HostRuntime) {
+fn each_sentinel_starts_its_successor(rt: HostRuntime) {
     check_run(
         &rt,
         rt.alloc(),

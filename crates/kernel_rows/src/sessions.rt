@@ -241,23 +241,11 @@ fn is_full(rt: &impl Abort, alloc: Global, count: usize, last: &[u8]) {
 }
 
 #[test]
-fn a_text_becomes_full_within_a_line(rt: HostRuntime) {
-    is_full(
-        &rt,
-        rt.alloc(),
-        LARGEST_TEXT + 1,
-        b"read 0: bytes x\nkill 0: killed\n",
-    );
-}
-
-#[test]
-fn a_text_becomes_full_at_the_line_feed_that_closes_it(rt: HostRuntime) {
-    is_full(
-        &rt,
-        rt.alloc(),
-        LARGEST_TEXT,
-        b"x\nread 0: end\nend 0: code 0\n",
-    );
+fn a_text_that_becomes_full_is_written_as_it_was_before(rt: HostRuntime) {
+    let within = b"read 0: bytes x\nkill 0: killed\n";
+    is_full(&rt, rt.alloc(), LARGEST_TEXT + 1, within);
+    let closed = b"x\nread 0: end\nend 0: code 0\n";
+    is_full(&rt, rt.alloc(), LARGEST_TEXT, closed);
 }
 
 /// With so many words of its own the program is started, as no child is there, in vain.

@@ -34,7 +34,7 @@ fn fails_at(rt: &impl Abort, alloc: Global, piece: usize, call: u32, calls: u32)
 
 /// The script has 48 bytes, and a call behind them finds the end.
 #[test]
-fn a_source_that_fails_at_any_call(rt: HostRuntime) {
+fn a_source_that_fails_at_any_call_leaves_nothing_written(rt: HostRuntime) {
     for call in 0..60 {
         fails_at(&rt, rt.alloc(), 1, call, 49);
         fails_at(&rt, rt.alloc(), 7, call, 8);
@@ -42,7 +42,7 @@ fn a_source_that_fails_at_any_call(rt: HostRuntime) {
 }
 
 #[test]
-fn a_sink_of_single_bytes_that_fails_at_call_3(rt: HostRuntime) {
+fn a_sink_of_single_bytes_that_fails_at_call_3_holds_buf(rt: HostRuntime) {
     let to = Calls {
         piece: 1,
         fails: Some(3),
@@ -100,7 +100,7 @@ fn is_cut_at(rt: &impl Abort, alloc: Global, call: usize) {
 }
 
 #[test]
-fn a_sink_that_fails_before_and_behind_the_end_of_a_child(rt: HostRuntime) {
+fn a_sink_that_fails_at_any_call_has_a_living_child_killed(rt: HostRuntime) {
     for call in 0..CHILD_LINES.len() {
         is_cut_at(&rt, rt.alloc(), call);
     }
@@ -195,7 +195,7 @@ fn check_fault(rt: &impl Abort, alloc: Global, fault: &Fault) {
 }
 
 #[test]
-fn a_host_that_fails_at_any_call(rt: HostRuntime) {
+fn a_run_goes_on_where_its_host_fails_at_any_call(rt: HostRuntime) {
     for fault in &FAULTS {
         check_fault(&rt, rt.alloc(), fault);
     }

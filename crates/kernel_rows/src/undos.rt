@@ -1,6 +1,6 @@
 //! Undo.
 
-use super::playing::{Row, check_rows};
+use super::playing::Row;
 
 /// Runs, each with its lines and its exchanges.
 pub const ROWS: [Row; 3] = [
@@ -57,8 +57,3 @@ text "abcd"
         exchanges: b"",
     },
 ];
-
-#[test]
-fn undo(rt: HostRuntime) {
-    check_rows(&rt, rt.alloc(), &ROWS)
-}

@@ -3,7 +3,7 @@
 use super::playing::{
     Calls, Child, PLAIN, Ran, Run, Setting, UNREAD, plays, run_script, run_words,
 };
-use super::{hostile, recording};
+use super::{recording, runs};
 use kernel_top::Status;
 use std::alloc::Global;
 use std::process::Abort;
@@ -12,6 +12,9 @@ const HEARD: Child = Child {
     reads: &[b"ab"],
     ends: &[],
 };
+
+/// A child that is killed at the end.
+const KILLED: [Child; 1] = [UNREAD];
 
 /// A script, its children, and what its current buffer looks like at the end.
 struct Seen {
@@ -83,15 +86,17 @@ const SEEN: [Seen; 9] = [
     Seen {
         shows: "a child that is killed at the end",
         script: "(start-process \"c\" nil \"cat\")(insert \"a\")",
-        children: &[UNREAD],
+        children: &KILLED,
         view: b"a",
     },
 ];
 
+const VIEW: [&str; 1] = ["view"];
+
 /// A script that is viewed.
 fn view(rt: &impl Abort, alloc: Global, script: &str, children: &[Child], setting: Setting) -> Ran {
     let plays = plays(rt, alloc, children);
-    run_words(rt, alloc, &["view"], script, plays, setting)
+    run_words(rt, alloc, &VIEW, script, plays, setting)
 }
 
 fn is_seen(rt: &impl Abort, alloc: Global, seen: &Seen) {
@@ -121,7 +126,7 @@ fn asks_the_same(rt: &impl Abort, alloc: Global, run: &Run) {
 
 #[test]
 fn a_view_asks_what_the_run_asks(rt: HostRuntime) {
-    for run in &hostile::all(&rt, rt.alloc()) {
+    for run in &runs::all(&rt, rt.alloc()) {
         asks_the_same(&rt, rt.alloc(), run);
     }
 }
@@ -130,8 +135,8 @@ fn a_view_asks_what_the_run_asks(rt: HostRuntime) {
 /// is killed, too.
 fn is_cut(rt: &impl Abort, alloc: Global, room: usize) {
     let script = "(start-process \"c\" nil \"cat\")(insert \"view\")";
-    let whole = run_script(rt, alloc, script, plays(rt, alloc, &[UNREAD]), PLAIN);
-    let ran = view(rt, alloc, script, &[UNREAD], Setting { room, ..PLAIN });
+    let whole = run_script(rt, alloc, script, plays(rt, alloc, &KILLED), PLAIN);
+    let ran = view(rt, alloc, script, &KILLED, Setting { room, ..PLAIN });
     let front = b"view".as_slice().get(..room).expect(rt, "a front");
     assert_eq!(rt; ran.status, Status::WriteFault);
     assert_eq!(rt; ran.written.as_slice(), front);

@@ -1,6 +1,6 @@
 //! Waits, and how children end.
 
-use super::playing::{Child, Row, check_rows};
+use super::playing::{Child, Row};
 use host_link::Ended;
 
 /// A child that is silent for five reads.
@@ -132,8 +132,3 @@ end 0: signal
 ",
     },
 ];
-
-#[test]
-fn waits(rt: HostRuntime) {
-    check_rows(&rt, rt.alloc(), &ROWS)
-}

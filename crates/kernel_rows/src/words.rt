@@ -110,7 +110,7 @@ fn ends_in(rt: &impl Abort, alloc: Global, length: usize, status: Status) {
 
 /// One byte more than a script may have is enough for line 0, and one less is a script still.
 #[test]
-fn a_script_may_be_too_long(rt: HostRuntime) {
+fn a_script_beyond_1048576_bytes_is_too_long(rt: HostRuntime) {
     ends_in(&rt, rt.alloc(), 1_048_576, Status::Done);
     ends_in(&rt, rt.alloc(), 1_048_577, Status::Script(0));
 }

@@ -46,7 +46,7 @@ fn inherit(
 }
 
 #[test]
-fn a_list_that_withholds_at_the_rear_and_all_offered_at_the_front(rt: HostRuntime) {
+fn what_a_list_withholds_at_the_rear_comes_from_the_front(rt: HostRuntime) {
     let alloc = rt.alloc();
     let before = with(&rt, &PropSet::empty(alloc), FACE, &BOLD);
     let withheld = PropVal::Syms(just(&rt, alloc, FACE));
@@ -89,7 +89,7 @@ fn neither_t_nor_a_list_counts_as_absent(rt: HostRuntime) {
 }
 
 #[test]
-fn a_character_before_that_withholds_all(rt: HostRuntime) {
+fn a_character_that_withholds_all_gives_nothing(rt: HostRuntime) {
     let alloc = rt.alloc();
     let before = faces(&rt, alloc, REAR_NONSTICKY, &PropVal::Truth, &BOLD);
     is(&rt, inherit(&rt, alloc, Some(&before), None), (0, 0, 0));

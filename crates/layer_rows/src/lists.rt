@@ -7,7 +7,7 @@ use std::process::Abort;
 use std::rc::Rc;
 
 #[test]
-fn a_list_and_its_copy(rt: HostRuntime) {
+fn a_list_and_its_copy_have_the_same_items(rt: HostRuntime) {
     let mut list = ListOf::new(rt.alloc());
     list.reserve(1).expect(&rt, "memory");
     list.push_spare(7u32);
@@ -24,7 +24,7 @@ pub fn at(rt: &impl Abort, text: &Chars, i: usize) -> Ch {
 }
 
 #[test]
-fn characters_behind_others(rt: HostRuntime) {
+fn characters_are_put_behind_others(rt: HostRuntime) {
     let mut text = Chars::new(rt.alloc());
     text.extend_bytes(b"a\xe9").expect(&rt, "memory");
     let mut whole = Chars::new(rt.alloc());
@@ -36,7 +36,7 @@ fn characters_behind_others(rt: HostRuntime) {
 }
 
 #[test]
-fn characters_and_their_copy(rt: HostRuntime) {
+fn characters_are_copied(rt: HostRuntime) {
     let mut text = Chars::new(rt.alloc());
     text.reserve(1).expect(&rt, "memory");
     text.push_spare(Ch::Scalar('€'));
@@ -73,7 +73,7 @@ fn copied_set(rt: &impl Abort, alloc: Global) -> PropSet {
 }
 
 #[test]
-fn a_property_given_anew(rt: HostRuntime) {
+fn a_property_given_anew_has_the_later_value(rt: HostRuntime) {
     let set = copied_set(&rt, rt.alloc());
     is(&rt, set.len(), 2);
     is(&rt, number(set.get(PRIORITY)), Some(2));
@@ -81,7 +81,7 @@ fn a_property_given_anew(rt: HostRuntime) {
 }
 
 #[test]
-fn a_property_taken_away(rt: HostRuntime) {
+fn a_property_taken_away_leaves_the_others(rt: HostRuntime) {
     let set = copied_set(&rt, rt.alloc())
         .without(PRIORITY)
         .expect(&rt, "memory");
@@ -110,7 +110,7 @@ fn copies_as_itself(rt: &impl Abort, value: &PropVal) {
 }
 
 #[test]
-fn values_of_one_word_and_their_copies(rt: HostRuntime) {
+fn values_of_one_word_are_copied(rt: HostRuntime) {
     copies_as_itself(&rt, &PropVal::Truth);
     copies_as_itself(&rt, &PropVal::Int(-4));
     copies_as_itself(&rt, &PropVal::Sym(Sym(8)));
@@ -132,7 +132,7 @@ fn names_one(value: &PropVal, name: Sym) -> bool {
 }
 
 #[test]
-fn names_and_their_copy(rt: HostRuntime) {
+fn names_are_copied(rt: HostRuntime) {
     let names = PropVal::Syms(just(&rt, rt.alloc(), Sym(14)));
     let copy = names.copy().expect(&rt, "memory");
     holds(&rt, names_one(&copy, Sym(14)));
@@ -147,7 +147,7 @@ fn is_text(value: &PropVal, len: usize) -> bool {
 }
 
 #[test]
-fn a_text_and_its_copy(rt: HostRuntime) {
+fn a_text_is_copied(rt: HostRuntime) {
     let mut text = Chars::new(rt.alloc());
     text.push(Ch::Scalar('a')).expect(&rt, "memory");
     let text = Rc::new(rt.alloc(), text).expect(&rt, "memory");

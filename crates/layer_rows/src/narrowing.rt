@@ -79,26 +79,27 @@ fn are_kept(rt: &impl Abort, kept: &mut SavedStack, expected: &[Saved]) {
     is(rt, kept.pop(), None);
 }
 
+const BEHIND_INSERTIONS: [Saved; 5] = [
+    Saved::Change(0, 4, 4),
+    Saved::Excursion(0, 4),
+    Saved::Restriction(1, Some((1, 3))),
+    Saved::Restriction(0, None),
+    Saved::Restriction(0, Some((1, 6))),
+];
+
+const BEHIND_A_DELETION: [Saved; 5] = [
+    Saved::Change(0, 2, 2),
+    Saved::Excursion(0, 2),
+    Saved::Restriction(1, Some((1, 3))),
+    Saved::Restriction(0, None),
+    Saved::Restriction(0, Some((1, 3))),
+];
+
 #[test]
 fn the_end_of_a_kept_restriction_advances(rt: HostRuntime) {
     let mut kept = kept_places(&rt, rt.alloc());
     let mut copy = kept.copy().expect(&rt, "memory");
-    let moved = [
-        Saved::Change(0, 4, 4),
-        Saved::Excursion(0, 4),
-        Saved::Restriction(1, Some((1, 3))),
-        Saved::Restriction(0, None),
-        Saved::Restriction(0, Some((1, 6))),
-    ];
-    are_kept(&rt, &mut kept, &moved);
-
+    are_kept(&rt, &mut kept, &BEHIND_INSERTIONS);
     copy.note_delete(0, 2, 5);
-    let moved = [
-        Saved::Change(0, 2, 2),
-        Saved::Excursion(0, 2),
-        Saved::Restriction(1, Some((1, 3))),
-        Saved::Restriction(0, None),
-        Saved::Restriction(0, Some((1, 3))),
-    ];
-    are_kept(&rt, &mut copy, &moved);
+    are_kept(&rt, &mut copy, &BEHIND_A_DELETION);
 }

@@ -47,7 +47,7 @@ fn an_insertion_before_markers_moves_every_end(rt: HostRuntime) {
 }
 
 #[test]
-fn four_empty_overlays_at_an_insertion(rt: HostRuntime) {
+fn empty_overlays_at_an_insertion_go_by_their_advances(rt: HostRuntime) {
     let mut overlays = Overlays::new(rt.alloc());
     overlays.make(0, 2, 2, false, false).expect(&rt, "memory");
     overlays.make(0, 2, 2, false, true).expect(&rt, "memory");
@@ -103,23 +103,74 @@ fn of_two_equal_overlays_the_later_wins(rt: HostRuntime) {
     is(&rt, overlays.winner(0, 2, FACE), Some(0));
 }
 
+/// A region of a buffer, the end of its accessible portion, and the overlays in the region.
+struct Within {
+    buffer: u32,
+    from: usize,
+    to: usize,
+    end: usize,
+    numbers: &'static [u32],
+}
+
+const WITHIN: [Within; 5] = [
+    Within {
+        buffer: 0,
+        from: 1,
+        to: 3,
+        end: 3,
+        numbers: &[0, 1, 2],
+    },
+    Within {
+        buffer: 0,
+        from: 1,
+        to: 3,
+        end: 4,
+        numbers: &[0, 1],
+    },
+    Within {
+        buffer: 0,
+        from: 1,
+        to: 1,
+        end: 3,
+        numbers: &[0, 1],
+    },
+    Within {
+        buffer: 0,
+        from: 2,
+        to: 3,
+        end: 3,
+        numbers: &[2],
+    },
+    Within {
+        buffer: 1,
+        from: 0,
+        to: 3,
+        end: 3,
+        numbers: &[],
+    },
+];
+
+fn are_within(rt: &impl Abort, overlays: &Overlays, row: &Within) {
+    assert!(rt; row.from <= row.to);
+    let found = overlays.within(row.buffer, row.from, row.to, row.end);
+    are(rt, found, row.numbers);
+}
+
 #[test]
-fn overlays_in_a_region_and_at_a_place(rt: HostRuntime) {
+fn empty_overlays_stand_in_a_region_and_at_no_place(rt: HostRuntime) {
     let mut overlays = Overlays::new(rt.alloc());
     make(&rt, &mut overlays, 0, 1, 1);
     make(&rt, &mut overlays, 0, 0, 2);
     make(&rt, &mut overlays, 0, 3, 3);
-    are(&rt, overlays.within(0, 1, 3, 3), &[0, 1, 2]);
-    are(&rt, overlays.within(0, 1, 3, 4), &[0, 1]);
-    are(&rt, overlays.within(0, 1, 1, 3), &[0, 1]);
-    are(&rt, overlays.within(0, 2, 3, 3), &[2]);
-    are(&rt, overlays.within(1, 0, 3, 3), &[]);
+    for row in &WITHIN {
+        are_within(&rt, &overlays, row);
+    }
     are(&rt, overlays.at(0, 1), &[1]);
     are(&rt, overlays.at(0, 2), &[]);
 }
 
 #[test]
-fn the_next_and_the_previous_change(rt: HostRuntime) {
+fn overlays_change_where_one_begins_or_ends(rt: HostRuntime) {
     let mut overlays = Overlays::new(rt.alloc());
     make(&rt, &mut overlays, 0, 1, 1);
     make(&rt, &mut overlays, 0, 0, 2);
@@ -191,7 +242,7 @@ fn with_face(rt: &impl Abort, overlays: &mut Overlays, from: usize, to: usize) {
 }
 
 #[test]
-fn two_million_winners_among_many_overlays(rt: HostRuntime) {
+fn two_million_winners_are_found_among_many_overlays(rt: HostRuntime) {
     let mut overlays = Overlays::new(rt.alloc());
     for k in 0..65_536usize {
         with_face(&rt, &mut overlays, k, k + 1);
@@ -203,7 +254,7 @@ fn two_million_winners_among_many_overlays(rt: HostRuntime) {
 }
 
 #[test]
-fn winners_among_nested_overlays(rt: HostRuntime) {
+fn the_innermost_of_nested_overlays_wins(rt: HostRuntime) {
     let mut overlays = Overlays::new(rt.alloc());
     for k in 0..512usize {
         with_face(&rt, &mut overlays, k, 1_024 - k);
@@ -215,7 +266,7 @@ fn winners_among_nested_overlays(rt: HostRuntime) {
 }
 
 #[test]
-fn winners_among_overlays_that_begin_together(rt: HostRuntime) {
+fn of_overlays_that_begin_together_the_shortest_wins(rt: HostRuntime) {
     let mut overlays = Overlays::new(rt.alloc());
     for k in 0..512usize {
         with_face(&rt, &mut overlays, 7, 8 + k);
@@ -249,7 +300,7 @@ fn put_in(overlays: &mut Overlays, at: usize, most: usize)
 }
 
 #[test]
-fn a_hundred_thousand_insertions_in_front_of_many_overlays(rt: HostRuntime) {
+fn many_overlays_follow_a_hundred_thousand_insertions(rt: HostRuntime) {
     let mut overlays = apart(rt.alloc(), 65_536).expect(&rt, "memory");
     for i in 0..100_000usize {
         put_in(&mut overlays, 0, 65_536 + i);

@@ -95,7 +95,7 @@ fn are(rt: &impl Abort, piece: &Piece, expected: &[i64]) {
 }
 
 #[test]
-fn properties_of_the_parts_of_a_piece(rt: HostRuntime) {
+fn parts_of_a_piece_have_the_properties_given_last(rt: HostRuntime) {
     let alloc = rt.alloc();
     let mut piece = bare_text(&rt, alloc, 8);
     for part in PARTS.iter() {
@@ -113,7 +113,7 @@ fn run_end(rt: &impl Abort, piece: &Piece, i: usize) -> usize {
 }
 
 #[test]
-fn a_piece_behind_another(rt: HostRuntime) {
+fn a_piece_put_behind_another_keeps_its_runs(rt: HostRuntime) {
     let alloc = rt.alloc();
     let mut piece = bare_text(&rt, alloc, 3);
     paint(&rt, alloc, &mut piece, 0, 2, 1);
@@ -129,7 +129,7 @@ fn a_piece_behind_another(rt: HostRuntime) {
 }
 
 #[test]
-fn a_run_and_its_copy(rt: HostRuntime) {
+fn a_copied_run_has_its_end_and_its_set(rt: HostRuntime) {
     let mut piece = bare_text(&rt, rt.alloc(), 3);
     paint(&rt, rt.alloc(), &mut piece, 0, 3, 1);
     let copy = piece.copy().expect(&rt, "memory");
@@ -145,7 +145,7 @@ fn shared_text(rt: &impl Abort, alloc: Global) -> Piece {
 }
 
 #[test]
-fn a_shared_piece_and_its_copies(rt: HostRuntime) {
+fn copies_of_a_shared_piece_are_changed_alone(rt: HostRuntime) {
     let alloc = rt.alloc();
     let shared = shared_text(&rt, alloc);
     let mut first = shared.copy().expect(&rt, "memory");

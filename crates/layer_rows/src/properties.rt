@@ -81,7 +81,7 @@ fn changes(rt: &impl Abort, props: &mut Props, from: usize, to: usize, edit: &Pr
 }
 
 #[test]
-fn next_changes_and_a_change_to_what_is_there(rt: HostRuntime) {
+fn changes_are_found_and_a_change_to_what_is_there_is_none(rt: HostRuntime) {
     let alloc = rt.alloc();
     let mut props = with_face(&rt, alloc, 4, 1, 3);
     is(&rt, next_change(&rt, &props, 0, None), Some(1));
@@ -130,7 +130,7 @@ fn runs_join_after_a_change_back(rt: HostRuntime) {
 }
 
 #[test]
-fn changes_of_one_property(rt: HostRuntime) {
+fn changes_of_one_property_pass_over_those_of_others(rt: HostRuntime) {
     let alloc = rt.alloc();
     let mut props = with_face(&rt, alloc, 4, 0, 3);
     let mouse = with(&rt, &PropSet::empty(alloc), MOUSE_FACE, &PropVal::Truth);
@@ -145,7 +145,7 @@ fn changes_of_one_property(rt: HostRuntime) {
 }
 
 #[test]
-fn a_part_replaced(rt: HostRuntime) {
+fn a_part_replaced_has_the_sets_of_its_text(rt: HostRuntime) {
     let alloc = rt.alloc();
     let mut props = with_face(&rt, alloc, 6, 2, 4);
     let copy = props.copy().expect(&rt, "memory");
@@ -174,7 +174,7 @@ fn face_near_the_end(rt: &impl Abort, props: &Props) -> i64 {
 }
 
 #[test]
-fn many_insertions_in_front_of_many_runs(rt: HostRuntime) {
+fn many_runs_follow_two_million_insertions(rt: HostRuntime) {
     let alloc = rt.alloc();
     let mut props = own_faces(&rt, alloc);
     let x = bare_text(&rt, alloc, 1);

@@ -99,7 +99,7 @@ fn no_insertion_goes_on_across_a_boundary(rt: HostRuntime) {
 }
 
 #[test]
-fn no_undo_without_a_start(rt: HostRuntime) {
+fn there_is_no_undo_without_a_start(rt: HostRuntime) {
     let mut undo = Undo::new(rt.alloc());
     put(&rt, &mut undo, Rec::Inserted(0, 2));
     is(&rt, planned(&rt, &undo, 1, 0, 2), Err(Refused::Nothing));
@@ -170,7 +170,7 @@ fn the_text_of_a_deletion_comes_back_in_a_trial(rt: HostRuntime) {
 }
 
 #[test]
-fn undo_outside_the_bounds(rt: HostRuntime) {
+fn an_undo_outside_the_bounds_is_refused(rt: HostRuntime) {
     let undo = started(&rt, rt.alloc(), &[Rec::First, Rec::Inserted(0, 4)]);
     is(&rt, planned(&rt, &undo, 1, 0, 1), Err(Refused::Outside(1)));
     let undo = started(&rt, rt.alloc(), &[Rec::Point(5), Rec::Moved(0, -1)]);

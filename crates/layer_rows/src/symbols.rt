@@ -15,7 +15,7 @@ fn number(rt: &impl Abort, symbols: &mut Symbols, name: &str) -> u32 {
 // The names of `(defhandler h (b e) (delete-region 1 2)) (add-hook 'before-change-functions 'h) (setq m (copy-marker 2))`,
 // the words for calls left out.
 #[test]
-fn numbers_for_the_names_of_a_script(rt: HostRuntime) {
+fn the_names_of_a_script_are_numbered_in_their_order(rt: HostRuntime) {
     let mut symbols = Symbols::new(rt.alloc()).expect(&rt, "memory");
     is(&rt, symbols.count(), 17);
     is(&rt, number(&rt, &mut symbols, "h"), 17);
@@ -52,7 +52,7 @@ const NAMES: [&str; 17] = [
 ];
 
 #[test]
-fn the_names_that_have_a_number_in_every_script(rt: HostRuntime) {
+fn names_of_every_script_have_their_numbers(rt: HostRuntime) {
     let symbols = Symbols::new(rt.alloc()).expect(&rt, "memory");
     for (i, name) in NAMES.iter().enumerate() {
         is(&rt, symbols.find(name), Some(Sym(i as u32)));

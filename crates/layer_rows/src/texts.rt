@@ -93,7 +93,7 @@ fn keeps_letters(rt: &impl Abort, alloc: Global, n: usize) {
 }
 
 #[test]
-fn texts_of_each_size(rt: HostRuntime) {
+fn a_text_of_each_size_is_kept(rt: HostRuntime) {
     keeps_letters(&rt, rt.alloc(), 0);
     keeps_letters(&rt, rt.alloc(), 255);
     keeps_letters(&rt, rt.alloc(), 256);
@@ -150,7 +150,7 @@ fn keeps(rt: &impl Abort, alloc: Global, c: Ch) {
 }
 
 #[test]
-fn raw_bytes_and_the_last_scalar_value(rt: HostRuntime) {
+fn raw_bytes_and_the_last_scalar_value_are_kept(rt: HostRuntime) {
     keeps(&rt, rt.alloc(), Ch::Raw(0x80));
     keeps(&rt, rt.alloc(), Ch::Raw(0xFF));
     keeps(&rt, rt.alloc(), Ch::Scalar('\0'));

@@ -122,7 +122,7 @@ fn processes(rt: &impl Abort, alloc: Global) -> Processes {
 }
 
 #[test]
-fn a_dump_of_all_there_is(rt: HostRuntime) {
+fn a_dump_tells_of_all_there_is(rt: HostRuntime) {
     let alloc = rt.alloc();
     let symbols = Symbols::new(alloc).expect(&rt, "symbols");
     let processes = processes(&rt, alloc);

@@ -41,16 +41,6 @@ fn assert_kept(rt: &impl Abort, alloc: Global, journal: &str) {
     is(rt, written(rt, alloc, &list).bytes(), journal.as_bytes());
 }
 
-#[test]
-fn a_line_of_each_kind(rt: HostRuntime) {
-    assert_kept(&rt, rt.alloc(), ALL);
-}
-
-#[test]
-fn a_script_without_exchanges(rt: HostRuntime) {
-    assert_kept(&rt, rt.alloc(), "");
-}
-
 /// Two hexadecimal digits for each of these numbers.
 fn push_hex(text: &mut String, from: u32, to: u32) -> Result<(), AllocError> {
     for n in from..to {
@@ -69,29 +59,29 @@ fn all_bytes(alloc: Global) -> Result<String, AllocError> {
     Ok(text)
 }
 
-#[test]
-fn every_byte(rt: HostRuntime) {
-    let text = all_bytes(rt.alloc()).expect(&rt, "a text");
-    assert_kept(&rt, rt.alloc(), text.as_str());
-}
-
 /// A read that gave so many bytes.
 fn long_read(rt: &impl Abort, alloc: Global, bytes: usize) -> String {
     let bytes = "61".repeat(alloc, bytes).expect(rt, "a text");
     format!(in alloc; "read 0 -> bytes {bytes}\n").expect(rt, "a text")
 }
 
+/// A line of each kind, none, each byte, and the longest read.
 #[test]
-fn a_read_of_4096_bytes(rt: HostRuntime) {
-    let text = long_read(&rt, rt.alloc(), 4096);
-    assert_kept(&rt, rt.alloc(), text.as_str());
+fn a_journal_that_is_read_is_written_back_as_it_was(rt: HostRuntime) {
+    let alloc = rt.alloc();
+    assert_kept(&rt, alloc, ALL);
+    assert_kept(&rt, alloc, "");
+    let bytes = all_bytes(alloc).expect(&rt, "a text");
+    assert_kept(&rt, alloc, bytes.as_str());
+    let longest = long_read(&rt, alloc, 4096);
+    assert_kept(&rt, alloc, longest.as_str());
 }
 
 /// The bytes are refused with a line.
 fn assert_refused(rt: &impl Abort, alloc: Global, text: &str, line: u32) {
     match read(rt, alloc, text.as_bytes()) {
-        Err(fault) => assert_eq!(rt; fault, JournalFault::Line(line)),
-        Ok(_) => panic!(rt; "it was read"),
+        Err(fault) => assert_eq!(rt; fault, JournalFault::Line(line), "{text}"),
+        Ok(_) => panic!(rt; "it was read: {text}"),
     }
 }
 
@@ -101,83 +91,150 @@ fn a_read_of_more_bytes_is_refused(rt: HostRuntime) {
     assert_refused(&rt, rt.alloc(), text.as_str(), 1);
 }
 
-#[test]
-fn no_script_is_refused(rt: HostRuntime) {
-    assert_refused(&rt, rt.alloc(), "", 1);
-    assert_refused(&rt, rt.alloc(), "script", 1);
-    assert_refused(&rt, rt.alloc(), "close 0 -> closed\nclose 1 -> closed\n", 3);
+/// A text that is no session, and the line that is refused.
+struct Refused {
+    text: &'static str,
+    line: u32,
 }
 
-#[test]
-fn numbers_are_refused(rt: HostRuntime) {
-    for text in [
-        "close 00 -> closed\nscript\n",
-        "close 01 -> closed\nscript\n",
-        "close +1 -> closed\nscript\n",
-        "close  -> closed\nscript\n",
-        "close 4294967296 -> closed\nscript\n",
-        "close 12345678901234567890 -> closed\nscript\n",
-    ] {
-        assert_refused(&rt, rt.alloc(), text, 1);
-    }
-}
+const REFUSED: [Refused; 32] = [
+    // No script.
+    Refused { text: "", line: 1 },
+    Refused {
+        text: "script",
+        line: 1,
+    },
+    Refused {
+        text: "close 0 -> closed\nclose 1 -> closed\n",
+        line: 3,
+    },
+    // Numbers.
+    Refused {
+        text: "close 00 -> closed\nscript\n",
+        line: 1,
+    },
+    Refused {
+        text: "close 01 -> closed\nscript\n",
+        line: 1,
+    },
+    Refused {
+        text: "close +1 -> closed\nscript\n",
+        line: 1,
+    },
+    Refused {
+        text: "close  -> closed\nscript\n",
+        line: 1,
+    },
+    Refused {
+        text: "close 4294967296 -> closed\nscript\n",
+        line: 1,
+    },
+    Refused {
+        text: "close 12345678901234567890 -> closed\nscript\n",
+        line: 1,
+    },
+    // Codes.
+    Refused {
+        text: "close 0 -> closed\nend 0 -> code -0\nscript\n",
+        line: 2,
+    },
+    Refused {
+        text: "close 0 -> closed\nend 0 -> code 2147483648\nscript\n",
+        line: 2,
+    },
+    Refused {
+        text: "close 0 -> closed\nend 0 -> code -2147483649\nscript\n",
+        line: 2,
+    },
+    Refused {
+        text: "close 0 -> closed\nend 0 -> code \nscript\n",
+        line: 2,
+    },
+    // Bytes.
+    Refused {
+        text: "spawn 636174 -> started 0\nread 0 -> bytes 616\nscript\n",
+        line: 2,
+    },
+    Refused {
+        text: "spawn 636174 -> started 0\nread 0 -> bytes \nscript\n",
+        line: 2,
+    },
+    Refused {
+        text: "spawn 636174 -> started 0\nread 0 -> bytes 4A\nscript\n",
+        line: 2,
+    },
+    Refused {
+        text: "spawn 636174 -> started 0\nsend 0  -> sent\nscript\n",
+        line: 2,
+    },
+    Refused {
+        text: "spawn 636174 -> started 0\nsend 0 - -> sent\nscript\n",
+        line: 2,
+    },
+    // Words, and the number and the answer of a spawn.
+    Refused {
+        text: "spawn - -> started 0\nscript\n",
+        line: 1,
+    },
+    Refused {
+        text: "spawn 00 -> started 0\nscript\n",
+        line: 1,
+    },
+    Refused {
+        text: "spawn 61 0061 -> started 0\nscript\n",
+        line: 1,
+    },
+    Refused {
+        text: "spawn 61 ff -> started 0\nscript\n",
+        line: 1,
+    },
+    Refused {
+        text: "spawn 61  61 -> started 0\nscript\n",
+        line: 1,
+    },
+    Refused {
+        text: "spawn 61 -> started 1\nscript\n",
+        line: 1,
+    },
+    Refused {
+        text: "spawn 61 -> killed\nscript\n",
+        line: 1,
+    },
+    // A child that was started before.
+    Refused {
+        text: "spawn 61 -> started 0\nspawn 61 -> started 0\nscript\n",
+        line: 2,
+    },
+    // Other lines.
+    Refused {
+        text: "close 0 -> closed \nscript\n",
+        line: 1,
+    },
+    Refused {
+        text: "close 0 -> closed\r\nscript\n",
+        line: 1,
+    },
+    Refused {
+        text: " close 0 -> closed\nscript\n",
+        line: 1,
+    },
+    Refused {
+        text: "Close 0 -> closed\nscript\n",
+        line: 1,
+    },
+    Refused {
+        text: "close 0->closed\nscript\n",
+        line: 1,
+    },
+    Refused {
+        text: "\nscript\n",
+        line: 1,
+    },
+];
 
 #[test]
-fn codes_are_refused(rt: HostRuntime) {
-    for text in [
-        "close 0 -> closed\nend 0 -> code -0\nscript\n",
-        "close 0 -> closed\nend 0 -> code 2147483648\nscript\n",
-        "close 0 -> closed\nend 0 -> code -2147483649\nscript\n",
-        "close 0 -> closed\nend 0 -> code \nscript\n",
-    ] {
-        assert_refused(&rt, rt.alloc(), text, 2);
-    }
-}
-
-#[test]
-fn bytes_are_refused(rt: HostRuntime) {
-    for text in [
-        "spawn 636174 -> started 0\nread 0 -> bytes 616\nscript\n",
-        "spawn 636174 -> started 0\nread 0 -> bytes \nscript\n",
-        "spawn 636174 -> started 0\nread 0 -> bytes 4A\nscript\n",
-        "spawn 636174 -> started 0\nsend 0  -> sent\nscript\n",
-        "spawn 636174 -> started 0\nsend 0 - -> sent\nscript\n",
-    ] {
-        assert_refused(&rt, rt.alloc(), text, 2);
-    }
-}
-
-#[test]
-fn words_are_refused(rt: HostRuntime) {
-    for text in [
-        "spawn - -> started 0\nscript\n",
-        "spawn 00 -> started 0\nscript\n",
-        "spawn 61 0061 -> started 0\nscript\n",
-        "spawn 61 ff -> started 0\nscript\n",
-        "spawn 61  61 -> started 0\nscript\n",
-        "spawn 61 -> started 1\nscript\n",
-        "spawn 61 -> killed\nscript\n",
-    ] {
-        assert_refused(&rt, rt.alloc(), text, 1);
-    }
-}
-
-#[test]
-fn children_are_numbered_in_order(rt: HostRuntime) {
-    let twice = "spawn 61 -> started 0\nspawn 61 -> started 0\nscript\n";
-    assert_refused(&rt, rt.alloc(), twice, 2);
-}
-
-#[test]
-fn other_lines_are_refused(rt: HostRuntime) {
-    for text in [
-        "close 0 -> closed \nscript\n",
-        "close 0 -> closed\r\nscript\n",
-        " close 0 -> closed\nscript\n",
-        "Close 0 -> closed\nscript\n",
-        "close 0->closed\nscript\n",
-        "\nscript\n",
-    ] {
-        assert_refused(&rt, rt.alloc(), text, 1);
+fn what_is_no_journal_is_refused_with_its_line(rt: HostRuntime) {
+    for row in &REFUSED {
+        assert_refused(&rt, rt.alloc(), row.text, row.line);
     }
 }

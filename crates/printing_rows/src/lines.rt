@@ -81,7 +81,7 @@ fn tell(
 
 /// Characters of each kind that strings escape, and some that they don't.
 #[test]
-fn each_escape(rt: HostRuntime) {
+fn each_escape_is_written(rt: HostRuntime) {
     let mut text = chars(&rt, rt.alloc(), "a\"\\\n\t\u{1}\u{7F}é€");
     text.push(Ch::Raw(0xFF)).expect(&rt, "a character");
     let mut sink = new_sink(&rt, rt.alloc(), 100, 7);
@@ -127,7 +127,7 @@ fn put_all_octal(text: &mut Chars, written: &mut Vec<u8>) -> Mem<()> {
 }
 
 #[test]
-fn each_control_character_and_raw_byte(rt: HostRuntime) {
+fn control_characters_and_raw_bytes_are_written_in_octal(rt: HostRuntime) {
     let mut text = Chars::new(rt.alloc());
     let mut expected = b"= \"".to_vec(rt.alloc()).expect(&rt, "a text");
     put_all_octal(&mut text, &mut expected).expect(&rt, "a text");
@@ -145,7 +145,7 @@ fn has_front(rt: &impl Abort, sink: &MemorySink) {
 
 /// The sink fails at its second call alone, and the text is longer than what is written in some calls.
 #[test]
-fn nothing_behind_a_failure(rt: HostRuntime) {
+fn nothing_is_written_behind_a_failure(rt: HostRuntime) {
     let alloc = rt.alloc();
     let text = "a".repeat(alloc, 3000).expect(&rt, "a text");
     let text = chars(&rt, alloc, text.as_str());
@@ -176,8 +176,24 @@ fn lines(
     exit(16, None, names, sink)
 }
 
+const PRINTED: &str = concat!(
+    "  = (nil t evaporate #(\"abc\" 0 1 (priority 5) 1 2 (evaporate t priority 5)) \"\" (5 . -1)",
+    " #<buffer *scratch*> #<killed buffer> #<marker in no buffer> #<overlay in no buffer> #<process c>)",
+    "
+    ! 5 buffer-killed
+> sentinel evaporate
+  > after default
+  < default
+< evaporate
+kill #<process c>
+                                  = nil
+                                > filter default
+                                < default
+",
+);
+
 #[test]
-fn each_printed_form_and_line(rt: HostRuntime) {
+fn each_form_and_each_line_is_printed(rt: HostRuntime) {
     let alloc = rt.alloc();
     let told = Reply::Value(Value::List(one_of_each(&rt, alloc)));
     let nil = Reply::Value(Value::Nil);
@@ -193,22 +209,7 @@ fn each_printed_form_and_line(rt: HostRuntime) {
     };
     let written = lines(&names, &told, &nil, &none, &mut sink);
     editor.close();
-    wrote(
-        &rt,
-        &sink,
-        written,
-        b"  = (nil t evaporate #(\"abc\" 0 1 (priority 5) 1 2 (evaporate t priority 5)) \"\" (5 . -1) #<buffer *scratch*> #<killed buffer> #<marker in no buffer> #<overlay in no buffer> #<process c>)
-    ! 5 buffer-killed
-> sentinel evaporate
-  > after default
-  < default
-< evaporate
-kill #<process c>
-                                  = nil
-                                > filter default
-                                < default
-",
-    );
+    wrote(&rt, &sink, written, PRINTED.as_bytes());
 }
 
 /// A second buffer with a marker, killed.
@@ -218,7 +219,7 @@ fn kill_second(rt: &impl Abort, alloc: Global, editor: &mut Editor) {
     kill_buffer(rt, editor, w);
 }
 
-/// A text of which one character is accessible, with a marker of each type and an overlay.
+/// A text with a marker of each type.
 fn fill_first(rt: &impl Abort, alloc: Global, editor: &mut Editor) {
     fill(rt, editor, 0, &decorated(rt, alloc));
     mark(rt, editor, 0, 3, false);
@@ -226,7 +227,7 @@ fn fill_first(rt: &impl Abort, alloc: Global, editor: &mut Editor) {
 }
 
 #[test]
-fn a_dump(rt: HostRuntime) {
+fn a_small_dump_tells_of_its_text_markers_and_process(rt: HostRuntime) {
     let alloc = rt.alloc();
     let symbols = Symbols::new(alloc).expect(&rt, "symbols");
     let processes = one_process(&rt, alloc);

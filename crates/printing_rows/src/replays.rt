@@ -86,7 +86,7 @@ script
 }
 
 #[test]
-fn a_list_that_is_used_up(rt: HostRuntime) {
+fn a_replay_strays_behind_a_list_that_is_used_up(rt: HostRuntime) {
     let session = "spawn 636174 -> started 0
 read 0 -> bytes 6162
 read 0 -> end
@@ -102,7 +102,7 @@ end 0 -> failed
 }
 
 #[test]
-fn a_read_with_too_little_room(rt: HostRuntime) {
+fn a_read_with_too_little_room_strays(rt: HostRuntime) {
     let session = "spawn 636174 -> started 0
 read 0 -> bytes 6162
 read 0 -> end
@@ -119,7 +119,7 @@ end 0 -> failed
 }
 
 #[test]
-fn another_program(rt: HostRuntime) {
+fn another_program_strays(rt: HostRuntime) {
     let session = "spawn 636174 -> started 0\nscript\n";
     let told = "spawn 626174 -> refused\n";
     let mut room = [0u8; 1];
@@ -154,7 +154,7 @@ fn check_feed(
 }
 
 #[test]
-fn a_close_that_strays(rt: HostRuntime) {
+fn a_close_that_was_not_recorded_strays(rt: HostRuntime) {
     let session = "spawn 636174 -> started 0\nkill 0 -> killed\nscript\n";
     let told = "spawn 636174 -> started 0
 close 0 -> closed

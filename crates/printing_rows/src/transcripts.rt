@@ -37,7 +37,7 @@ fn assert_parts(rt: &impl Abort, alloc: Global, text: &str, lines: &str, script:
 }
 
 #[test]
-fn the_parts_of_a_transcript(rt: HostRuntime) {
+fn a_transcript_is_read_as_its_parts(rt: HostRuntime) {
     let alloc = rt.alloc();
     let mut text = String::from_str(alloc, JOURNAL).expect(&rt, "a text");
     text.push_str("lines 8\n= t\n= 1\nscript\n(point)")
@@ -49,7 +49,7 @@ fn the_parts_of_a_transcript(rt: HostRuntime) {
 }
 
 #[test]
-fn claims_that_are_empty_or_end_within_a_line(rt: HostRuntime) {
+fn claims_that_are_empty_or_end_within_a_line_are_read(rt: HostRuntime) {
     let alloc = rt.alloc();
     assert_parts(&rt, alloc, "lines 0\nscript\n", "", "");
     assert_parts(&rt, alloc, "lines 2\nabscript\nscript\n", "ab", "script\n");
@@ -59,32 +59,73 @@ fn claims_that_are_empty_or_end_within_a_line(rt: HostRuntime) {
 /// The text is refused with a line.
 fn assert_refused(rt: &impl Abort, alloc: Global, text: &str, line: u32) {
     match read(rt, alloc, text) {
-        Err(fault) => assert_eq!(rt; fault, JournalFault::Line(line)),
-        Ok(_) => panic!(rt; "it was read"),
+        Err(fault) => assert_eq!(rt; fault, JournalFault::Line(line), "{text}"),
+        Ok(_) => panic!(rt; "it was read: {text}"),
     }
 }
 
-#[test]
-fn no_claimed_lines_are_refused_behind_the_journal(rt: HostRuntime) {
-    for text in [
-        "close 0 -> closed\n",
-        "close 0 -> closed\nscript\n",
-        "close 0 -> closed\nlines 3\nab",
-        "close 0 -> closed\nlines 02\nabscript\n",
-        "close 0 -> closed\nlines \nscript\n",
-        "close 0 -> closed\nlines 4294967296\nscript\n",
-        "close 0 -> closed\nlines 0",
-    ] {
-        assert_refused(&rt, rt.alloc(), text, 2);
-    }
+/// A text that is no transcript, and the line that is refused.
+struct Refused {
+    text: &'static str,
+    line: u32,
 }
 
+const REFUSED: [Refused; 12] = [
+    // No claimed lines behind the journal.
+    Refused {
+        text: "close 0 -> closed\n",
+        line: 2,
+    },
+    Refused {
+        text: "close 0 -> closed\nscript\n",
+        line: 2,
+    },
+    Refused {
+        text: "close 0 -> closed\nlines 3\nab",
+        line: 2,
+    },
+    Refused {
+        text: "close 0 -> closed\nlines 02\nabscript\n",
+        line: 2,
+    },
+    Refused {
+        text: "close 0 -> closed\nlines \nscript\n",
+        line: 2,
+    },
+    Refused {
+        text: "close 0 -> closed\nlines 4294967296\nscript\n",
+        line: 2,
+    },
+    Refused {
+        text: "close 0 -> closed\nlines 0",
+        line: 2,
+    },
+    // No script behind the claimed lines.
+    Refused {
+        text: "lines 0\n",
+        line: 2,
+    },
+    Refused {
+        text: "lines 0\nscript",
+        line: 2,
+    },
+    Refused {
+        text: "lines 2\nabscrip",
+        line: 2,
+    },
+    Refused {
+        text: "lines 2\na\n\nscript\n",
+        line: 3,
+    },
+    Refused {
+        text: "close 0 -> closed\nlines 5\nab\nc\nscripx\n",
+        line: 5,
+    },
+];
+
 #[test]
-fn no_script_is_refused_behind_the_claimed_lines(rt: HostRuntime) {
-    let alloc = rt.alloc();
-    assert_refused(&rt, alloc, "lines 0\n", 2);
-    assert_refused(&rt, alloc, "lines 0\nscript", 2);
-    assert_refused(&rt, alloc, "lines 2\nabscrip", 2);
-    assert_refused(&rt, alloc, "lines 2\na\n\nscript\n", 3);
-    assert_refused(&rt, alloc, "close 0 -> closed\nlines 5\nab\nc\nscripx\n", 5);
+fn what_is_no_transcript_is_refused_with_its_line(rt: HostRuntime) {
+    for row in &REFUSED {
+        assert_refused(&rt, rt.alloc(), row.text, row.line);
+    }
 }

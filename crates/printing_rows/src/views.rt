@@ -26,9 +26,10 @@ struct Laid {
     hides: bool,
 }
 
-/// A text of which a part is invisible by its text property and another is accessible, its overlays, and what is seen.
+/// What it shows, a text of which a part is invisible by its text property and another is accessible, its overlays, and what is seen.
 #[derive(Clone, Copy)]
 struct Row {
+    shows: &'static str,
     text: &'static str,
     invisible: (usize, usize),
     accessible: (usize, usize),
@@ -107,10 +108,12 @@ fn check(rt: &impl Abort, alloc: Global, row: &Row) {
     let mut sink = new_sink(rt, alloc, 99, 2);
     let written = view_first(rt, &editor, &mut sink);
     editor.close();
-    wrote(rt, &sink, written, row.seen.as_bytes());
+    written.expect(rt, row.shows);
+    assert_eq!(rt; sink.bytes(), row.seen.as_bytes(), "{}", row.shows);
 }
 
 const HIDDEN_LETTERS: Row = Row {
+    shows: "hidden letters, and an overlay at the end",
     text: "abcdef",
     invisible: (1, 3),
     accessible: (0, 6),
@@ -124,11 +127,6 @@ const HIDDEN_LETTERS: Row = Row {
     }],
     seen: "ad[ef]",
 };
-
-#[test]
-fn hidden_letters_and_an_overlay_at_the_end(rt: HostRuntime) {
-    check(&rt, rt.alloc(), &HIDDEN_LETTERS);
-}
 
 const TWO: [Laid; 2] = [
     Laid {
@@ -150,6 +148,7 @@ const TWO: [Laid; 2] = [
 ];
 
 const TWO_WHOLE: Row = Row {
+    shows: "the higher priority is nearer to the text",
     text: "xy",
     invisible: (0, 0),
     accessible: (0, 2),
@@ -158,6 +157,7 @@ const TWO_WHOLE: Row = Row {
 };
 
 const TWO_NARROWED: Row = Row {
+    shows: "so it is where a part is accessible",
     text: "xy",
     invisible: (0, 0),
     accessible: (0, 1),
@@ -165,15 +165,10 @@ const TWO_NARROWED: Row = Row {
     seen: "BAx",
 };
 
-#[test]
-fn the_higher_priority_is_nearer_to_the_text(rt: HostRuntime) {
-    check(&rt, rt.alloc(), &TWO_WHOLE);
-    check(&rt, rt.alloc(), &TWO_NARROWED);
-}
-
 /// Of those that start at one place the shorter is nearer to the text; of those that end at one place the one that
 /// starts later.
 const NESTED: Row = Row {
+    shows: "nested overlays at one place",
     text: "wxyz",
     invisible: (0, 0),
     accessible: (0, 4),
@@ -214,14 +209,10 @@ const NESTED: Row = Row {
     seen: "([wx]<{yz})>",
 };
 
-#[test]
-fn nested_overlays_at_one_place(rt: HostRuntime) {
-    check(&rt, rt.alloc(), &NESTED);
-}
-
 /// Strings behind those that end at a place, then those of the empty one and of the one that starts, the empty one being
 /// stronger as it ends earlier.
 const EMPTY_BETWEEN: Row = Row {
+    shows: "an empty overlay between two others",
     text: "ab",
     invisible: (0, 0),
     accessible: (0, 2),
@@ -256,6 +247,7 @@ const EMPTY_BETWEEN: Row = Row {
 
 /// An empty overlay at each end of the portion is shown; one that ends where it begins or starts where it ends isn't.
 const EMPTY_AT_BOUNDS: Row = Row {
+    shows: "empty overlays at the ends of the portion",
     text: "abcd",
     invisible: (0, 0),
     accessible: (1, 3),
@@ -312,14 +304,9 @@ const EMPTY_AT_BOUNDS: Row = Row {
     seen: "<,bc.>",
 };
 
-#[test]
-fn empty_overlays(rt: HostRuntime) {
-    check(&rt, rt.alloc(), &EMPTY_BETWEEN);
-    check(&rt, rt.alloc(), &EMPTY_AT_BOUNDS);
-}
-
 /// One hides from in front of the portion on, another behind it, and the text's own property between; the strings stay.
 const HIDDEN_BY_BOTH: Row = Row {
+    shows: "strings on hidden text",
     text: "abcdefg",
     invisible: (4, 5),
     accessible: (1, 7),
@@ -352,14 +339,26 @@ const HIDDEN_BY_BOTH: Row = Row {
     seen: "12345fg",
 };
 
+const ROWS: [Row; 7] = [
+    HIDDEN_LETTERS,
+    TWO_WHOLE,
+    TWO_NARROWED,
+    NESTED,
+    EMPTY_BETWEEN,
+    EMPTY_AT_BOUNDS,
+    HIDDEN_BY_BOTH,
+];
+
 #[test]
-fn strings_on_hidden_text(rt: HostRuntime) {
-    check(&rt, rt.alloc(), &HIDDEN_BY_BOTH);
+fn each_row_is_seen_as_it_says(rt: HostRuntime) {
+    for row in &ROWS {
+        check(&rt, rt.alloc(), row);
+    }
 }
 
 /// Characters of one to four bytes and a raw byte; a value that is no string isn't shown.
 #[test]
-fn all_lengths_and_other_values(rt: HostRuntime) {
+fn characters_of_all_lengths_are_seen_and_other_values_are_not(rt: HostRuntime) {
     let alloc = rt.alloc();
     let mut editor = Editor::new(alloc).expect(&rt, "an editor");
     let mut text = chars(&rt, alloc, "aé€😀");

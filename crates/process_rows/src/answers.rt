@@ -81,7 +81,7 @@ fn held_tail(rt: &impl Abort, alloc: Global, tail: &[u8], raw: &[Ch], how: Got)
 }
 
 #[test]
-fn tails_held_at_the_end_of_output(rt: HostRuntime) {
+fn a_held_tail_comes_out_as_raw_bytes_where_output_ends(rt: HostRuntime) {
     let alloc = rt.alloc();
     let raw = [Ch::Raw(0xF0), Ch::Raw(0x9F), Ch::Raw(0x98)];
     held_tail(&rt, alloc, b"\xF0\x9F\x98", &raw, Got::End);
@@ -123,7 +123,7 @@ fn is_told(rt: &impl Abort, alloc: Global, how: Ended, text: &[u8], status: Stat
 }
 
 #[test]
-fn ends_of_all_kinds(rt: HostRuntime) {
+fn a_sentinel_is_told_of_each_kind_of_end(rt: HostRuntime) {
     let alloc = rt.alloc();
     is_told(&rt, alloc, Ended::Code(0), b"finished\n", Status::Exit(0));
     is_told(

@@ -48,100 +48,149 @@ fn are_apart(rt: &impl Abort, alloc: Global, bytes: &[u8]) {
     }
 }
 
-#[test]
-fn first_and_last_of_each_row(rt: HostRuntime) {
-    let alloc = rt.alloc();
-    is_one(&rt, alloc, b"\x00", 0);
-    is_one(&rt, alloc, b"\x7F", 0x7F);
-    is_one(&rt, alloc, b"\xC2\x80", 0x80);
-    is_one(&rt, alloc, b"\xDF\xBF", 0x7FF);
-    is_one(&rt, alloc, b"\xE0\xA0\x80", 0x800);
-    is_one(&rt, alloc, b"\xE0\xBF\xBF", 0xFFF);
-    is_one(&rt, alloc, b"\xE1\x80\x80", 0x1000);
-    is_one(&rt, alloc, b"\xEC\xBF\xBF", 0xCFFF);
-    is_one(&rt, alloc, b"\xED\x80\x80", 0xD000);
-    is_one(&rt, alloc, b"\xED\x9F\xBF", 0xD7FF);
-    is_one(&rt, alloc, b"\xEE\x80\x80", 0xE000);
-    is_one(&rt, alloc, b"\xEF\xBF\xBF", 0xFFFF);
-    is_one(&rt, alloc, b"\xF0\x90\x80\x80", 0x10000);
-    is_one(&rt, alloc, b"\xF0\xBF\xBF\xBF", 0x3FFFF);
-    is_one(&rt, alloc, b"\xF1\x80\x80\x80", 0x40000);
-    is_one(&rt, alloc, b"\xF3\xBF\xBF\xBF", 0xFFFFF);
-    is_one(&rt, alloc, b"\xF4\x80\x80\x80", 0x100000);
-    is_one(&rt, alloc, b"\xF4\x8F\xBF\xBF", 0x10FFFF);
+/// Bytes, and the code of the character that they are.
+struct Character {
+    bytes: &'static [u8],
+    code: u32,
 }
 
+const FIRST_AND_LAST: [Character; 18] = [
+    Character {
+        bytes: b"\x00",
+        code: 0,
+    },
+    Character {
+        bytes: b"\x7F",
+        code: 0x7F,
+    },
+    Character {
+        bytes: b"\xC2\x80",
+        code: 0x80,
+    },
+    Character {
+        bytes: b"\xDF\xBF",
+        code: 0x7FF,
+    },
+    Character {
+        bytes: b"\xE0\xA0\x80",
+        code: 0x800,
+    },
+    Character {
+        bytes: b"\xE0\xBF\xBF",
+        code: 0xFFF,
+    },
+    Character {
+        bytes: b"\xE1\x80\x80",
+        code: 0x1000,
+    },
+    Character {
+        bytes: b"\xEC\xBF\xBF",
+        code: 0xCFFF,
+    },
+    Character {
+        bytes: b"\xED\x80\x80",
+        code: 0xD000,
+    },
+    Character {
+        bytes: b"\xED\x9F\xBF",
+        code: 0xD7FF,
+    },
+    Character {
+        bytes: b"\xEE\x80\x80",
+        code: 0xE000,
+    },
+    Character {
+        bytes: b"\xEF\xBF\xBF",
+        code: 0xFFFF,
+    },
+    Character {
+        bytes: b"\xF0\x90\x80\x80",
+        code: 0x10000,
+    },
+    Character {
+        bytes: b"\xF0\xBF\xBF\xBF",
+        code: 0x3FFFF,
+    },
+    Character {
+        bytes: b"\xF1\x80\x80\x80",
+        code: 0x40000,
+    },
+    Character {
+        bytes: b"\xF3\xBF\xBF\xBF",
+        code: 0xFFFFF,
+    },
+    Character {
+        bytes: b"\xF4\x80\x80\x80",
+        code: 0x100000,
+    },
+    Character {
+        bytes: b"\xF4\x8F\xBF\xBF",
+        code: 0x10FFFF,
+    },
+];
+
 #[test]
-fn one_below_and_one_above_each_range_of_two_bytes(rt: HostRuntime) {
-    let faults: [[u8; 2]; 8] = [
-        *b"\x80\xBF",
-        *b"\xC0\x80",
-        *b"\xC1\xBF",
-        *b"\xC2\x7F",
-        *b"\xC2\xC0",
-        *b"\xDF\x7F",
-        *b"\xDF\xC0",
-        *b"\xFE\xFF",
-    ];
-    for bytes in &faults {
-        are_apart(&rt, rt.alloc(), bytes);
+fn the_first_and_the_last_of_each_row_are_one_character(rt: HostRuntime) {
+    for row in &FIRST_AND_LAST {
+        is_one(&rt, rt.alloc(), row.bytes, row.code);
     }
 }
 
-#[test]
-fn one_below_and_one_above_each_range_of_three_bytes(rt: HostRuntime) {
-    let faults: [[u8; 3]; 20] = [
-        *b"\xE0\x80\x80",
-        *b"\xE0\x9F\xBF",
-        *b"\xE0\xC0\x80",
-        *b"\xE0\xA0\x7F",
-        *b"\xE0\xBF\xC0",
-        *b"\xE1\x7F\x80",
-        *b"\xE1\xC0\x80",
-        *b"\xE1\x80\x7F",
-        *b"\xEC\xBF\xC0",
-        *b"\xEC\x7F\xBF",
-        *b"\xED\x7F\x80",
-        *b"\xED\xA0\x80",
-        *b"\xED\xBF\xBF",
-        *b"\xED\x80\x7F",
-        *b"\xED\x9F\xC0",
-        *b"\xEE\x7F\x80",
-        *b"\xEE\xC0\x80",
-        *b"\xEF\x80\x7F",
-        *b"\xEF\xBF\xC0",
-        *b"\xEF\xC0\xBF",
-    ];
-    for bytes in &faults {
-        are_apart(&rt, rt.alloc(), bytes);
-    }
-}
+/// One below and one above each range of the table's rows: of two bytes, of three and of four.
+const BESIDE_A_RANGE: [&[u8]; 48] = [
+    b"\x80\xBF",
+    b"\xC0\x80",
+    b"\xC1\xBF",
+    b"\xC2\x7F",
+    b"\xC2\xC0",
+    b"\xDF\x7F",
+    b"\xDF\xC0",
+    b"\xFE\xFF",
+    b"\xE0\x80\x80",
+    b"\xE0\x9F\xBF",
+    b"\xE0\xC0\x80",
+    b"\xE0\xA0\x7F",
+    b"\xE0\xBF\xC0",
+    b"\xE1\x7F\x80",
+    b"\xE1\xC0\x80",
+    b"\xE1\x80\x7F",
+    b"\xEC\xBF\xC0",
+    b"\xEC\x7F\xBF",
+    b"\xED\x7F\x80",
+    b"\xED\xA0\x80",
+    b"\xED\xBF\xBF",
+    b"\xED\x80\x7F",
+    b"\xED\x9F\xC0",
+    b"\xEE\x7F\x80",
+    b"\xEE\xC0\x80",
+    b"\xEF\x80\x7F",
+    b"\xEF\xBF\xC0",
+    b"\xEF\xC0\xBF",
+    b"\xF0\x80\x80\x80",
+    b"\xF0\x8F\xBF\xBF",
+    b"\xF0\xC0\x80\x80",
+    b"\xF0\x90\x7F\x80",
+    b"\xF0\x90\xC0\x80",
+    b"\xF0\x90\x80\x7F",
+    b"\xF0\xBF\xBF\xC0",
+    b"\xF1\x7F\x80\x80",
+    b"\xF1\xC0\x80\x80",
+    b"\xF1\x80\x7F\x80",
+    b"\xF3\xBF\xC0\xBF",
+    b"\xF3\xBF\xBF\x7F",
+    b"\xF3\xBF\xBF\xC0",
+    b"\xF4\x7F\x80\x80",
+    b"\xF4\x90\x80\x80",
+    b"\xF4\x80\x7F\x80",
+    b"\xF4\x8F\xC0\xBF",
+    b"\xF4\x8F\xBF\x7F",
+    b"\xF4\x8F\xBF\xC0",
+    b"\xF5\x80\x80\x80",
+];
 
 #[test]
-fn one_below_and_one_above_each_range_of_four_bytes(rt: HostRuntime) {
-    let faults: [[u8; 4]; 20] = [
-        *b"\xF0\x80\x80\x80",
-        *b"\xF0\x8F\xBF\xBF",
-        *b"\xF0\xC0\x80\x80",
-        *b"\xF0\x90\x7F\x80",
-        *b"\xF0\x90\xC0\x80",
-        *b"\xF0\x90\x80\x7F",
-        *b"\xF0\xBF\xBF\xC0",
-        *b"\xF1\x7F\x80\x80",
-        *b"\xF1\xC0\x80\x80",
-        *b"\xF1\x80\x7F\x80",
-        *b"\xF3\xBF\xC0\xBF",
-        *b"\xF3\xBF\xBF\x7F",
-        *b"\xF3\xBF\xBF\xC0",
-        *b"\xF4\x7F\x80\x80",
-        *b"\xF4\x90\x80\x80",
-        *b"\xF4\x80\x7F\x80",
-        *b"\xF4\x8F\xC0\xBF",
-        *b"\xF4\x8F\xBF\x7F",
-        *b"\xF4\x8F\xBF\xC0",
-        *b"\xF5\x80\x80\x80",
-    ];
-    for bytes in &faults {
+fn one_below_and_one_above_each_range_stand_apart(rt: HostRuntime) {
+    for bytes in BESIDE_A_RANGE {
         are_apart(&rt, rt.alloc(), bytes);
     }
 }
@@ -163,7 +212,7 @@ fn is_held(rt: &impl Abort, alloc: Global, bytes: &[u8], c: char) {
 }
 
 #[test]
-fn cuts_at_each_place(rt: HostRuntime) {
+fn a_character_cut_at_each_place_is_held(rt: HostRuntime) {
     let alloc = rt.alloc();
     is_held(&rt, alloc, b"\xC3\xA9", '\u{E9}');
     is_held(&rt, alloc, b"\xE2\x82\xAC", '\u{20AC}');
@@ -172,7 +221,7 @@ fn cuts_at_each_place(rt: HostRuntime) {
 
 /// What follows a fault is read anew, also where a part of the fault was held.
 #[test]
-fn a_held_part_that_goes_wrong(rt: HostRuntime) {
+fn what_follows_a_fault_is_read_anew(rt: HostRuntime) {
     let mut out = Chars::new(rt.alloc());
     let mut decoder = Decoder::new();
     feed(&rt, &mut decoder, b"\xF0\x9F", &mut out);
@@ -238,9 +287,9 @@ const X82: Ch = Ch::Raw(0x82);
 
 const FF: Ch = Ch::Raw(0xFF);
 
-/// Line ends, each with its characters by the definition: UTF-8 is decoded, and then a carriage return directly before a line
+/// Line ends, the last five beside malformed bytes, each with its characters by the definition: UTF-8 is decoded, and then a carriage return directly before a line
 /// feed goes.
-const LINE_ENDS: [Row; 8] = [
+const LINE_ENDS: [Row; 13] = [
     Row {
         coding: Coding::Utf8Dos,
         bytes: b"a\r\n",
@@ -297,16 +346,6 @@ const LINE_ENDS: [Row; 8] = [
         held: 0,
         all: &[FEED, FEED],
     },
-];
-
-#[test]
-fn line_ends(rt: HostRuntime) {
-    for row in &LINE_ENDS {
-        becomes(&rt, rt.alloc(), row);
-    }
-}
-
-const BESIDE_MALFORMED: [Row; 5] = [
     Row {
         coding: Coding::Utf8Dos,
         bytes: b"\r\xFF",
@@ -345,8 +384,8 @@ const BESIDE_MALFORMED: [Row; 5] = [
 ];
 
 #[test]
-fn line_ends_beside_malformed_bytes(rt: HostRuntime) {
-    for row in &BESIDE_MALFORMED {
+fn a_carriage_return_before_a_line_feed_goes(rt: HostRuntime) {
+    for row in &LINE_ENDS {
         becomes(&rt, rt.alloc(), row);
     }
 }
@@ -369,7 +408,7 @@ const SINGLE: [Row; 2] = [
 ];
 
 #[test]
-fn single_bytes(rt: HostRuntime) {
+fn line_ends_stay_in_the_other_codings(rt: HostRuntime) {
     for row in &SINGLE {
         becomes(&rt, rt.alloc(), row);
     }
@@ -418,7 +457,7 @@ fn comes_through(rt: &impl Abort, alloc: Global, least: usize, most: usize) {
 }
 
 #[test]
-fn a_long_text_in_pieces(rt: HostRuntime) {
+fn a_long_text_comes_through_in_pieces_of_any_length(rt: HostRuntime) {
     comes_through(&rt, rt.alloc(), 1, 1);
     comes_through(&rt, rt.alloc(), 1, 7);
     comes_through(&rt, rt.alloc(), 1, 64);

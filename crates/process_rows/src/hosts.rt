@@ -142,12 +142,7 @@ fn played(rt: &impl Abort, alloc: Global, fails: &[u32]) -> MemoryHost {
 }
 
 #[test]
-fn a_child_is_played_in_order(rt: HostRuntime) {
-    tells(&rt, rt.alloc(), &played(&rt, rt.alloc(), &[]), ALL);
-}
-
-#[test]
-fn exchanges_and_their_copy(rt: HostRuntime) {
+fn a_copy_of_exchanges_tells_the_same(rt: HostRuntime) {
     let host = played(&rt, rt.alloc(), &[]);
     let copy = told(&rt, &host).copy().expect(&rt, "memory");
     is(&rt, shown(&rt, rt.alloc(), &copy).as_str(), ALL);
@@ -174,22 +169,41 @@ end 0: failed
 kill 0: failed
 ";
 
-#[test]
-fn calls_that_fail_use_up_no_answer(rt: HostRuntime) {
-    let host = played(&rt, rt.alloc(), &[1, 3, 5, 7, 9, 10]);
-    tells(&rt, rt.alloc(), &host, FAILING);
+const REFUSED: &str = "spawn cat -u: refused\n";
+
+/// The calls that fail, and what is told then.
+struct Row {
+    fails: &'static [u32],
+    told: &'static str,
 }
 
-const REFUSED: &str = "spawn cat -u: refused\n";
+/// None fails, some use up no answer, and a spawn that fails starts no child.
+const ROWS: [Row; 3] = [
+    Row {
+        fails: &[],
+        told: ALL,
+    },
+    Row {
+        fails: &[1, 3, 5, 7, 9, 10],
+        told: FAILING,
+    },
+    Row {
+        fails: &[0],
+        told: REFUSED,
+    },
+];
+
+#[test]
+fn a_child_is_played_in_order_but_for_calls_that_fail(rt: HostRuntime) {
+    for row in &ROWS {
+        let host = played(&rt, rt.alloc(), row.fails);
+        tells(&rt, rt.alloc(), &host, row.told);
+    }
+}
 
 #[test]
 fn a_spawn_past_the_last_play_is_refused(rt: HostRuntime) {
     let mut host = MemoryHost::new(Vec::new(rt.alloc()), Vec::new(rt.alloc()));
     all_calls(&rt, rt.alloc(), &mut host);
     tells(&rt, rt.alloc(), &host, REFUSED);
-}
-
-#[test]
-fn a_spawn_that_fails_starts_no_child(rt: HostRuntime) {
-    tells(&rt, rt.alloc(), &played(&rt, rt.alloc(), &[0]), REFUSED);
 }

@@ -48,7 +48,7 @@ fn unlist(rt: &impl Abort, table: &mut Processes, p: u32) {
 }
 
 #[test]
-fn names_after_an_unlisting(rt: HostRuntime) {
+fn an_unlisted_name_is_free_again(rt: HostRuntime) {
     let alloc = rt.alloc();
     let mut table = Processes::new(alloc);
     let first = start(&rt, alloc, &mut table, b"p", b"p");
@@ -112,7 +112,7 @@ fn holds_back(rt: &impl Abort, table: &Processes, bytes: &[u8]) {
 }
 
 #[test]
-fn a_character_cut_in_two(rt: HostRuntime) {
+fn a_character_cut_in_two_is_held_and_then_whole(rt: HostRuntime) {
     let mut table = one(&rt, rt.alloc());
     let mut out = Chars::new(rt.alloc());
     feed(&rt, &mut table, b"a\xE2\x82", &mut out);
@@ -124,7 +124,7 @@ fn a_character_cut_in_two(rt: HostRuntime) {
 }
 
 #[test]
-fn what_is_held_at_the_end_of_output(rt: HostRuntime) {
+fn what_is_held_comes_out_as_raw_bytes_where_output_ends(rt: HostRuntime) {
     let mut table = one(&rt, rt.alloc());
     let mut out = Chars::new(rt.alloc());
     feed(&rt, &mut table, b"\xF0\x9F", &mut out);
@@ -140,7 +140,7 @@ fn what_is_held_at_the_end_of_output(rt: HostRuntime) {
 }
 
 #[test]
-fn a_coding_until_bytes_are_read(rt: HostRuntime) {
+fn a_coding_may_be_set_until_bytes_are_read(rt: HostRuntime) {
     let mut table = one(&rt, rt.alloc());
     let mut out = Chars::new(rt.alloc());
     decodes(&rt, &table, Coding::Utf8, false);
@@ -158,7 +158,7 @@ fn a_coding_until_bytes_are_read(rt: HostRuntime) {
 }
 
 #[test]
-fn a_coding_behind_the_end_of_output(rt: HostRuntime) {
+fn a_coding_may_be_set_behind_the_end_of_output(rt: HostRuntime) {
     let mut table = one(&rt, rt.alloc());
     let mut out = Chars::new(rt.alloc());
     drain(&rt, &mut table, &mut out);
@@ -180,7 +180,7 @@ fn by_number(rt: &impl Abort, table: &Processes, p: u32) -> Result<u32, Fault> {
 }
 
 #[test]
-fn arguments_that_give_a_process(rt: HostRuntime) {
+fn names_and_processes_give_a_process(rt: HostRuntime) {
     let alloc = rt.alloc();
     let mut table = Processes::new(alloc);
     let first = start(&rt, alloc, &mut table, b"p", b"p");
@@ -198,7 +198,7 @@ fn arguments_that_give_a_process(rt: HostRuntime) {
 }
 
 #[test]
-fn arguments_of_a_wrong_type(rt: HostRuntime) {
+fn other_arguments_are_of_a_wrong_type(rt: HostRuntime) {
     let table = Processes::new(rt.alloc());
     is(&rt, table.resolve(&Value::Nil), Err(Fault::WrongType));
     is(&rt, table.resolve(&Value::T), Err(Fault::WrongType));

@@ -1,31 +1,23 @@
 //! Worked cases of waits: whom they ask, in which order, and what they answer.
 ghost use Rattle.std.specs.Prelude.{◌≡◌};
 
-use crate::checking::{is, note_end, set_filter};
+use crate::checking::{note_end, set_filter};
 use ek_types::Chars;
 use process_table::{Filter, Processes, Status};
 use std::alloc::Global;
 use std::process::Abort;
 use wait_loop::{Step, Wait};
 
-/// A wait, over so many processes that run.
+/// A wait, over so many processes that run, and what it shows.
 #[derive(Clone, Copy)]
 struct Case {
+    shows: &'static str,
     processes: u32,
     target: Option<u32>,
     rounds: u32,
     just: bool,
     room: u32,
 }
-
-/// A wait for any of two processes, for two rounds.
-const ANY: Case = Case {
-    processes: 2,
-    target: None,
-    rounds: 2,
-    just: false,
-    room: 256,
-};
 
 /// What the wait is to do next, or what happens meanwhile.
 #[derive(Clone, Copy)]
@@ -72,10 +64,16 @@ fn next(rt: &impl Abort, wait: &mut Wait, table: &Processes, room: u32) -> Step
     wait.next(table)
 }
 
+/// What a wait does next is this.
+fn is_next(rt: &impl Abort, shows: &str, found: Step, expected: Step) {
+    assert_eq!(rt; found, expected, "{shows}");
+}
+
 /// An event comes to pass.
 fn pass(
     rt: &impl Abort,
     alloc: Global,
+    shows: &str,
     wait: &mut Wait,
     table: &mut Processes,
     room: u32,
@@ -85,8 +83,8 @@ fn pass(
     ensures { wait.new.room ≡ room }
 {
     match event {
-        Asks(p) => is(rt, next(rt, wait, table, room), Step::Ask(p)),
-        Done(bytes) => is(rt, next(rt, wait, table, room), Step::Done(bytes)),
+        Asks(p) => is_next(rt, shows, next(rt, wait, table, room), Step::Ask(p)),
+        Done(bytes) => is_next(rt, shows, next(rt, wait, table, room), Step::Done(bytes)),
         Reads(p, bytes) => wait.note(p, bytes),
         Ends(p, status) => note_end(rt, table, p, status),
         Starts => start(rt, alloc, table),
@@ -100,107 +98,145 @@ fn goes(rt: &impl Abort, alloc: Global, case: Case, course: &[Event]) {
     let wait = Wait::new(alloc, case.target, case.rounds, case.just, case.room);
     let mut wait = wait.expect(rt, "memory");
     for event in course {
-        pass(rt, alloc, &mut wait, &mut table, case.room, *event);
+        pass(
+            rt, alloc, case.shows, &mut wait, &mut table, case.room, *event,
+        );
     }
 }
 
-#[test]
-fn a_wait_for_just_one_process_asks_no_other(rt: HostRuntime) {
-    let case = Case {
-        target: Some(0),
-        rounds: 3,
-        just: true,
-        ..ANY
-    };
-    let course = [Asks(0), Asks(0), Asks(0), Done(false)];
-    goes(&rt, rt.alloc(), case, &course);
+/// A wait, and the course that it takes.
+struct Course {
+    case: Case,
+    events: &'static [Event],
 }
 
-#[test]
-fn a_wait_for_a_process_asks_the_others_too(rt: HostRuntime) {
-    let case = Case {
-        target: Some(0),
-        ..ANY
-    };
-    let course = [Asks(0), Asks(1), Asks(0), Asks(1), Done(false)];
-    goes(&rt, rt.alloc(), case, &course);
-}
+const COURSES: [Course; 9] = [
+    Course {
+        case: Case {
+            shows: "a wait for just one process asks no other",
+            processes: 2,
+            target: Some(0),
+            rounds: 3,
+            just: true,
+            room: 256,
+        },
+        events: &[Asks(0), Asks(0), Asks(0), Done(false)],
+    },
+    Course {
+        case: Case {
+            shows: "a wait for a process asks the others too",
+            processes: 2,
+            target: Some(0),
+            rounds: 2,
+            just: false,
+            room: 256,
+        },
+        events: &[Asks(0), Asks(1), Asks(0), Asks(1), Done(false)],
+    },
+    Course {
+        case: Case {
+            shows: "the target is asked first",
+            processes: 4,
+            target: Some(2),
+            rounds: 1,
+            just: false,
+            room: 4,
+        },
+        events: &[Asks(2), Asks(0), Asks(1), Asks(3), Done(false)],
+    },
+    Course {
+        case: Case {
+            shows: "a process that ends in the middle of a round is passed over",
+            processes: 3,
+            target: None,
+            rounds: 2,
+            just: false,
+            room: 256,
+        },
+        events: &[
+            Asks(0),
+            Ends(1, Status::Exit(0)),
+            Asks(2),
+            Asks(0),
+            Asks(2),
+            Done(false),
+        ],
+    },
+    Course {
+        case: Case {
+            shows: "a process that starts in the middle of a round joins the next",
+            processes: 2,
+            target: None,
+            rounds: 2,
+            just: false,
+            room: 256,
+        },
+        events: &[
+            Asks(0),
+            Starts,
+            Asks(1),
+            Asks(0),
+            Asks(1),
+            Asks(2),
+            Done(false),
+        ],
+    },
+    Course {
+        case: Case {
+            shows: "bytes of the target end a wait for it",
+            processes: 2,
+            target: Some(1),
+            rounds: 1000,
+            just: false,
+            room: 256,
+        },
+        events: &[
+            Reads(0, true),
+            Reads(1, false),
+            Asks(1),
+            Reads(1, true),
+            Ends(1, Status::Signal),
+            Done(true),
+        ],
+    },
+    Course {
+        case: Case {
+            shows: "bytes of any process end a wait for none",
+            processes: 2,
+            target: None,
+            rounds: 1000,
+            just: true,
+            room: 256,
+        },
+        events: &[Asks(0), Asks(1), Reads(1, true), Done(true)],
+    },
+    Course {
+        case: Case {
+            shows: "a wait for a process that is not heard is over",
+            processes: 2,
+            target: Some(0),
+            rounds: 1000,
+            just: false,
+            room: 256,
+        },
+        events: &[IsOff(0), Done(false)],
+    },
+    Course {
+        case: Case {
+            shows: "a process that is not heard is passed over",
+            processes: 2,
+            target: None,
+            rounds: 1,
+            just: false,
+            room: 256,
+        },
+        events: &[IsOff(0), Asks(1), Done(false)],
+    },
+];
 
 #[test]
-fn the_target_is_asked_first(rt: HostRuntime) {
-    let case = Case {
-        processes: 4,
-        target: Some(2),
-        rounds: 1,
-        room: 4,
-        ..ANY
-    };
-    let course = [Asks(2), Asks(0), Asks(1), Asks(3), Done(false)];
-    goes(&rt, rt.alloc(), case, &course);
-}
-
-#[test]
-fn a_process_that_ends_in_the_middle_of_a_round_is_passed_over(rt: HostRuntime) {
-    let case = Case {
-        processes: 3,
-        ..ANY
-    };
-    let end = Ends(1, Status::Exit(0));
-    let course = [Asks(0), end, Asks(2), Asks(0), Asks(2), Done(false)];
-    goes(&rt, rt.alloc(), case, &course);
-}
-
-#[test]
-fn a_process_that_starts_in_the_middle_of_a_round_joins_the_next(rt: HostRuntime) {
-    let course = [
-        Asks(0),
-        Starts,
-        Asks(1),
-        Asks(0),
-        Asks(1),
-        Asks(2),
-        Done(false),
-    ];
-    goes(&rt, rt.alloc(), ANY, &course);
-}
-
-#[test]
-fn bytes_of_the_target_end_a_wait_for_it(rt: HostRuntime) {
-    let case = Case {
-        target: Some(1),
-        rounds: 1000,
-        ..ANY
-    };
-    let course = [
-        Reads(0, true),
-        Reads(1, false),
-        Asks(1),
-        Reads(1, true),
-        Ends(1, Status::Signal),
-        Done(true),
-    ];
-    goes(&rt, rt.alloc(), case, &course);
-}
-
-#[test]
-fn bytes_of_any_process_end_a_wait_for_none(rt: HostRuntime) {
-    let case = Case {
-        rounds: 1000,
-        just: true,
-        ..ANY
-    };
-    let course = [Asks(0), Asks(1), Reads(1, true), Done(true)];
-    goes(&rt, rt.alloc(), case, &course);
-}
-
-#[test]
-fn a_wait_for_a_process_that_is_not_heard_is_over(rt: HostRuntime) {
-    let case = Case {
-        target: Some(0),
-        rounds: 1000,
-        ..ANY
-    };
-    goes(&rt, rt.alloc(), case, &[IsOff(0), Done(false)]);
-    let case = Case { rounds: 1, ..ANY };
-    goes(&rt, rt.alloc(), case, &[IsOff(0), Asks(1), Done(false)]);
+fn each_wait_takes_its_course(rt: HostRuntime) {
+    for course in &COURSES {
+        goes(&rt, rt.alloc(), course.case, course.events);
+    }
 }

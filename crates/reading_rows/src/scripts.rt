@@ -13,7 +13,7 @@ struct Case {
     fault: Option<u32>,
 }
 
-const CASES: [Case; 70] = [
+const CASES: [Case; 68] = [
     Case {
         bytes: b"",
         fault: None,
@@ -117,14 +117,6 @@ const CASES: [Case; 70] = [
     Case {
         bytes: b"(save-excursion)",
         fault: None,
-    },
-    Case {
-        bytes: b"(save-excursion (save-excursion (save-excursion (save-excursion (save-excursion (save-excursion (save-excursion (save-excursion (save-excursion (save-excursion (save-excursion (save-excursion (save-excursion (save-excursion (save-excursion (save-excursion))))))))))))))))",
-        fault: None,
-    },
-    Case {
-        bytes: b"(save-excursion (save-excursion (save-excursion (save-excursion (save-excursion (save-excursion (save-excursion (save-excursion (save-excursion (save-excursion (save-excursion (save-excursion (save-excursion (save-excursion (save-excursion (save-excursion (save-excursion)))))))))))))))))",
-        fault: Some(1),
     },
     Case {
         bytes: b"(insert aaaaaaaaaaaaaaaaaaaaaaaaaaaaaaaaaaaaaaaaaaaaaaaaaaaaaaaaaaaaaaaaa)",
@@ -313,7 +305,7 @@ fn is_told(rt: &impl Abort, alloc: Global, bytes: &[u8], fault: Option<u32>) {
 }
 
 #[test]
-fn scripts_and_fault_lines(rt: HostRuntime) {
+fn scripts_are_read_and_faults_told_by_their_lines(rt: HostRuntime) {
     for case in &CASES {
         is_told(&rt, rt.alloc(), case.bytes, case.fault);
     }
@@ -391,101 +383,126 @@ fn check_numbered(rt: &impl Abort, alloc: Global, row: &Numbered) {
 }
 
 #[test]
-fn limits_of_handlers_and_registers(rt: HostRuntime) {
+fn at_most_256_handlers_and_registers_are_read(rt: HostRuntime) {
     for row in &NUMBERED {
         check_numbered(&rt, rt.alloc(), row);
     }
 }
 
-/// So many pieces between a front and an end.
-fn repeated(
-    rt: &impl Abort,
-    alloc: Global,
-    front: &str,
-    piece: &str,
-    count: usize,
-    end: &str,
-) -> String {
-    let pieces = piece.repeat(alloc, count).expect(rt, "room");
-    format!(in alloc; "{front}{pieces}{end}").expect(rt, "room")
-}
-
-fn takes_arguments(rt: &impl Abort, alloc: Global, count: usize, fault: Option<u32>) {
-    let call = repeated(rt, alloc, "(insert", " 1", count, ")");
-    is_told(rt, alloc, call.as_bytes(), fault);
-}
-
-/// A handler whose body has a form so often, and its end, with the line of its fault.
-struct Body {
-    form: &'static str,
+/// A front, a piece so often, and an end, with the line of its fault.
+struct Repeated {
+    front: &'static str,
+    piece: &'static str,
     count: usize,
     end: &'static str,
     fault: Option<u32>,
 }
 
-const BODIES: [Body; 6] = [
-    Body {
-        form: "(point)",
+/// What stands in front of the forms of a body.
+const HEAD: &str = "(point)\n\n(defhandler f ()\n";
+
+/// Arguments of a call, forms of a body, and bytes of a script.
+const REPEATED: [Repeated; 10] = [
+    Repeated {
+        front: "(insert",
+        piece: " 1",
+        count: 64,
+        end: ")",
+        fault: None,
+    },
+    Repeated {
+        front: "(insert",
+        piece: " 1",
+        count: 65,
+        end: ")",
+        fault: Some(1),
+    },
+    Repeated {
+        front: HEAD,
+        piece: "(point)",
         count: 256,
         end: ")",
         fault: None,
     },
-    Body {
-        form: "(point)",
+    Repeated {
+        front: HEAD,
+        piece: "(point)",
         count: 257,
         end: ")",
         fault: Some(3),
     },
-    Body {
-        form: "(setq a (point))",
+    Repeated {
+        front: HEAD,
+        piece: "(setq a (point))",
         count: 256,
         end: ")",
         fault: None,
     },
-    Body {
-        form: "(setq a (point))",
+    Repeated {
+        front: HEAD,
+        piece: "(setq a (point))",
         count: 257,
         end: ")",
         fault: Some(3),
     },
-    Body {
-        form: "(save-excursion (point))",
+    Repeated {
+        front: HEAD,
+        piece: "(save-excursion (point))",
         count: 128,
         end: ")",
         fault: None,
     },
-    Body {
-        form: "(save-excursion (point))",
+    Repeated {
+        front: HEAD,
+        piece: "(save-excursion (point))",
         count: 128,
         end: "(point))",
         fault: Some(3),
     },
+    Repeated {
+        front: "",
+        piece: " ",
+        count: LONGEST_SCRIPT,
+        end: "",
+        fault: None,
+    },
+    Repeated {
+        front: "",
+        piece: " ",
+        count: LONGEST_SCRIPT + 1,
+        end: "",
+        fault: Some(0),
+    },
 ];
 
-fn check_body(rt: &impl Abort, alloc: Global, row: &Body) {
-    let front = "(point)\n\n(defhandler f ()\n";
-    let body = repeated(rt, alloc, front, row.form, row.count, row.end);
-    is_told(rt, alloc, body.as_bytes(), row.fault);
+fn check_repeated(rt: &impl Abort, alloc: Global, row: &Repeated) {
+    let Repeated { front, end, .. } = row;
+    let pieces = row.piece.repeat(alloc, row.count).expect(rt, "room");
+    let text = format!(in alloc; "{front}{pieces}{end}").expect(rt, "room");
+    is_told(rt, alloc, text.as_bytes(), row.fault);
 }
 
 #[test]
-fn arguments_and_forms_of_a_body(rt: HostRuntime) {
-    takes_arguments(&rt, rt.alloc(), 64, None);
-    takes_arguments(&rt, rt.alloc(), 65, Some(1));
-    for row in &BODIES {
-        check_body(&rt, rt.alloc(), row);
+fn one_argument_form_or_byte_beyond_the_limit_is_refused(rt: HostRuntime) {
+    for row in &REPEATED {
+        check_repeated(&rt, rt.alloc(), row);
     }
 }
 
-fn are_blanks(rt: &impl Abort, alloc: Global, count: usize, fault: Option<u32>) {
-    let blanks = " ".repeat(alloc, count).expect(rt, "room");
-    is_told(rt, alloc, blanks.as_bytes(), fault);
+/// So many blocks inside one another.
+fn nested(rt: &impl Abort, alloc: Global, depth: usize) -> String {
+    let openings = " (save-excursion".repeat(alloc, depth).expect(rt, "room");
+    let closings = ")".repeat(alloc, depth).expect(rt, "room");
+    let openings = openings.as_str().trim_start();
+    format!(in alloc; "{openings}{closings}").expect(rt, "room")
 }
 
 #[test]
-fn the_longest_script(rt: HostRuntime) {
-    are_blanks(&rt, rt.alloc(), LONGEST_SCRIPT, None);
-    are_blanks(&rt, rt.alloc(), LONGEST_SCRIPT + 1, Some(0));
+fn blocks_stand_in_one_another_16_deep_and_no_deeper(rt: HostRuntime) {
+    let deepest = nested(&rt, rt.alloc(), 16);
+    is_told(&rt, rt.alloc(), deepest.as_bytes(), None);
+    let deeper = nested(&rt, rt.alloc(), 17);
+    is_told(&rt, rt.alloc(), deeper.as_bytes(), Some(1));
 }
 
 fn script(rt: &impl Abort, alloc: Global, bytes: &[u8]) -> Script {
@@ -497,7 +514,7 @@ fn script(rt: &impl Abort, alloc: Global, bytes: &[u8]) -> Script {
 
 /// The fixed names come first, and then all names in the order of their first places.
 #[test]
-fn names_are_numbered(rt: HostRuntime) {
+fn names_are_numbered_in_the_order_of_their_first_places(rt: HostRuntime) {
     let script = script(
         &rt,
         rt.alloc(),
@@ -552,7 +569,7 @@ fn has_characters(rt: &impl Abort, text: &Piece, expected: &[Ch]) {
 
 /// Escapes, a character of two bytes, and bytes that are part of none: each run of plain bytes is decoded by itself.
 #[test]
-fn characters_of_a_string(rt: HostRuntime) {
+fn each_run_of_plain_bytes_is_decoded_by_itself(rt: HostRuntime) {
     let script = script(&rt, rt.alloc(), ESCAPED);
     has_characters(&rt, string(&rt, &script), CHARACTERS.as_slice());
 }
@@ -671,7 +688,7 @@ fn check_decoded(rt: &impl Abort, alloc: Global, row: &Decoded) {
 
 /// Bytes that are no well-formed UTF-8, each kind of them, are raw bytes, and so is a tail that an escape cuts off.
 #[test]
-fn well_formed_sequences_and_raw_bytes(rt: HostRuntime) {
+fn bytes_that_are_no_utf_8_are_raw(rt: HostRuntime) {
     for row in &DECODED {
         check_decoded(&rt, rt.alloc(), row);
     }
@@ -687,7 +704,7 @@ fn has_properties(rt: &impl Abort, text: &Piece, i: usize, count: usize) {
 
 /// Properties stand by the number of the name; nil takes no place.
 #[test]
-fn properties_of_a_string(rt: HostRuntime) {
+fn a_string_has_the_properties_that_are_not_nil(rt: HostRuntime) {
     let bytes = b"(insert #(\"abc\" 1 2 (face bold gone nil run t)))";
     let script = script(&rt, rt.alloc(), bytes.as_slice());
     let text = string(&rt, &script);
@@ -699,7 +716,7 @@ fn properties_of_a_string(rt: HostRuntime) {
 
 /// A long script is read in time that grows with its length, and the fault of its last line is told.
 #[test]
-fn long_script(rt: HostRuntime) {
+fn the_fault_behind_30000_lines_is_told(rt: HostRuntime) {
     let alloc = rt.alloc();
     let mut text = definitions(&rt, alloc, "(when-eq a ", 30_000, " (goto-char 7))\n");
     is(&rt, line(&rt, alloc, text.as_bytes()), None);

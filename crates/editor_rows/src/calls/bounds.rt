@@ -184,7 +184,7 @@ fn check_trial(rt: &impl Abort, alloc: Global, trial: &Trial) {
 }
 
 #[test]
-fn positions_around_each_bound(rt: HostRuntime) {
+fn the_trials_of_positions_give_their_replies(rt: HostRuntime) {
     for trial in &TRIALS {
         check_trial(&rt, rt.alloc(), trial);
     }

@@ -1,10 +1,10 @@
 //! Buffers.
 
-use super::playing::{Row, check_rows};
+use super::playing::Row;
 use super::words::Word::*;
 use ek_call::Prim::*;
 
-const ROWS: [Row; 5] = [
+pub const ROWS: [Row; 5] = [
     Row {
         shows: "buffers are found, made, and made current",
         calls: &[
@@ -122,8 +122,3 @@ const ROWS: [Row; 5] = [
         ],
     },
 ];
-
-#[test]
-fn buffers(rt: HostRuntime) {
-    check_rows(&rt, rt.alloc(), &ROWS);
-}

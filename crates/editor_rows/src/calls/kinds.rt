@@ -223,7 +223,7 @@ fn check_kinds(rt: &impl Abort, alloc: Global, prim: Prim, places: &[Place], i: 
 
 /// Each call, with a sample of each kind in each of its places.
 #[test]
-fn kinds_of_arguments(rt: HostRuntime) {
+fn a_value_of_another_kind_is_refused_in_each_place(rt: HostRuntime) {
     for call in &CALLS {
         for i in 0..call.1.len() {
             check_kinds(&rt, rt.alloc(), call.0, call.1, i);
@@ -276,7 +276,7 @@ fn check_dead(rt: &impl Abort, alloc: Global, prim: Prim, places: &[Place], i: u
 
 /// Each call, with a marker that points nowhere as a position, and with a buffer that isn't there.
 #[test]
-fn objects_that_are_not_there(rt: HostRuntime) {
+fn objects_that_are_not_there_are_refused(rt: HostRuntime) {
     for call in &CALLS {
         for i in 0..call.1.len() {
             check_dead(&rt, rt.alloc(), call.0, call.1, i);

@@ -30,10 +30,19 @@ fn refused(rt: &impl Abort, editor: &mut Editor, prim: Prim, words: &[Word]) -> 
     fault_of(reply(editor, prim, &args).expect(rt, "a reply"))
 }
 
-/// Makes a call again and again, which is never refused.
-fn repeat(rt: &impl Abort, editor: &mut Editor, count: usize, prim: Prim, words: &[Word]) {
-    for _ in 0..count {
-        assert_eq!(rt; refused(rt, editor, prim, words), None, "{prim:?}");
+/// A call that is made so many times, and why it is refused each time, if it is.
+type Step = (usize, Prim, &'static [Word], Option<Fault>);
+
+fn repeat(rt: &impl Abort, editor: &mut Editor, step: &Step) {
+    let prim = step.1;
+    for _ in 0..step.0 {
+        assert_eq!(rt; refused(rt, editor, prim, step.2), step.3, "{prim:?}");
+    }
+}
+
+fn take(rt: &impl Abort, editor: &mut Editor, steps: &[Step]) {
+    for step in steps {
+        repeat(rt, editor, step);
     }
 }
 
@@ -54,18 +63,9 @@ fn check_name(rt: &impl Abort, editor: &mut Editor, prim: Prim) {
     assert_eq!(rt; longer, Some(Fault::TooMany), "{prim:?}");
 }
 
-/// A call is one too many.
-fn too_many(rt: &impl Abort, editor: &mut Editor, prim: Prim, words: &[Word]) {
-    assert_eq!(rt;
-        refused(rt, editor, prim, words),
-        Some(Fault::TooMany),
-        "{prim:?}"
-    );
-}
-
 /// The second name of 256 letters gets a number and is longer than that.
 #[test]
-fn names(rt: HostRuntime) {
+fn a_buffer_takes_a_name_of_256_letters_and_no_longer_one(rt: HostRuntime) {
     let mut editor = Editor::new(rt.alloc()).expect(&rt, "an editor");
     check_name(&rt, &mut editor, GetBufferCreate);
     check_name(&rt, &mut editor, GenerateNewBuffer);
@@ -74,107 +74,127 @@ fn names(rt: HostRuntime) {
     editor.close();
 }
 
-/// Killed buffers count, and a buffer that is there isn't made.
+const TOO_MANY: Option<Fault> = Some(Fault::TooMany);
+
+const BUFFERS: [Step; 6] = [
+    (254, GenerateNewBuffer, &[Str("w")], None),
+    (1, KillBuffer, &[Buffer(9)], None),
+    (1, GenerateNewBuffer, &[Str("v")], None),
+    (1, GenerateNewBuffer, &[Str("new")], TOO_MANY),
+    (1, GetBufferCreate, &[Str("new")], TOO_MANY),
+    (1, GetBufferCreate, &[Str("w<254>")], None),
+];
+
+/// A buffer that is there isn't made.
 #[test]
-fn buffers(rt: HostRuntime) {
+fn killed_buffers_count_among_the_256(rt: HostRuntime) {
     let mut editor = Editor::new(rt.alloc()).expect(&rt, "an editor");
-    repeat(&rt, &mut editor, 254, GenerateNewBuffer, &[Str("w")]);
-    repeat(&rt, &mut editor, 1, KillBuffer, &[Buffer(9)]);
-    repeat(&rt, &mut editor, 1, GenerateNewBuffer, &[Str("v")]);
-    too_many(&rt, &mut editor, GenerateNewBuffer, &[Str("new")]);
-    too_many(&rt, &mut editor, GetBufferCreate, &[Str("new")]);
-    repeat(&rt, &mut editor, 1, GetBufferCreate, &[Str("w<254>")]);
+    take(&rt, &mut editor, &BUFFERS);
     editor.close();
 }
 
+const MARKS: [Step; 8] = [
+    (65_536, MakeMarker, &[], None),
+    (1, MakeMarker, &[], TOO_MANY),
+    (1, PointMarker, &[], TOO_MANY),
+    (1, CopyMarker, &[], TOO_MANY),
+    (65_536, MakeOverlay, &[Int(1), Int(1)], None),
+    (1, MakeOverlay, &[Int(1), Int(1)], TOO_MANY),
+    (1, DeleteOverlay, &[Overlay(65_535)], None),
+    (1, SetMarker, &[Marker(65_535), Int(1)], None),
+];
+
 #[test]
-fn markers_and_overlays(rt: HostRuntime) {
+fn a_marker_or_overlay_beyond_65536_is_refused(rt: HostRuntime) {
     let mut editor = Editor::new(rt.alloc()).expect(&rt, "an editor");
-    repeat(&rt, &mut editor, 65_536, MakeMarker, &[]);
-    too_many(&rt, &mut editor, MakeMarker, &[]);
-    too_many(&rt, &mut editor, PointMarker, &[]);
-    too_many(&rt, &mut editor, CopyMarker, &[]);
-    let places = [Int(1), Int(1)];
-    repeat(&rt, &mut editor, 65_536, MakeOverlay, &places);
-    too_many(&rt, &mut editor, MakeOverlay, &places);
-    repeat(&rt, &mut editor, 1, DeleteOverlay, &[Overlay(65_535)]);
-    repeat(&rt, &mut editor, 1, SetMarker, &[Marker(65_535), Int(1)]);
+    take(&rt, &mut editor, &MARKS);
     editor.close();
 }
 
-/// Fills the current buffer, which is empty, with the longest string that a buffer gives.
-fn fill(rt: &impl Abort, editor: &mut Editor) {
-    let many = [Str("0123456789abcdef0123456789abcdef0123456789abcdef0123456789abcdef"); 64];
-    repeat(rt, editor, 1, Insert, &many);
-    repeat(rt, editor, 8, InsertBufferSubstring, &[Str("*scratch*")]);
-}
+const MANY: [Word; 64] = [Str(
+    "0123456789abcdef0123456789abcdef0123456789abcdef0123456789abcdef",
+); 64];
+
+/// These fill the current buffer, which is empty, with the longest string that a buffer gives.
+const FILLING: [Step; 2] = [
+    (1, Insert, &MANY, None),
+    (8, InsertBufferSubstring, &[Str("*scratch*")], None),
+];
+
+const EXACT: [Word; 2] = [Int(2), Int(STRING + 2)];
+
+const BEYOND: [Word; 2] = [Int(1), Int(STRING + 2)];
+
+const STRINGS: [Step; 10] = [
+    (1, BufferString, &[], None),
+    (1, Insert, &[Str("x")], None),
+    (1, BufferSubstring, &EXACT, None),
+    (1, BufferSubstring, &BEYOND, TOO_MANY),
+    (1, BufferSubstringNoProperties, &BEYOND, TOO_MANY),
+    (1, DeleteAndExtractRegion, &BEYOND, TOO_MANY),
+    (1, BufferString, &[], TOO_MANY),
+    (1, InsertBufferSubstring, &[Str("*scratch*")], TOO_MANY),
+    (1, DeleteAndExtractRegion, &EXACT, None),
+    (1, DeleteRegion, &[Int(1), Int(2)], None),
+];
 
 #[test]
-fn strings_made_from_a_buffer(rt: HostRuntime) {
+fn a_string_from_a_buffer_beyond_1048576_letters_is_refused(rt: HostRuntime) {
     let mut editor = Editor::new(rt.alloc()).expect(&rt, "an editor");
-    fill(&rt, &mut editor);
-    repeat(&rt, &mut editor, 1, BufferString, &[]);
-    repeat(&rt, &mut editor, 1, Insert, &[Str("x")]);
-    let exact = [Int(2), Int(STRING + 2)];
-    let beyond = [Int(1), Int(STRING + 2)];
-    repeat(&rt, &mut editor, 1, BufferSubstring, &exact);
-    too_many(&rt, &mut editor, BufferSubstring, &beyond);
-    too_many(&rt, &mut editor, BufferSubstringNoProperties, &beyond);
-    too_many(&rt, &mut editor, DeleteAndExtractRegion, &beyond);
-    too_many(&rt, &mut editor, BufferString, &[]);
-    too_many(&rt, &mut editor, InsertBufferSubstring, &[Str("*scratch*")]);
-    repeat(&rt, &mut editor, 1, DeleteAndExtractRegion, &exact);
-    repeat(&rt, &mut editor, 1, DeleteRegion, &[Int(1), Int(2)]);
+    take(&rt, &mut editor, &FILLING);
+    take(&rt, &mut editor, &STRINGS);
     is(&rt, editor.size(0), 0);
     editor.close();
 }
 
-/// There is no room for one more letter.
-fn is_full(rt: &impl Abort, editor: &mut Editor) {
-    let fault = refused(rt, editor, Insert, &[Str("x")]);
-    assert_eq!(rt; fault, Some(Fault::BufferFull));
-}
+const FULL: Option<Fault> = Some(Fault::BufferFull);
+
+/// A string of the longest that a buffer gives.
+const PART: [Word; 3] = [Buffer(0), Int(1), Int(STRING + 1)];
+
+/// The first buffer has room for no more, and then for one letter.
+const ONE_TEXT: [Step; 3] = [
+    (3, InsertBufferSubstring, &PART, None),
+    (1, Insert, &[Str("x")], FULL),
+    (1, DeleteRegion, &[Int(TEXT), Int(TEXT + 1)], None),
+];
+
+const LETTER: [Word; 1] = [Str("x")];
 
 /// An insertion that no longer has room when it is committed is refused then.
 fn fill_meanwhile(rt: &impl Abort, editor: &mut Editor) {
-    let args = arguments(editor.allocator(), &[Str("x")]).expect(rt, "a string");
+    let args = arguments(editor.allocator(), &LETTER).expect(rt, "a string");
     let prepared = prepare(editor, Insert, &args).expect(rt, "a change");
-    repeat(rt, editor, 1, Insert, &[Str("x")]);
+    is(rt, refused(rt, editor, Insert, &LETTER), None);
     let late = make(editor, prepared).expect(rt, "a reply");
-    is(rt, fault_of(late), Some(Fault::BufferFull));
+    is(rt, fault_of(late), FULL);
 }
 
-/// A new buffer becomes current, and is filled with a part four times.
-fn fill_another(rt: &impl Abort, editor: &mut Editor, name: &'static str, part: &[Word]) {
-    repeat(rt, editor, 1, GetBufferCreate, &[Str(name)]);
-    repeat(rt, editor, 1, SetBuffer, &[Str(name)]);
-    repeat(rt, editor, 4, InsertBufferSubstring, part);
-}
+/// Three more buffers are filled. A letter of one of them makes room for one letter in a fifth.
+const ALL_TEXTS: [Step; 15] = [
+    (1, GetBufferCreate, &[Str("b")], None),
+    (1, SetBuffer, &[Str("b")], None),
+    (4, InsertBufferSubstring, &PART, None),
+    (1, GetBufferCreate, &[Str("c")], None),
+    (1, SetBuffer, &[Str("c")], None),
+    (4, InsertBufferSubstring, &PART, None),
+    (1, GetBufferCreate, &[Str("d")], None),
+    (1, SetBuffer, &[Str("d")], None),
+    (4, InsertBufferSubstring, &PART, None),
+    (1, SetBuffer, &[Buffer(1)], None),
+    (1, DeleteRegion, &[Int(1), Int(2)], None),
+    (1, GetBufferCreate, &[Str("e")], None),
+    (1, SetBuffer, &[Str("e")], None),
+    (1, Insert, &[Str("x")], None),
+    (1, Insert, &[Str("x")], FULL),
+];
 
-/// A buffer is filled to its limit, and five buffers to theirs.
 #[test]
-fn texts(rt: HostRuntime) {
+fn one_text_and_all_texts_are_filled_to_their_limits(rt: HostRuntime) {
     let mut editor = Editor::new(rt.alloc()).expect(&rt, "an editor");
-    fill(&rt, &mut editor);
-    let part = [Buffer(0), Int(1), Int(STRING + 1)];
-    repeat(&rt, &mut editor, 3, InsertBufferSubstring, &part);
-    is_full(&rt, &mut editor);
-    repeat(
-        &rt,
-        &mut editor,
-        1,
-        DeleteRegion,
-        &[Int(TEXT), Int(TEXT + 1)],
-    );
+    take(&rt, &mut editor, &FILLING);
+    take(&rt, &mut editor, &ONE_TEXT);
     fill_meanwhile(&rt, &mut editor);
-    fill_another(&rt, &mut editor, "b", &part);
-    fill_another(&rt, &mut editor, "c", &part);
-    fill_another(&rt, &mut editor, "d", &part);
-    repeat(&rt, &mut editor, 1, SetBuffer, &[Buffer(1)]);
-    repeat(&rt, &mut editor, 1, DeleteRegion, &[Int(1), Int(2)]);
-    repeat(&rt, &mut editor, 1, GetBufferCreate, &[Str("e")]);
-    repeat(&rt, &mut editor, 1, SetBuffer, &[Str("e")]);
-    repeat(&rt, &mut editor, 1, Insert, &[Str("x")]);
-    is_full(&rt, &mut editor);
+    take(&rt, &mut editor, &ALL_TEXTS);
     editor.close();
 }

@@ -1,10 +1,10 @@
 //! Markers.
 
-use super::playing::{Row, check_rows};
+use super::playing::Row;
 use super::words::Word::*;
 use ek_call::Prim::*;
 
-const ROWS: [Row; 7] = [
+pub const ROWS: [Row; 7] = [
     Row {
         shows: "markers at a tie",
         calls: &[
@@ -164,8 +164,3 @@ const ROWS: [Row; 7] = [
         ],
     },
 ];
-
-#[test]
-fn markers(rt: HostRuntime) {
-    check_rows(&rt, rt.alloc(), &ROWS);
-}

@@ -143,7 +143,7 @@ fn check_output(rt: &impl Abort, alloc: Global, row: &Output) {
 }
 
 #[test]
-fn outputs(rt: HostRuntime) {
+fn the_rows_of_output_give_their_replies(rt: HostRuntime) {
     for row in &OUTPUTS {
         check_output(&rt, rt.alloc(), row);
     }
@@ -239,7 +239,7 @@ fn check_late(rt: &impl Abort, alloc: Global, row: &Late) {
 }
 
 #[test]
-fn late_commits(rt: HostRuntime) {
+fn the_rows_of_late_commits_give_their_replies(rt: HostRuntime) {
     for row in &LATE {
         check_late(&rt, rt.alloc(), row);
     }

@@ -1,11 +1,11 @@
 //! Overlays.
 
-use super::playing::{Row, check_rows};
+use super::playing::Row;
 use super::words::Word::*;
 use super::words::{BOLD, EVAPORATE, FACE, ITALIC, PRIORITY};
 use ek_call::Prim::*;
 
-const ROWS: [Row; 12] = [
+pub const ROWS: [Row; 12] = [
     Row {
         shows: "overlays at an insertion before markers",
         calls: &[
@@ -389,8 +389,3 @@ const ROWS: [Row; 12] = [
         ],
     },
 ];
-
-#[test]
-fn overlays(rt: HostRuntime) {
-    check_rows(&rt, rt.alloc(), &ROWS);
-}

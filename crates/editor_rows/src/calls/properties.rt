@@ -1,11 +1,11 @@
 //! Text properties, and what insertions inherit.
 
-use super::playing::{Row, check_rows};
+use super::playing::Row;
 use super::words::Word::*;
 use super::words::{BOLD, FACE, FRONT_STICKY, ITALIC, PRIORITY, REAR_NONSTICKY};
 use ek_call::Prim::*;
 
-const ROWS: [Row; 12] = [
+pub const ROWS: [Row; 12] = [
     Row {
         shows: "where properties change",
         calls: &[
@@ -336,8 +336,3 @@ const ROWS: [Row; 12] = [
         ],
     },
 ];
-
-#[test]
-fn properties(rt: HostRuntime) {
-    check_rows(&rt, rt.alloc(), &ROWS);
-}

@@ -1,11 +1,11 @@
 //! Buffers and texts that are read-only.
 
-use super::playing::{Row, check_rows};
+use super::playing::Row;
 use super::words::Word::*;
 use super::words::{FACE, FRONT_STICKY, READ_ONLY, REAR_NONSTICKY};
 use ek_call::Prim::*;
 
-const ROWS: [Row; 5] = [
+pub const ROWS: [Row; 5] = [
     Row {
         shows: "a read-only buffer refuses what would change it",
         calls: &[
@@ -134,8 +134,3 @@ const ROWS: [Row; 5] = [
         ],
     },
 ];
-
-#[test]
-fn what_is_read_only(rt: HostRuntime) {
-    check_rows(&rt, rt.alloc(), &ROWS);
-}

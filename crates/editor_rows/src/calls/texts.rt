@@ -1,11 +1,11 @@
 //! Texts and narrowing.
 
-use super::playing::{Row, check_rows};
+use super::playing::Row;
 use super::words::Word::*;
 use super::words::{BOLD, FACE, ITALIC};
 use ek_call::Prim::*;
 
-const ROWS: [Row; 10] = [
+pub const ROWS: [Row; 10] = [
     Row {
         shows: "a deletion, as on the first path",
         calls: &[
@@ -237,8 +237,3 @@ const ROWS: [Row; 10] = [
         ],
     },
 ];
-
-#[test]
-fn texts(rt: HostRuntime) {
-    check_rows(&rt, rt.alloc(), &ROWS);
-}

@@ -1,11 +1,11 @@
 //! Undo.
 
-use super::playing::{Row, check_rows};
+use super::playing::Row;
 use super::words::Word::*;
 use super::words::{BOLD, FACE, ITALIC, PRIORITY};
 use ek_call::Prim::*;
 
-const LISTS: [Row; 8] = [
+pub const LISTS: [Row; 8] = [
     Row {
         shows: "the undo list as it is printed",
         calls: &[
@@ -153,7 +153,7 @@ const LISTS: [Row; 8] = [
     },
 ];
 
-const GROUPS: [Row; 7] = [
+pub const GROUPS: [Row; 7] = [
     Row {
         shows: "undo in groups, and undo of that undo",
         calls: &[
@@ -295,9 +295,3 @@ const GROUPS: [Row; 7] = [
         ],
     },
 ];
-
-#[test]
-fn undo(rt: HostRuntime) {
-    check_rows(&rt, rt.alloc(), &LISTS);
-    check_rows(&rt, rt.alloc(), &GROUPS);
-}

@@ -94,7 +94,7 @@ fn check_deletions(rt: &impl Abort, alloc: Global, counts: &[usize], left: usize
 }
 
 #[test]
-fn deleted_characters_at_the_limit(rt: HostRuntime) {
+fn deletions_beyond_the_limit_drop_the_oldest_groups(rt: HostRuntime) {
     for deletions in &DELETIONS {
         check_deletions(&rt, rt.alloc(), deletions.counts, deletions.left);
     }

@@ -11,7 +11,7 @@ fn shows(rt: &impl Abort, scene: &Scene, text: &str) {
 }
 
 #[test]
-fn an_empty_text(rt: HostRuntime) {
+fn an_empty_text_stays_empty_and_unmodified(rt: HostRuntime) {
     let mut scene = Scene::new(rt.alloc());
     scene.insert(&rt, 0, "");
     scene.delete(&rt, 0, 0);
@@ -150,7 +150,7 @@ const AT_THE_GAP: [AtTheGap; 12] = [
 
 /// The gap stands where the change before was made: at the start, at the end, in the middle, and it is all there is.
 #[test]
-fn changes_on_both_sides_of_the_gap(rt: HostRuntime) {
+fn changes_on_both_sides_of_the_gap_leave_their_texts(rt: HostRuntime) {
     let mut scene = Scene::new(rt.alloc());
     for row in &AT_THE_GAP {
         make(&rt, &mut scene, &row.change);
@@ -301,7 +301,7 @@ fn check_narrowed(rt: &impl Abort, alloc: Global, row: &Narrowed) {
 }
 
 #[test]
-fn a_narrowing_at_a_change(rt: HostRuntime) {
+fn a_change_moves_the_bounds_of_a_narrowing_and_point(rt: HostRuntime) {
     for row in &NARROWED {
         check_narrowed(&rt, rt.alloc(), row);
     }
