@@ -157,3 +157,29 @@ fn copies_of_a_shared_piece_are_changed_alone(rt: HostRuntime) {
     are(&rt, &first, &[1, 1, 0, 1, 1, 0]);
     are(&rt, &second, &[1, 2, 2]);
 }
+
+/// Appends a piece to a copy of it, and gives the length.
+fn doubled(rt: &impl Abort, piece: &Piece) -> usize {
+    let mut copy = piece.copy().expect(rt, "memory");
+    copy.append(piece).expect(rt, "memory");
+    copy.len()
+}
+
+/// The length of the text that is shared with a piece, and of a piece that is made of that.
+fn shared_lengths(rt: &impl Abort, alloc: Global, piece: &Piece) -> (usize, usize) {
+    let text = piece.shared_text().expect(rt, "memory");
+    let made = Piece::sharing(alloc, &text).expect(rt, "memory");
+    (text.as_ref().len(), doubled(rt, &made))
+}
+
+#[test]
+fn a_text_is_shared_whether_short_or_long(rt: HostRuntime) {
+    let alloc = rt.alloc();
+    for size in [1, 63, 64, 100] {
+        let piece = bare_text(&rt, alloc, size);
+        is(&rt, shared_lengths(&rt, alloc, &piece), (size, 2 * size));
+        let shared = piece.shared(alloc).expect(&rt, "memory");
+        is(&rt, shared_lengths(&rt, alloc, &shared), (size, 2 * size));
+        is(&rt, doubled(&rt, &shared), 2 * size);
+    }
+}
