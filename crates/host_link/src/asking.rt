@@ -57,7 +57,7 @@ pub enum Answer {
     Running,
     /// The bytes were sent.
     Sent,
-    /// The bytes couldn't be sent.
+    /// The child doesn't take the bytes.
     Broken,
     /// The input is closed.
     Closed,
@@ -139,7 +139,7 @@ impl Copied for Exchange {
 }
 
 /// A list of these bytes.
-pub(crate) fn list_of(alloc: Global, bytes: &[u8]) -> Mem<ByteList>
+pub fn list_of(alloc: Global, bytes: &[u8]) -> Mem<ByteList>
     ensures { IfOk result (λ list. items_of list ≡ bytes.now) }
 {
     let mut list = ListOf::new(alloc);
@@ -149,7 +149,7 @@ pub(crate) fn list_of(alloc: Global, bytes: &[u8]) -> Mem<ByteList>
 }
 
 /// The list of the bytes of these words.
-pub(crate) fn words(alloc: Global, args: &[String]) -> Mem<WordList>
+pub fn words(alloc: Global, args: &[String]) -> Mem<WordList>
     ensures { IfOk result (λ list. words_of list ≡ map string_bytes args.now) }
 {
     let mut list = ListOf::new(alloc);
