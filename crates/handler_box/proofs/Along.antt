@@ -6,7 +6,8 @@ use Rattle.text_model.specs.Characters.{Scalar}
 use Rattle.editor_model.specs.Arguments.{arg}
 use Rattle.editor_model.specs.Values.{Value, Reply, Answered, Refused, Str, Prim, GetBufferCreate, SetBuffer, PointAt, PointMax, GotoChar, Insert, ProcessBuffer, ProcessMark, MarkerPosition, SetMarker}
 use Rattle.plain_machine.specs.Shipped.{NativeCall, Wanted, ABuffer, AMarker, ANumber, Anything, is_wanted, Line, line, along, point_back, insert_filter, note_sentinel}
-use Rattle.handler_box.specs.Replies.{are_kept, answer_of, insert_wanted, note_wanted}
+use Rattle.handler_code.specs.Calls.{answer_of}
+use Rattle.handler_box.specs.Replies.{are_kept, insert_wanted, note_wanted}
 
 abbrev chosen : Bool → Option NativeCall → Option NativeCall
 chosen t next = elim t [ true ↦ next | false ↦ None ]

@@ -7,7 +7,8 @@ use Rattle.text_model.proofs.Lists.{drop_at}
 use Rattle.editor_model.specs.Arguments.{arg}
 use Rattle.editor_model.specs.Values.{Value, Nil, Reply}
 use Rattle.plain_machine.specs.Shipped.{Wanted}
-use Rattle.handler_box.specs.Replies.{is_kept, are_kept, answer_of}
+use Rattle.handler_code.specs.Calls.{answer_of}
+use Rattle.handler_box.specs.Replies.{is_kept, are_kept}
 
 pub too_many : (past : List Reply) (wanted : List Wanted) → length wanted < length past → are_kept past wanted ≡ false
 too_many [] wanted more = absurd (omega arith)

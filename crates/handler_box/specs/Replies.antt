@@ -1,10 +1,11 @@
 -- The replies that a shipped handler has had, and what it wants of them.
 use Rattle.std.specs.Prelude.{Bool, true, false, ◌&&◌, List, [], ◌∷◌, map}
-use Rattle.editor_model.specs.Values.{Value, Nil, Reply, Answered, Refused}
+use Rattle.editor_model.specs.Values.{Value, Reply, Answered, Refused}
 use Rattle.plain_machine.specs.Shipped.{Wanted, ABuffer, AMarker, ANumber, Anything, is_wanted}
 use Rattle.ek_types.specs.Listing.{items_of}
 use Rattle.ek_types.specs.declared.list.ListOf.{ListOf}
 use Rattle.ek_call.specs.Meaning.{reply_of}
+use Rattle.handler_code.specs.Calls.{answer_of}
 use Rattle.ek_call.specs.declared.reply.Reply as written
 use Rattle.handler_box.specs.declared.replies.Wanted as declared
 use Rattle.handler_box.specs.declared.replies.Wanted.TheVariants as wanted
@@ -25,11 +26,6 @@ abbrev pub are_kept : List Reply → List Wanted → Bool
 are_kept [] wanted = true
 are_kept (r ∷ past) [] = false
 are_kept (r ∷ past) (w ∷ wanted) = is_kept r w && are_kept past wanted
-
--- the answer of a reply, and nil where it was refused
-abbrev pub answer_of : Reply → Value
-answer_of (Answered v) = v
-answer_of (Refused f) = Nil
 
 abbrev pub answers_of : ListOf written.Reply → List Value
 answers_of past = map answer_of (map reply_of (items_of past))

@@ -9,12 +9,12 @@ ghost use Rattle.ek_call.specs.Meaning.{view, reply_of};
 ghost use Rattle.handler_code.specs.Calls.{asked_of};
 ghost use Rattle.handler_box.specs.Replies.{are_kept, answers_of, insert_wanted};
 
-use crate::asking::{ask, ask_with, ask_with_three, copied};
+use crate::asking::ask_with_three;
 use crate::handler::Handler;
 use crate::replies::{Wanted, answer, are_as_wanted, number};
 use ek_call::{Primitive, Replies, Value, Values, argument};
 use ek_types::Mem;
-use handler_code::Next;
+use handler_code::{Next, ask, ask_with, copied};
 use std::alloc::Global;
 
 /// The filter `insert-filter`. The text goes in at the process's mark, and the mark behind it; point goes back where it stood in

@@ -8,12 +8,11 @@ ghost use Rattle.ek_call.specs.Meaning.{view, reply_of};
 ghost use Rattle.handler_code.specs.Calls.{asked_of};
 ghost use Rattle.handler_box.specs.Replies.{are_kept, note_wanted};
 
-use crate::asking::{ask, ask_with, copied};
 use crate::handler::Handler;
 use crate::replies::{Wanted, answer, are_as_wanted};
 use ek_call::{Primitive, Replies, Value, Values, argument};
 use ek_types::{Chars, Mem, Piece};
-use handler_code::Next;
+use handler_code::{Next, ask, ask_with, copied};
 use std::alloc::Global;
 
 /// The sentinel `note-sentinel`, which puts what it is told at the end of the buffer `*events*`.

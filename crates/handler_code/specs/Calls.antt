@@ -1,6 +1,6 @@
 -- What a native's calls stand for, and which of them may be made.
 use Rattle.std.specs.Prelude.{true, false, List, map, Option, Some, None}
-use Rattle.editor_model.specs.Values.{Value, Prim}
+use Rattle.editor_model.specs.Values.{Value, Nil, Prim, Reply, Answered, Refused}
 use Rattle.plain_machine.specs.State.{State, Program}
 use Rattle.plain_machine.specs.Natives.{normal, is_callable}
 use Rattle.ek_types.specs.Listing.{items_of}
@@ -20,3 +20,8 @@ asked_of next.Done = None
 -- a native's call that the machine makes, with each empty list as nil
 abbrev pub allowed : Program → State → Prim × List Value → Option (Prim × List Value)
 allowed program s c = elim (is_callable program s c) [ true ↦ Some (c.0, map normal c.1) | false ↦ None ]
+
+-- the answer of a reply, and nil where it was refused
+abbrev pub answer_of : Reply → Value
+answer_of (Answered v) = v
+answer_of (Refused f) = Nil

@@ -1,8 +1,8 @@
 //! Taking up an answer of a child, whether a host gave it or it was told.
 ghost use Rattle.std.specs.Prelude.{◌≡◌, ◌<◌, ◌≤◌, ℕ, List, length, IfOk, OnErr};
 ghost use Rattle.host_link.specs.Meaning.{answer_of};
-ghost use Rattle.host_link.specs.Hosts.{ended_answer, got_answer};
-ghost use Rattle.host_link.specs.Played.{end_as, read_as};
+ghost use Rattle.host_link.specs.Hosts.{got_answer};
+ghost use Rattle.host_link.specs.Played.{read_as};
 ghost use Rattle.handler_run.specs.Answers.{IsRead, gave_bytes};
 ghost use Rattle.handler_run.specs.Asking.{MayBeTold, TakesAnswer, TakesEnd, TakesKill};
 ghost use Rattle.handler_run.specs.Asking.{TakesOutput, bytes_in};
@@ -12,7 +12,7 @@ use crate::asking::Heard;
 use crate::entry::Entry;
 use crate::slot::{Slot, ready};
 use ek_types::Mem;
-use host_link::{Answer, Ended, Got};
+use host_link::{Answer, Ended, Got, end_of};
 use process_table::Processes;
 use std::alloc::Global;
 
@@ -85,18 +85,6 @@ fn bytes_in(answer: &Answer) -> &[u8]
     match answer {
         Answer::Bytes(bytes) => bytes.as_slice(),
         _ => &[],
-    }
-}
-
-/// How a process has ended, as it was told.
-fn end_of(answer: &Answer) -> Ended
-    ensures { ended_answer result ≡ end_as (answer_of answer.now) }
-{
-    match answer {
-        Answer::Code(code) => Ended::Code(*code),
-        Answer::Signal => Ended::Signal,
-        Answer::Failed => Ended::Failed,
-        _ => Ended::Running,
     }
 }
 

@@ -1,14 +1,16 @@
 //! Answers as exchanges tell them.
-ghost use Rattle.std.specs.Prelude.{◌≡◌, ◌≤◌, [], length};
+ghost use Rattle.std.specs.Prelude.{◌≡◌, ◌≤◌, [], length, if◌then◌else◌};
+ghost use Rattle.ek_types.specs.Io.{next_count};
 ghost use Rattle.ek_types.specs.Listing.{items_of, spare_of};
 ghost use Rattle.host_link.specs.Meaning.{answer_of};
-ghost use Rattle.host_link.specs.Hosts.{Fits, spawned_answer, got_answer, ended_answer};
+ghost use Rattle.host_link.specs.Hosts.{Fits, is_fault, spawned_answer, got_answer, ended_answer};
 ghost use Rattle.host_link.specs.Hosts.{send_answer, kill_answer};
 
 use crate::asking::{Answer, ByteList, list_of};
 use crate::host::{Ended, Got, KillAnswer, SendAnswer, Spawned};
 use std::alloc::Global;
 
+/// The answer to a spawn, as exchanges tell it.
 pub(crate) fn answer_to_spawn(spawned: Spawned) -> Answer
     ensures { answer_of result ≡ spawned_answer spawned }
 {
@@ -50,6 +52,7 @@ pub(crate) fn answer_to_read(alloc: Global, got: Got, into: &[u8], room: ByteLis
     }
 }
 
+/// The answer to the question how a child has ended, as exchanges tell it.
 pub(crate) fn answer_to_end(ended: Ended) -> Answer
     ensures { answer_of result ≡ ended_answer ended }
 {
@@ -61,6 +64,7 @@ pub(crate) fn answer_to_end(ended: Ended) -> Answer
     }
 }
 
+/// The answer to bytes that are sent, as exchanges tell it.
 pub(crate) fn answer_to_send(sent: SendAnswer) -> Answer
     ensures { answer_of result ≡ send_answer sent }
 {
@@ -70,11 +74,22 @@ pub(crate) fn answer_to_send(sent: SendAnswer) -> Answer
     }
 }
 
-pub(crate) fn answer_to_kill(killed: KillAnswer) -> Answer
+/// The answer to a kill, as exchanges tell it.
+pub fn answer_to_kill(killed: KillAnswer) -> Answer
     ensures { answer_of result ≡ kill_answer killed }
 {
     match killed {
         KillAnswer::Killed => Answer::Killed,
         KillAnswer::Failed => Answer::Failed,
+    }
+}
+
+/// The count of faults after an answer.
+pub fn faults_after(faults: u64, answer: &Answer) -> u64
+    ensures { result ≡ (if is_fault (answer_of answer.now) then next_count faults else faults) }
+{
+    match answer {
+        Answer::Refused | Answer::Broken | Answer::Failed => faults.saturating_add(1),
+        _ => faults,
     }
 }

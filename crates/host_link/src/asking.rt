@@ -24,28 +24,46 @@ pub type Exchanges = ListOf<Exchange>;
 pub enum Ask {
     /// Start a program with these arguments.
     Spawn(ByteList, WordList),
+    /// Take bytes of a child's output.
     Read(u32),
+    /// Say whether a child has ended, and how.
     End(u32),
+    /// Send these bytes to a child's input.
     Send(u32, ByteList),
+    /// Close a child's input.
     Close(u32),
+    /// Kill a child.
     Kill(u32),
 }
 
 /// What a host answers.
 #[derive(Drop)]
 pub enum Answer {
+    /// The child of this number was started.
     Started(u32),
+    /// No child was started.
     Refused,
+    /// These bytes come next in the output.
     Bytes(ByteList),
+    /// Nothing yet; the output goes on.
     Nothing,
+    /// The output has ended.
     End,
+    /// It has ended with this code.
     Code(i32),
+    /// It was ended by a signal.
     Signal,
+    /// It hasn't ended.
     Running,
+    /// The bytes were sent.
     Sent,
+    /// The child doesn't take the bytes.
     Broken,
+    /// The input is closed.
     Closed,
+    /// The child was killed.
     Killed,
+    /// The host couldn't read, kill or find out how the child ended.
     Failed,
 }
 
@@ -121,7 +139,7 @@ impl Copied for Exchange {
 }
 
 /// A list of these bytes.
-pub(crate) fn list_of(alloc: Global, bytes: &[u8]) -> Mem<ByteList>
+pub fn list_of(alloc: Global, bytes: &[u8]) -> Mem<ByteList>
     ensures { IfOk result (λ list. items_of list ≡ bytes.now) }
 {
     let mut list = ListOf::new(alloc);
@@ -131,7 +149,7 @@ pub(crate) fn list_of(alloc: Global, bytes: &[u8]) -> Mem<ByteList>
 }
 
 /// The list of the bytes of these words.
-pub(crate) fn words(alloc: Global, args: &[String]) -> Mem<WordList>
+pub fn words(alloc: Global, args: &[String]) -> Mem<WordList>
     ensures { IfOk result (λ list. words_of list ≡ map string_bytes args.now) }
 {
     let mut list = ListOf::new(alloc);

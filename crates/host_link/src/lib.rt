@@ -11,8 +11,10 @@ mod play;
 mod recorder;
 mod shown;
 
-pub use asking::{Answer, Answers, Ask, ByteList, Exchange, Exchanges, WordList};
+pub use answering::{answer_to_kill, faults_after};
+pub use asking::{Answer, Answers, Ask, ByteList, Exchange, Exchanges, WordList, list_of, words};
 pub use host::{Ended, Got, Host, KillAnswer, SendAnswer, Spawned};
+pub use log::Log;
 pub use memory_host::MemoryHost;
-pub use play::Play;
+pub use play::{Play, end_of};
 pub use recorder::Recorder;

@@ -9,8 +9,9 @@ use ek_types::{ListOf, Mem, NoMemory};
 use std::alloc::Global;
 use std::marker::Model;
 
+/// A list of exchanges that is given memory before an exchange is made, and takes none to note it.
 #[derive(Drop)]
-pub(crate) struct Log {
+pub struct Log {
     alloc: Global,
     list: Exchanges,
     due: usize,
@@ -34,7 +35,8 @@ impl Model for Log {
 }
 
 impl Log {
-    pub(crate) fn new(alloc: Global) -> Log
+    /// No exchange so far.
+    pub fn new(alloc: Global) -> Log
         ensures told { result.told ≡ [] }
         ensures due { result.due ≡ 0 }
     {
@@ -45,19 +47,20 @@ impl Log {
         }
     }
 
-    pub(crate) fn allocator(&self) -> Global {
+    /// Where its memory is taken.
+    pub fn allocator(&self) -> Global {
         self.alloc
     }
 
     /// The exchanges so far.
-    pub(crate) fn list(&self) -> &Exchanges
+    pub fn list(&self) -> &Exchanges
         ensures { exchanges_of result.now ≡ self.now.told }
     {
         &self.list
     }
 
     /// Makes places for `n` exchanges beside the kills.
-    pub(crate) fn reserve(&mut self, n: usize) -> Mem<()>
+    pub fn reserve(&mut self, n: usize) -> Mem<()>
         ensures told { self.new.told ≡ self.old.told }
         ensures due { self.new.due ≡ self.old.due }
         ensures room { OnOk result (n ≤ self.new.places) }
@@ -67,7 +70,7 @@ impl Log {
     }
 
     /// Notes an exchange at its place.
-    pub(crate) fn put(&mut self, ask: Ask, answer: Answer)
+    pub fn put(&mut self, ask: Ask, answer: Answer)
         requires { 0 < self.old.places }
         ensures told { self.new.told ≡ self.old.told ++ record {
           ask = ask_of ask;
@@ -80,7 +83,7 @@ impl Log {
     }
 
     /// Notes a spawn, and keeps a place for the kill of the child that it started.
-    pub(crate) fn put_spawn(&mut self, ask: Ask, answer: Answer, spawned: Spawned)
+    pub fn put_spawn(&mut self, ask: Ask, answer: Answer, spawned: Spawned)
         requires { 2 ≤ self.old.places }
         ensures told { self.new.told ≡ self.old.told ++ record {
           ask = ask_of ask;
@@ -89,6 +92,15 @@ impl Log {
         ensures due { self.new.due ≡ self.old.due + due_by spawned }
     {
         self.put(ask, answer);
+        self.owe(spawned);
+    }
+
+    /// Keeps a place for the kill of the child that was started.
+    pub fn owe(&mut self, spawned: Spawned)
+        requires { 0 < self.old.places }
+        ensures told { self.new.told ≡ self.old.told }
+        ensures due { self.new.due ≡ self.old.due + due_by spawned }
+    {
         match spawned {
             Spawned::Started(_) => self.due += 1,
             Spawned::Refused => {}
@@ -96,7 +108,7 @@ impl Log {
     }
 
     /// Notes a kill at the place that was kept for it.
-    pub(crate) fn put_kill(&mut self, ask: Ask, answer: Answer)
+    pub fn put_kill(&mut self, ask: Ask, answer: Answer)
         requires { 0 < self.old.due }
         ensures told { self.new.told ≡ self.old.told ++ record {
           ask = ask_of ask;

@@ -15,7 +15,7 @@ ghost use Rattle.host_link.specs.Played.{next_end, reply_to};
 ghost use Rattle.host_link.specs.Logged.{due_by};
 ghost use Rattle.host_link.specs.Cursors.{cursors_by, rest_of, whole_play};
 
-use crate::answering::{answer_to_kill, answer_to_send, answer_to_spawn};
+use crate::answering::{answer_to_kill, answer_to_send, answer_to_spawn, faults_after};
 use crate::asking::{Answer, Ask, Exchanges, list_of, words};
 use crate::host::{Ended, Got, Host, KillAnswer, SendAnswer, Spawned};
 use crate::log::Log;
@@ -90,16 +90,6 @@ fn is_failing(fails: &[u32], call: u64) -> bool
     ensures { result ≡ fails_at fails.now call }
 {
     fails.iter().any(|n| u64::from(*n) == call)
-}
-
-/// The count of faults after an answer.
-fn faults_after(faults: u64, answer: &Answer) -> u64
-    ensures { result ≡ (if is_fault (answer_of answer.now) then next_count faults else faults) }
-{
-    match answer {
-        Answer::Refused | Answer::Broken | Answer::Failed => faults.saturating_add(1),
-        _ => faults,
-    }
 }
 
 /// The answer to a spawn where so many of so many children were started.

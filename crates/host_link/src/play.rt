@@ -95,7 +95,8 @@ fn read_answer(alloc: Global, answer: &Answer, given: usize, into: &mut [u8]) ->
     }
 }
 
-pub(crate) fn end_of(answer: &Answer) -> Ended
+/// How a child has ended, by an answer to that question; answers of another kind count as running.
+pub fn end_of(answer: &Answer) -> Ended
     ensures { ended_answer result ≡ end_as (answer_of answer.now) }
 {
     match answer {

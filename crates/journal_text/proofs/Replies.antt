@@ -110,12 +110,12 @@ numbered (spawned.Started child) answer next n e h k = subst (IsSpawned next) (s
 numbered spawned.Refused answer next n e h k = tt
 
 -- the host after an exchange, by its parts; `o` is what it was
-pub replay_after : (o s : ReplayState) (follows : Bool) (ask : Ask) (answer reply : Answer) (asked : Ask) (matched : ℕ) (kills : List Bool) (faults : ℕ) (told : List Exchange)
-    → o ≡ s → ask ≡ asked → answer ≡ reply → matched ≡ (if follows then o.matched + 1 else o.matched) → kills ≡ kills_after o.kills asked reply
+pub replay_after : (o s : ReplayState) (follows : Bool) (ask : Ask) (answer reply : Answer) (asked : Ask) (matched : ℕ) (strayed : Bool) (kills : List Bool) (faults : ℕ) (told : List Exchange)
+    → o ≡ s → ask ≡ asked → answer ≡ reply → matched ≡ (if follows then o.matched + 1 else o.matched) → strayed ≡ not follows → kills ≡ kills_after o.kills asked reply
     → faults ≡ (if is_fault answer then next_count o.faults else o.faults) → told ≡ o.told ++ record { ask = ask; answer = answer } ∷ []
-    → (let r : ReplayState = record { list = o.list; matched = matched; strayed = not follows; kills = kills; faults = faults; told = told } in r) ≡ after_exchange s follows asked reply
-replay_after o s follows ask answer reply asked matched kills faults told same as_ask as_reply as_matched as_kills as_faults as_told =
-    rw (← same, ← as_ask, ← as_reply, as_matched, as_faults, as_told) (rw (as_kills, as_ask, as_reply) refl)
+    → (let r : ReplayState = record { list = o.list; matched = matched; strayed = strayed; kills = kills; faults = faults; told = told } in r) ≡ after_exchange s follows asked reply
+replay_after o s follows ask answer reply asked matched strayed kills faults told same as_ask as_reply as_matched as_strayed as_kills as_faults as_told =
+    rw (← same, ← as_ask, ← as_reply, as_matched, as_strayed, as_faults, as_told) (rw (as_kills, as_ask, as_reply) refl)
 
 counted : (faults : ℕ) (failed : Bool) → faults < 2 ^ 64 → HasCause faults (if failed then next_count faults else faults) (IsTrue failed)
 counted faults true small = record { later = omega arith; rose = λ h. omega arith }

@@ -1,34 +1,12 @@
 //! Asks that are made, beside those of a list.
 ghost use Rattle.std.specs.Prelude.{◌≡◌, ◌≢◌, map, string_bytes, IfOk};
 ghost use Rattle.std.specs.Prelude.{MatchBool};
-ghost use Rattle.ek_types.specs.Listing.{items_of};
 ghost use Rattle.plain_machine.specs.Exchanges.{Spawn};
 ghost use Rattle.host_link.specs.Meaning.{ask_of, words_of};
 
-use ek_types::{ListOf, Mem};
-use host_link::{Ask, ByteList, WordList};
+use ek_types::Mem;
+use host_link::{Ask, WordList, list_of, words};
 use std::alloc::Global;
-
-/// A list of these bytes.
-pub(crate) fn list_of(alloc: Global, bytes: &[u8]) -> Mem<ByteList>
-    ensures { IfOk result (λ list. items_of list ≡ bytes.now) }
-{
-    let mut list = ListOf::new(alloc);
-    list.reserve(bytes.len())?;
-    list.extend_spare(bytes);
-    Ok(list)
-}
-
-/// The list of the bytes of these words.
-fn words(alloc: Global, args: &[String]) -> Mem<WordList>
-    ensures { IfOk result (λ list. words_of list ≡ map string_bytes args.now) }
-{
-    let mut list = ListOf::new(alloc);
-    for i in 0..args.len() {
-        list.push(list_of(alloc, args[i].as_bytes())?)?;
-    }
-    Ok(list)
-}
 
 /// The ask to start a program.
 pub(crate) fn spawn_ask(alloc: Global, program: &str, args: &[String]) -> Mem<Ask>

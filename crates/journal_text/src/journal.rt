@@ -23,6 +23,7 @@ pub enum JournalFault {
     /// No front of the bytes is a journal and the line `script`. The line is the one behind the good lines at the front,
     /// counted from 1.
     Line(u32),
+    /// Memory was wanting.
     NoMemory,
 }
 

@@ -2,6 +2,7 @@
 #![tactic(auto)]
 
 mod asking;
+mod course;
 mod exchange;
 mod hex;
 mod journal;
@@ -10,7 +11,6 @@ mod lined;
 mod pieces;
 mod replay;
 mod reply;
-mod told;
 
 pub use journal::{JournalFault, LONGEST_SESSION, Transcript, read_journal, read_transcript};
 pub use line::write_journal;

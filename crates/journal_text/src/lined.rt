@@ -13,6 +13,7 @@ pub struct LinedHost<'a, H> {
 }
 
 impl<'a, H: Host> LinedHost<'a, H> {
+    /// Such a host over the one given, which is as it was.
     pub fn new(inner: &'a mut H) -> LinedHost<'a, H>
         ensures same_reference { result.inner.ghost_name ≡ inner.entry.ghost_name }
         ensures inner { result.inner.now ≡ inner.old }

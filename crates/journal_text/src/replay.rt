@@ -12,11 +12,14 @@ ghost use Rattle.host_link.specs.Logged.{due_by};
 ghost use Rattle.journal_text.specs.Allowed.{AreAnswered};
 ghost use Rattle.journal_text.specs.Replayed.{Replays, host_state, new_replay};
 
-use crate::asking::{list_of, spawn_ask};
-use crate::reply::{answer_to_kill, ended, got, kill_reply, reply_to, sent, spawned};
-use crate::told::Told;
+use crate::asking::spawn_ask;
+use crate::course::Course;
+use crate::reply::{ended, got, kill_reply, reply_to, sent, spawned};
 use ek_types::Mem;
-use host_link::{Answer, Ask, Ended, Exchanges, Got, Host, KillAnswer, SendAnswer, Spawned};
+use host_link::{
+    Ask, Ended, Exchanges, Got, Host, KillAnswer, SendAnswer, Spawned, answer_to_kill,
+    faults_after, list_of,
+};
 use std::alloc::Global;
 use std::marker::Model;
 
@@ -27,11 +30,8 @@ use std::marker::Model;
 #[derive(Drop)]
 pub struct Replay {
     list: Exchanges,
-    matched: usize,
-    strayed: bool,
+    course: Course,
     kills: Vec<bool>,
-    faults: u64,
-    told: Told,
 }
 
 impl Model for Replay {
@@ -45,41 +45,25 @@ impl Model for Replay {
 
     ghost view = { λ r. record {
       list = exchanges_of r.list;
-      matched = r.matched;
-      strayed = r.strayed;
+      matched = r.course.matched;
+      strayed = r.course.strayed;
       kills = r.kills.items;
-      faults = r.faults;
-      told = r.told.told;
+      faults = r.course.faults;
+      told = r.course.told.told;
     } };
 
-    ghost invariant = { λ r. (r.matched ≤ length (exchanges_of r.list)) ×
-        (r.told.due ≡ kills_due r.kills.items) × AreAnswered 0 (exchanges_of r.list) ×
-        (started_in r.matched (exchanges_of r.list) ≡ length r.kills.items) };
-}
-
-/// The count of faults after an answer.
-fn faults_after(faults: u64, answer: &Answer) -> u64
-    ensures { result ≡ (if is_fault (answer_of answer.now) then next_count faults else faults) }
-{
-    match answer {
-        Answer::Refused | Answer::Broken | Answer::Failed => faults.saturating_add(1),
-        _ => faults,
-    }
+    ghost invariant = { λ r. (r.course.matched ≤ length (exchanges_of r.list)) ×
+        (r.course.told.due ≡ kills_due r.kills.items) × AreAnswered 0 (exchanges_of r.list) ×
+        (started_in r.course.matched (exchanges_of r.list) ≡ length r.kills.items) };
 }
 
 /// Adds the child that was started, with no memory taken.
-fn add_child(kills: &mut Vec<bool>, told: &mut Told, spawned: Spawned)
-    requires kills { vec_len kills.old < vec_capacity kills.old }
-    requires told { 0 < told.old.places }
-    ensures kills { kills.new.items ≡ after_spawn kills.old.items spawned }
-    ensures told { told.new.told ≡ told.old.told }
-    ensures due { told.new.due ≡ told.old.due + due_by spawned }
+fn add_child(kills: &mut Vec<bool>, spawned: Spawned)
+    requires { vec_len kills.old < vec_capacity kills.old }
+    ensures { kills.new.items ≡ after_spawn kills.old.items spawned }
 {
     match spawned {
-        Spawned::Started(_) => {
-            kills.push_reserved(false);
-            told.owe();
-        }
+        Spawned::Started(_) => kills.push_reserved(false),
         Spawned::Refused => {}
     }
 }
@@ -94,11 +78,8 @@ impl Replay {
         let alloc = list.allocator();
         Replay {
             list,
-            matched: 0,
-            strayed: false,
+            course: Course::new(alloc),
             kills: Vec::new(alloc),
-            faults: 0,
-            told: Told::new(alloc),
         }
     }
 
@@ -107,25 +88,22 @@ impl Replay {
         ensures { self.new ≡ new_replay self.old.list }
     {
         let alloc = self.list.allocator();
-        self.matched = 0;
-        self.strayed = false;
+        self.course = Course::new(alloc);
         self.kills = Vec::new(alloc);
-        self.faults = 0;
-        self.told = Told::new(alloc);
     }
 
     /// How many exchanges of the list were answered, while the asks agreed.
     pub fn matched(&self) -> usize
         ensures { result ≡ self.now.matched }
     {
-        self.matched
+        self.course.matched
     }
 
     /// Whether an ask has differed or found the list used up.
     pub fn strayed(&self) -> bool
         ensures { result ≡ self.now.strayed }
     {
-        self.strayed
+        self.course.strayed
     }
 }
 
@@ -144,15 +122,19 @@ impl Host for Replay {
         ensures unchanged { OnErr result (self.new ≡ self.old) }
     {
         let ask = spawn_ask(self.list.allocator(), program, args)?;
-        let reply = reply_to(self.strayed, &self.list, self.matched, &ask, 0)?;
-        self.told.reserve(2)?;
+        let reply = reply_to(
+            self.course.strayed,
+            &self.list,
+            self.course.matched,
+            &ask,
+            0,
+        )?;
+        self.course.told.reserve(2)?;
         self.kills.reserve(1)?;
         let spawned = spawned(&reply.answer);
-        self.matched = reply.matched;
-        self.strayed = !reply.follows;
-        self.faults = faults_after(self.faults, &reply.answer);
-        self.told.put(ask, reply.answer);
-        add_child(&mut self.kills, &mut self.told, spawned);
+        self.course.keep(ask, reply);
+        self.course.told.owe(spawned);
+        add_child(&mut self.kills, spawned);
         Ok(spawned)
     }
 
@@ -168,13 +150,16 @@ impl Host for Replay {
         ensures unchanged { OnErr result (self.new ≡ self.old) }
     {
         let ask = Ask::Read(child);
-        self.told.reserve(1)?;
-        let reply = reply_to(self.strayed, &self.list, self.matched, &ask, into.len())?;
+        self.course.told.reserve(1)?;
+        let reply = reply_to(
+            self.course.strayed,
+            &self.list,
+            self.course.matched,
+            &ask,
+            into.len(),
+        )?;
         let got = got(&reply.answer, into);
-        self.matched = reply.matched;
-        self.strayed = !reply.follows;
-        self.faults = faults_after(self.faults, &reply.answer);
-        self.told.put(ask, reply.answer);
+        self.course.keep(ask, reply);
         Ok(got)
     }
 
@@ -187,13 +172,16 @@ impl Host for Replay {
         ensures unchanged { OnErr result (self.new ≡ self.old) }
     {
         let ask = Ask::End(child);
-        self.told.reserve(1)?;
-        let reply = reply_to(self.strayed, &self.list, self.matched, &ask, 0)?;
+        self.course.told.reserve(1)?;
+        let reply = reply_to(
+            self.course.strayed,
+            &self.list,
+            self.course.matched,
+            &ask,
+            0,
+        )?;
         let ended = ended(&reply.answer);
-        self.matched = reply.matched;
-        self.strayed = !reply.follows;
-        self.faults = faults_after(self.faults, &reply.answer);
-        self.told.put(ask, reply.answer);
+        self.course.keep(ask, reply);
         Ok(ended)
     }
 
@@ -206,13 +194,16 @@ impl Host for Replay {
         ensures unchanged { OnErr result (self.new ≡ self.old) }
     {
         let ask = Ask::Send(child, list_of(self.list.allocator(), bytes)?);
-        self.told.reserve(1)?;
-        let reply = reply_to(self.strayed, &self.list, self.matched, &ask, 0)?;
+        self.course.told.reserve(1)?;
+        let reply = reply_to(
+            self.course.strayed,
+            &self.list,
+            self.course.matched,
+            &ask,
+            0,
+        )?;
         let sent = sent(&reply.answer);
-        self.matched = reply.matched;
-        self.strayed = !reply.follows;
-        self.faults = faults_after(self.faults, &reply.answer);
-        self.told.put(ask, reply.answer);
+        self.course.keep(ask, reply);
         Ok(sent)
     }
 
@@ -224,16 +215,20 @@ impl Host for Replay {
         ensures unchanged { OnErr result (self.new ≡ self.old) }
     {
         let ask = Ask::Close(child);
-        self.told.reserve(1)?;
-        let reply = reply_to(self.strayed, &self.list, self.matched, &ask, 0)?;
-        self.matched = reply.matched;
-        self.strayed = !reply.follows;
-        self.told.put(ask, Answer::Closed);
+        self.course.told.reserve(1)?;
+        let reply = reply_to(
+            self.course.strayed,
+            &self.list,
+            self.course.matched,
+            &ask,
+            0,
+        )?;
+        self.course.keep(ask, reply);
         Ok(())
     }
 
     fn told(&self) -> Option<&Exchanges> {
-        Some(self.told.list())
+        Some(self.course.told.list())
     }
 
     fn kill(&mut self, child: u32) -> KillAnswer
@@ -242,13 +237,13 @@ impl Host for Replay {
             (slice_set self.old.kills child true) (Kill child) (kill_answer result) }
         ensures made { Replays self.old self.new (Kill child) 0 (kill_answer result) }
     {
-        let reply = kill_reply(self.strayed, &self.list, self.matched, child);
+        let reply = kill_reply(self.course.strayed, &self.list, self.course.matched, child);
         let answer = answer_to_kill(reply.killed);
-        self.matched = reply.matched;
-        self.strayed = !reply.follows;
-        self.faults = faults_after(self.faults, &answer);
+        self.course.matched = reply.matched;
+        self.course.strayed = !reply.follows;
+        self.course.faults = faults_after(self.course.faults, &answer);
         self.kills[child as usize] = true;
-        self.told.put_kill(Ask::Kill(child), answer);
+        self.course.told.put_kill(Ask::Kill(child), answer);
         reply.killed
     }
 }

@@ -184,12 +184,3 @@ fn killed(answer: &Answer) -> KillAnswer
         _ => KillAnswer::Failed,
     }
 }
-
-pub(crate) fn answer_to_kill(killed: KillAnswer) -> Answer
-    ensures { answer_of result ≡ kill_answer killed }
-{
-    match killed {
-        KillAnswer::Killed => Answer::Killed,
-        KillAnswer::Failed => Answer::Failed,
-    }
-}

@@ -46,6 +46,7 @@ impl Kernel {
         match RunProgram::new(self.state.alloc(), script, natives) {
             Ok(program) => run_script(&mut self.state, &program, script, host, sink),
             Err(_) => {
+                // A law of all runs of the machine, by which the contract speaks of undoing. It does nothing.
                 machine_laws::undo_returns();
                 Err(Stop::NoMemory)
             }

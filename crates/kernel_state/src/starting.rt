@@ -11,7 +11,8 @@ ghost use Rattle.plain_machine.specs.Calls.{started, with_editor, with_input_clo
 ghost use Rattle.plain_machine.specs.Calls.{with_process_buffer};
 ghost use Rattle.ek_types.specs.Listing.{items_of};
 ghost use Rattle.ek_call.specs.Meaning.{view};
-ghost use Rattle.kernel_steps.specs.Processes.{asked_once, counted};
+ghost use Rattle.plain_machine.specs.Waits.{asked_more};
+ghost use Rattle.kernel_steps.specs.Processes.{counted};
 ghost use Rattle.kernel_steps.specs.Waits.{Passes};
 ghost use Rattle.kernel_state.specs.Meaning.{state_of};
 ghost use Rattle.kernel_state.specs.Starting.{HasBuffer, HasPlace, IsPlaceFor, MayMake, MayStart};
@@ -33,7 +34,7 @@ use std::mem;
 /// Counts an exchange.
 pub(crate) fn count_asked(kernel: &mut KernelState)
     requires { may_ask (state_of kernel.old) ≡ true }
-    ensures { state_of kernel.new ≡ asked_once (state_of kernel.old) }
+    ensures { state_of kernel.new ≡ asked_more (state_of kernel.old) }
 {
     kernel.asked += 1;
 }
@@ -53,7 +54,7 @@ pub(crate) fn note_closed(kernel: &mut KernelState, p: u32)
     requires asked { may_ask (state_of kernel.old) ≡ true }
     requires made { p < length (state_of kernel.old).processes }
     ensures { state_of kernel.new ≡ change_process p with_input_closed
-        (asked_once (state_of kernel.old)) }
+        (asked_more (state_of kernel.old)) }
 {
     kernel.asked += 1;
     kernel.processes.close_input(p);

@@ -17,7 +17,8 @@ use Rattle.host_link.specs.Hosts.{send_answer}
 use Rattle.host_link.specs.declared.host.SendAnswer.{SendAnswer}
 use Rattle.host_link.specs.declared.host.SendAnswer.TheVariants as sent
 use Rattle.kernel_steps.specs.Outside.{deepest, Past, outside}
-use Rattle.kernel_steps.specs.Processes.{asked_once, counted, bytes_of, words_of}
+use Rattle.plain_machine.specs.Waits.{asked_more}
+use Rattle.kernel_steps.specs.Processes.{counted, bytes_of, words_of}
 use Rattle.kernel_steps.specs.Waits.{Passes}
 use Rattle.kernel_steps.specs.Work.{working, at_item, reply_item}
 use Rattle.kernel_steps.specs.Worlds.{World, Stands, Hosted, Keeps, kept_state}
@@ -75,7 +76,7 @@ module _ (program : Program) (w : World) (args : List Value) (target : Target) w
     asked = omega (arith, ap (λ (t : State). t.asked) now);
   }
 
-  pub asked_keeps : (known : State) (kills : List Bool) (past : Past) → known ≡ asked_once w.state → kills ≡ w.kills → Hosted w.state.processes w.kills → Keeps w (then known kills past)
+  pub asked_keeps : (known : State) (kills : List Bool) (past : Past) → known ≡ asked_more w.state → kills ≡ w.kills → Hosted w.state.processes w.kills → Keeps w (then known kills past)
   asked_keeps known kills past now same hosted = record {
     hosted = subst (λ k. Hosted known.processes k) (sym same) (subst (λ (t : State). Hosted t.processes w.kills) (sym now) hosted);
     count = omega (arith, ap length same, ap (λ (t : State). length t.processes) now);
@@ -95,13 +96,13 @@ module _ (program : Program) (w : World) (args : List Value) (target : Target) w
   closed_went p passes is closed = went_silently program w w.state (λ s. s) (at_item (MakeCall ProcessSendEof args target)) (at_item (GiveAnswer (TheProcess p) target)) (λ s h. h) (λ s rest h. goes (eof_step s rest p true passes h is closed) stays)
 
   abbrev pub input_closed : ℕ → State → State
-  input_closed p s = change_process p with_input_closed (asked_once s)
+  input_closed p s = change_process p with_input_closed (asked_more s)
 
   pub closes_went : (p child : ℕ) (known : State) (kills : List Bool) (past : Past) → Passes program w.state ProcessSendEof args → p ≡ process_of w.state (arg args 0) → is_closed w.state (process_of w.state (arg args 0)) ≡ false → child ≡ child_of w.state p →
       known ≡ input_closed p w.state → AddsOne w.outside.past past (Close child) Closed → Went program w (then known kills past) (at_item (MakeCall ProcessSendEof args target)) (at_item (reply_item (Answered (TheProcess p)) target))
   closes_went p child known kills past passes is unclosed number now exchange =
       went_asked program w known kills past (Close child) Closed (input_closed p) (at_item (MakeCall ProcessSendEof args target)) (at_item (GiveAnswer (TheProcess p) target)) exchange
-      (λ s h. now ∙ ap (input_closed p) h ∙ changed_kept with_input_closed input_mild p (asked_once s))
+      (λ s h. now ∙ ap (input_closed p) h ∙ changed_kept with_input_closed input_mild p (asked_more s))
       (λ s rest h. record {
         next = closed_answer s target rest p;
         steps = eof_step s rest p false passes h is unclosed ∙ ap (λ c. Asks (Close c) (closed_answer s target rest p)) (ap (child_of s) (is ∙ process_alike w.state s (arg args 0) h) ∙ sym (child_alike s h) ∙ ap (child_of w.state) (sym is) ∙ sym number);
@@ -110,7 +111,7 @@ module _ (program : Program) (w : World) (args : List Value) (target : Target) w
 
   pub closed_keeps : (p : ℕ) (known : State) (kills : List Bool) (past : Past) → known ≡ input_closed p w.state → kills ≡ w.kills → Hosted w.state.processes w.kills → Keeps w (then known kills past)
   closed_keeps p known kills past now same hosted =
-      let t = asked_once w.state in record {
+      let t = asked_more w.state in record {
         hosted = subst (λ k. Hosted known.processes k) (sym same) (subst (λ (t : State). Hosted t.processes w.kills) (sym now) (changed_hosted with_input_closed input_mild p t w.kills hosted));
         count = omega (arith, ap length same, ap (λ (t : State). length t.processes) now, changed_length with_input_closed input_mild p t);
         depth = ap (λ (t : State). t.depth) now ∙ changed_depth with_input_closed input_mild p t;
@@ -122,10 +123,10 @@ module _ (program : Program) (w : World) (args : List Value) (target : Target) w
   abbrev start_ask : Ask
   start_ask = Spawn (bytes_of (arg args 2)) (words_of args)
 
-  pub refused_start : (known : State) (kills : List Bool) (past : Past) → Passes program w.state StartProcess args → known ≡ asked_once w.state → AddsOne w.outside.past past (Spawn (bytes_of (arg args 2)) (words_of args)) model.Refused →
+  pub refused_start : (known : State) (kills : List Bool) (past : Past) → Passes program w.state StartProcess args → known ≡ asked_more w.state → AddsOne w.outside.past past (Spawn (bytes_of (arg args 2)) (words_of args)) model.Refused →
       Went program w (then known kills past) (at_item (MakeCall StartProcess args target)) (at_item (Refuse SpawnFailed))
   refused_start known kills past passes now exchange =
-      went_asked program w known kills past start_ask model.Refused asked_once (at_item (MakeCall StartProcess args target)) (at_item (Refuse SpawnFailed)) exchange (λ s h. now ∙ ap asked_once h)
+      went_asked program w known kills past start_ask model.Refused asked_more (at_item (MakeCall StartProcess args target)) (at_item (Refuse SpawnFailed)) exchange (λ s h. now ∙ ap asked_more h)
       (λ s rest h. record { next = spawned s target rest (arg args 0) (arg args 1); steps = effect_step program w StartProcess args target refl passes s rest h; answers = refl })
 
   abbrev started_by : (child : ℕ) → State → State

@@ -44,10 +44,6 @@ bytes_of v = encoded (string_of v)
 abbrev pub words_of : List Value → List (List ℕ)
 words_of args = map bytes_of (drop 3 args)
 
--- an exchange was made
-abbrev pub asked_once : State → State
-asked_once s = record s { asked = s.asked + 1 }
-
--- and so many bytes sent
+-- an exchange was made, and so many bytes sent
 abbrev pub counted : (sent : ℕ) → State → State
 counted n s = record s { asked = s.asked + 1; sent = s.sent + n }

@@ -24,7 +24,8 @@ ghost use Rattle.plain_machine.specs.Items.{Waiting};
 ghost use Rattle.plain_machine.specs.Refusals.{may_ask, most_sent};
 ghost use Rattle.plain_machine.specs.State.{change_process};
 ghost use Rattle.plain_machine.specs.Calls.{started, with_input_closed};
-ghost use Rattle.kernel_steps.specs.Processes.{IsSilent, asked_once, bytes_of, counted, set_by};
+ghost use Rattle.plain_machine.specs.Waits.{asked_more};
+ghost use Rattle.kernel_steps.specs.Processes.{IsSilent, bytes_of, counted, set_by};
 ghost use Rattle.kernel_steps.specs.Processes.{told_by, words_of};
 ghost use Rattle.editor_model.specs.Values.{StartProcess};
 ghost use Rattle.ek_types.specs.Io.{SinkState};
@@ -399,7 +400,7 @@ pub trait Kernel {
     /// Counts an exchange.
     fn count_asked(&mut self)
         requires { may_ask (state self.old) ≡ true }
-        ensures { state self.new ≡ asked_once (state self.old) };
+        ensures { state self.new ≡ asked_more (state self.old) };
 
     /// Counts an exchange that sent so many bytes.
     fn count_sent(&mut self, bytes: usize)
@@ -411,7 +412,7 @@ pub trait Kernel {
     fn note_closed(&mut self, p: u32)
         requires asked { may_ask (state self.old) ≡ true }
         requires made { p < length (state self.old).processes }
-        ensures { state self.new ≡ change_process p with_input_closed (asked_once (state self.old)) };
+        ensures { state self.new ≡ change_process p with_input_closed (asked_more (state self.old)) };
 
     /// The program that a start asks for, and its arguments.
     fn command<P: Program>(&self, program: &P, args: &Values) -> Mem<Command>

@@ -9,6 +9,7 @@ use ek_types::{NoMemory, SinkFault};
 pub enum Stop {
     /// A line couldn't be written.
     WriteFault,
+    /// Memory was wanting.
     NoMemory,
 }
 
@@ -16,7 +17,9 @@ pub enum Stop {
 /// run is broken off.
 #[derive(Clone, Copy, Debug, PartialEq, Eq)]
 pub enum Halt {
+    /// A fault that was told.
     Fault(Fault),
+    /// The run is broken off.
     Stop(Stop),
 }
 

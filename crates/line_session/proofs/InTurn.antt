@@ -9,7 +9,8 @@ use Rattle.plain_machine.specs.Shipped.{NativeCall, line, Anything, along}
 use Rattle.ek_call.specs.Meaning.{reply_of}
 use Rattle.ek_call.specs.declared.reply.Reply as written
 use Rattle.line_session.specs.Handlers.{Calls, in_turn, nothing, to_the_end, put_or_stop, session_filter, before, to_the_last, start_again, behind_last, session_sentinel}
-use Rattle.line_session.specs.Replies.{is_answer, has_answers, answer_of, replies_of}
+use Rattle.handler_code.specs.Calls.{answer_of}
+use Rattle.line_session.specs.Replies.{is_answer, has_answers, replies_of}
 
 abbrev After : Type 0
 After = List Value → List Reply → Option NativeCall

@@ -1,10 +1,11 @@
 -- The arguments and replies of a native in the code, and which replies are answers.
 use Rattle.std.specs.Prelude.{ℕ, zero, suc, Bool, true, false, ◌&&◌, List, [], ◌∷◌, map}
-use Rattle.editor_model.specs.Values.{Value, Nil, Reply, Answered, Refused}
+use Rattle.editor_model.specs.Values.{Value, Reply, Answered, Refused}
 use Rattle.editor_model.specs.Arguments.{arg}
 use Rattle.ek_types.specs.Listing.{items_of}
 use Rattle.ek_types.specs.declared.list.ListOf.{ListOf}
 use Rattle.ek_call.specs.Meaning.{view, reply_of}
+use Rattle.handler_code.specs.Calls.{answer_of}
 use Rattle.ek_call.specs.declared.reply.Reply as written
 use Rattle.ek_call.specs.declared.value.Value as written_value
 
@@ -30,11 +31,6 @@ abbrev pub has_answers : (count : ℕ) → List Reply → Bool
 has_answers zero past = true
 has_answers (suc n) [] = false
 has_answers (suc n) (r ∷ past) = is_answer r && has_answers n past
-
--- the answer of a reply, and nil where it was refused
-abbrev pub answer_of : Reply → Value
-answer_of (Answered v) = v
-answer_of (Refused f) = Nil
 
 abbrev pub answers_of : List written.Reply → List Value
 answers_of past = map answer_of (replies_of past)

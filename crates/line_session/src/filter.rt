@@ -4,12 +4,11 @@ ghost use Rattle.handler_code.specs.Calls.{asked_of};
 ghost use Rattle.line_session.specs.Handlers.{session_filter, put_or_stop};
 ghost use Rattle.line_session.specs.Replies.{replies_of, process_of, told_of};
 
-use crate::asking::{ask_with, copied};
 use crate::output::{stop, to_the_end};
 use crate::replies::{has_answers, is_answer};
 use ek_call::{Primitive, Reply, Values, argument};
 use ek_types::Mem;
-use handler_code::Next;
+use handler_code::{Next, ask_with, copied};
 
 /// What the filter does next: it puts the text at the end of the process's buffer.
 pub(crate) fn next_call(args: &Values, past: &[Reply]) -> Mem<Next>

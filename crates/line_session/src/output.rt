@@ -5,11 +5,11 @@ ghost use Rattle.line_session.specs.Handlers as handlers;
 ghost use Rattle.line_session.specs.Handlers.{in_turn, nothing};
 ghost use Rattle.line_session.specs.Replies.{replies_of, process_of};
 
-use crate::asking::{ask, ask_with, ask_with_two, copied};
+use crate::asking::ask_with_two;
 use crate::replies::{answer, are_answers};
 use ek_call::{Primitive, Reply, Value, Values, argument};
 use ek_types::Mem;
-use handler_code::Next;
+use handler_code::{Next, ask, ask_with, copied};
 
 /// The call that comes next on the way to the end of the buffer.
 pub(crate) fn to_the_end(args: &Values, past: &[Reply]) -> Mem<Next>

@@ -10,11 +10,11 @@ ghost use Rattle.line_session.specs.Handlers as handlers;
 ghost use Rattle.line_session.specs.Handlers.{in_turn, nothing};
 ghost use Rattle.line_session.specs.Replies.{values_of, replies_of, answers_of, process_of, told_of};
 
-use crate::asking::{ask_with, ask_with_two, copied};
+use crate::asking::ask_with_two;
 use crate::replies::{answer, are_answers};
 use ek_call::{Primitive, Reply, Value, Values, argument};
 use ek_types::{Chars, Copied, Mem, Piece};
-use handler_code::{NativeCall, Next};
+use handler_code::{NativeCall, Next, ask_with, copied};
 use std::alloc::Global;
 
 /// The child is started again unless it ended with code 0, or was restarted as often as it may be.

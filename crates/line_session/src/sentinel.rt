@@ -9,13 +9,13 @@ ghost use Rattle.line_session.specs.Handlers as handlers;
 ghost use Rattle.line_session.specs.Handlers.{in_turn, nothing, to_the_last, session_sentinel};
 ghost use Rattle.line_session.specs.Replies.{values_of, replies_of, answers_of, process_of, told_of};
 
-use crate::asking::{ascii, ask_with, copied};
+use crate::asking::ascii;
 use crate::output::{stop, to_the_end};
 use crate::replies::{answer, are_answers, has_answers, is_answer};
 use crate::restarting::restart;
 use ek_call::{Primitive, Reply, Value, Values};
 use ek_types::Mem;
-use handler_code::Next;
+use handler_code::{Next, ask_with, copied};
 
 /// What the sentinel does next: it closes the last line, and starts the child again. `command` has the arguments of the start.
 pub(crate) fn next_call(limit: u32, command: &Values, args: &Values, past: &[Reply]) -> Mem<Next>

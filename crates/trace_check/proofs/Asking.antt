@@ -15,7 +15,8 @@ use Rattle.plain_machine.specs.Calls.{on, silent, send, sent_answer, send_eof, c
 use Rattle.plain_machine.specs.Step.{step}
 use Rattle.process_table.specs.Table.{kept}
 use Rattle.kernel_steps.specs.Outside.{deepest}
-use Rattle.kernel_steps.specs.Processes.{bytes_of, words_of, asked_once, counted}
+use Rattle.plain_machine.specs.Waits.{asked_more}
+use Rattle.kernel_steps.specs.Processes.{bytes_of, words_of, counted}
 use Rattle.kernel_steps.specs.Waits.{Passes}
 use Rattle.kernel_steps.specs.Work.{working}
 use Rattle.kernel_steps.specs.Worlds.{Stands, kept_state}
@@ -158,11 +159,11 @@ module _ (known : State) (target : Target) (rest : List Item) (name b : Value) (
         ∙ ap (λ l. Some (silent (started s name b child) l)) (sym e),
   )
 
-pub close_taken : (known known2 : State) (target : Target) (rest left : List Item) (p : ℕ) → known2 ≡ change_process p with_input_closed (asked_once known) → left ≡ GiveAnswer (TheProcess p) target ∷ rest → (s : State) → Stands known s →
+pub close_taken : (known known2 : State) (target : Target) (rest left : List Item) (p : ℕ) → known2 ≡ change_process p with_input_closed (asked_more known) → left ≡ GiveAnswer (TheProcess p) target ∷ rest → (s : State) → Stands known s →
     (t : State) × Stands known2 t × (closed_answer s target rest p Closed ≡ Some (silent t left))
 close_taken known known2 target rest left p now e s h =
-    let closes : State → State = λ t. change_process p with_input_closed (asked_once t) in
-    (closes s, now ∙ ap closes h ∙ changed_kept with_input_closed input_mild p (asked_once s), ap (λ l. Some (silent (closes s) l)) (sym e))
+    let closes : State → State = λ t. change_process p with_input_closed (asked_more t) in
+    (closes s, now ∙ ap closes h ∙ changed_kept with_input_closed input_mild p (asked_more s), ap (λ l. Some (silent (closes s) l)) (sym e))
 
 -- CHILDREN THAT ARE THERE
 abbrev has_child : ℕ → List Process → Bool

@@ -30,7 +30,8 @@ Uses journal old new (x ∷ []) = (slice_get journal old ≡ Some x) × (new ≡
 Uses journal old new _ = ⊥
 
 -- One step was made; or the run had ended; or its next step asks and the journal is used up; or the next exchange isn't the one
--- that this step makes. The last three change nothing.
+-- that this step makes. The last three change nothing. Behind a fault the item is lost, its line may stand there in part, and nothing
+-- more is said of the machine.
 abbrev pub Turns : Result Turn StepFault → Program → (journal : List Exchange) → (old new : Seen) → (sink sink2 : SinkState) → Type 0
 Turns (Ok turn.Went) program journal old new sink sink2 = (made : List Exchange) × Uses journal old.used new.used made × Steps program old.state new.state old.work new.work made sink sink2
 Turns (Ok turn.Ended) program journal old new sink sink2 = (old.work ≡ []) × (new ≡ old) × (sink2 ≡ sink)

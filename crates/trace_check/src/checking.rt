@@ -27,7 +27,7 @@ use std::alloc::Global;
 pub enum Verdict {
     /// The claimed lines are those of the run.
     Yes,
-    /// The run doesn't end with the journal used up. So many of its exchanges are used by the run as far as it goes on with it.
+    /// The run doesn't end with the whole journal used. The number is how many of its first exchanges the run goes through.
     Strayed(u32),
     /// The claimed lines differ from those of the run, first in this line, from 1.
     Differs(u32),

@@ -247,7 +247,8 @@ impl<M: Stepped> Machine<M> {
         kernel
     }
 
-    /// Makes one step of the machine and writes its line, if it has one. `Ended`, `Waits` and `Off` change nothing.
+    /// Makes one step of the machine and writes its line, if it has one. `Ended`, `Waits` and `Off` change nothing. Behind an
+    /// error the item is lost and its line may stand there in part: only `into_kernel` is called then.
     pub fn step<P: Program, K: Sink>(
         &mut self,
         program: &P,

@@ -19,6 +19,7 @@ pub enum Turn {
 pub enum StepFault {
     /// A line couldn't be written.
     Sink,
+    /// Memory was wanting.
     NoMemory,
 }
 

@@ -6,7 +6,7 @@ use Rattle.plain_machine.specs.Calls.{silent}
 use Rattle.plain_machine.specs.Items.{Refuse}
 use Rattle.ek_types.specs.Listing.{items_of}
 use Rattle.ek_call.specs.Meaning.{view}
-use Rattle.kernel_steps.specs.Processes.{asked_once}
+use Rattle.plain_machine.specs.Waits.{asked_more}
 use Rattle.kernel_steps.proofs.Passing.{starts_may}
 use Rattle.trace_check.specs.Meaning.{list_of, target_of}
 use Rattle.trace_check.proofs.Asking.{other_spawned}
@@ -19,7 +19,7 @@ pub count_asked-requires : goal.count_asked-requires
 count_asked-requires g c = starts_may (g.P.Program.meant c.args.program.now) (g.M.Kernel.state c.args.kernel.now) (map view (items_of c.args.args)) c.requires.passes
 
 pub returns-in_ok-put-in-Refused : goal.returns-in_ok-put-in-Refused
-returns-in_ok-put-in-Refused g c = rw c.in-Refused.is (λ s h. (asked_once s, c.count_asked.ensures ∙ ap asked_once h, ap (λ l. Some (silent (asked_once s) l)) (sym c.in_ok-put-in-Refused.ensures.ok)))
+returns-in_ok-put-in-Refused g c = rw c.in-Refused.is (λ s h. (asked_more s, c.count_asked.ensures ∙ ap asked_more h, ap (λ l. Some (silent (asked_more s) l)) (sym c.in_ok-put-in-Refused.ensures.ok)))
 
 pub returns-in_default : goal.returns-in_default
 returns-in_default g c =
