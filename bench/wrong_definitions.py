@@ -82,9 +82,9 @@ CHANGES = [
     (
         "sentinel entered before the tail",
         "plain_machine/specs/Waits.antt",
-        "(entry_of s p x (more_characters (decoded x.coding (read_so_far x)) (all_decoded x.coding (read_so_far x))) (Wait w target ∷ rest))",
+        "(entry_of s p x (more_characters (decoded x.coding (read_so_far x)) (all_decoded x.coding (read_so_far x)))\n    (Wait w target ∷ rest))",
         "(Enter (OfSentinel p) x.sentinel (TheProcess p ∷ Str [] ∷ [])"
-        " ∷ entry_of s p x (more_characters (decoded x.coding (read_so_far x)) (all_decoded x.coding (read_so_far x))) (Wait w target ∷ rest))",
+        " ∷ entry_of s p x (more_characters (decoded x.coding (read_so_far x)) (all_decoded x.coding (read_so_far x)))\n    (Wait w target ∷ rest))",
         ["sentinels_come_last", "sentinels_come_after_output"],
     ),
     (
@@ -111,8 +111,8 @@ CHANGES = [
     (
         "sends not counted",
         "plain_machine/specs/Calls.antt",
-        "sent_answer s target rest size Sent = Some (silent (record s { asked = s.asked + 1; sent = s.sent + size })",
-        "sent_answer s target rest size Sent = Some (silent (record s { sent = s.sent + size })",
+        "sent_answer s target rest size Sent =\n    Some (silent (record s { asked = s.asked + 1; sent = s.sent + size })",
+        "sent_answer s target rest size Sent =\n    Some (silent (record s { sent = s.sent + size })",
         ["exchanges_stay_few"],
     ),
     (

@@ -63,8 +63,8 @@ COMMIT_RULES = [
     (
         "change made in a buffer that a hook function killed",
         COMMITS,
-        "commit_tests e id (Put piece all point_after widen mark) = refuse BufferKilled (is_live e id) ∷ must_have_room",
-        "commit_tests e id (Put piece all point_after widen mark) = must_have_room",
+        "commit_tests e id (Put piece all point_after widen mark) =\n    refuse BufferKilled (is_live e id) ∷ must_have_room",
+        "commit_tests e id (Put piece all point_after widen mark) =\n    must_have_room",
         ["HookRows.hook_kills_the_buffer_holds"],
     ),
     (
@@ -213,15 +213,15 @@ HOOK_RULES = [
     (
         "fault behind a change leaves the list of after-change functions",
         HANDLING,
-        "ended_handler (OfAfter b) true s rest = record { state = if_live s b (set_hook_list b after_change_functions [] s); work",
-        "ended_handler (OfAfter b) true s rest = record { state = s; work",
+        "ended_handler (OfAfter b) true s rest =\n    record { state = if_live s b (set_hook_list b after_change_functions [] s); work",
+        "ended_handler (OfAfter b) true s rest =\n    record { state = s; work",
         ["HookRows.function_behind_a_change_ended_by_a_fault_holds"],
     ),
     (
         "fault before a change leaves the list of before-change functions",
         HANDLING,
-        "ended_handler (OfBefore b) true s rest = record { state = if_live s b (set_hook_list b before_change_functions [] s); work",
-        "ended_handler (OfBefore b) true s rest = record { state = s; work",
+        "ended_handler (OfBefore b) true s rest =\n    record { state = if_live s b (set_hook_list b before_change_functions [] s); work",
+        "ended_handler (OfBefore b) true s rest =\n    record { state = s; work",
         ["HookRows.hook_ended_by_a_fault_holds"],
     ),
     (
@@ -248,8 +248,8 @@ HOOK_RULES = [
     (
         "functions behind a change are those before it",
         FORMS,
-        "(hooks_of s.hooks c.buffer).after (at_place from",
-        "(hooks_of s.hooks c.buffer).before (at_place from",
+        "(hooks_of s.hooks c.buffer).after\n    (at_place from",
+        "(hooks_of s.hooks c.buffer).before\n    (at_place from",
         ["HookRows.after_change_arguments_holds"],
     ),
 ]
@@ -373,8 +373,8 @@ WAIT_RULES = [
     (
         "refused send forgets the bytes that were sent",
         CALLS,
-        "sent_answer s target rest size Broken = Some (silent (record s { asked = s.asked + 1; sent = s.sent + size })",
-        "sent_answer s target rest size Broken = Some (silent (record s { asked = s.asked + 1; sent = 0 })",
+        "sent_answer s target rest size Broken =\n    Some (silent (record s { asked = s.asked + 1; sent = s.sent + size })",
+        "sent_answer s target rest size Broken =\n    Some (silent (record s { asked = s.asked + 1; sent = 0 })",
         ["refusals_leave_the_state"],
     ),
     (
@@ -415,8 +415,8 @@ WAIT_RULES = [
     (
         "one round fewer",
         WAITS,
-        "wait_case false true [] (p ∷ more) (suc rounds) s w target rest = on s (Wait (record w { rounds = rounds; asking = p ∷ more })",
-        "wait_case false true [] (p ∷ more) (suc rounds) s w target rest = on s (Wait (record w { rounds = 0; asking = p ∷ more })",
+        "wait_case false true [] (p ∷ more) (suc rounds) s w target rest =\n    on s (Wait (record w { rounds = rounds; asking = p ∷ more })",
+        "wait_case false true [] (p ∷ more) (suc rounds) s w target rest =\n    on s (Wait (record w { rounds = 0; asking = p ∷ more })",
         ["WaitRows.rounds_and_just_this_one_holds"],
     ),
     (
@@ -457,8 +457,8 @@ WAIT_RULES = [
     (
         "bytes sent into a broken pipe not counted",
         CALLS,
-        "sent_answer s target rest size Broken = Some (silent (record s { asked = s.asked + 1; sent = s.sent + size })",
-        "sent_answer s target rest size Broken = Some (silent (record s { asked = s.asked + 1 })",
+        "sent_answer s target rest size Broken =\n    Some (silent (record s { asked = s.asked + 1; sent = s.sent + size })",
+        "sent_answer s target rest size Broken =\n    Some (silent (record s { asked = s.asked + 1 })",
         ["LimitRows.all_bytes_sent_holds"],
     ),
     (
@@ -502,7 +502,7 @@ UNDO_RULES = [
     (
         "insertions one behind the other are two records",
         UNDO,
-        "| Inserted b p ↦ if p == from then record e { what = Inserted b to } ∷ entries else record",
+        "| Inserted b p ↦\n      if p == from then record e { what = Inserted b to } ∷ entries else\n      record",
         "| Inserted b p ↦ record",
         ["UndoExamples.merged_insertions"],
     ),

@@ -13,7 +13,6 @@ use Rattle.text_model.proofs.Lists.{set_same, set_other}
 use Rattle.editor_model.specs.Editor as shown
 use Rattle.editor_model.specs.Editor.{Editor, Live, live, change_site}
 use Rattle.text_pool.specs.Pool.{Pooled}
-use Rattle.text_pool.specs.Pool as pool
 use Rattle.gap_text.specs.Blocks.{Apart}
 use Rattle.gap_text.specs.Text.{Gapped, characters, LiesIn}
 use Rattle.gap_text.proofs.BlockLemmas.{apart_sym, apart_nil}
@@ -36,6 +35,11 @@ pub none_here : (buffers : List (Option Named)) (id : ℕ) (o : Option Named) �
 none_here [] id o h e s = cc
 none_here (x ∷ buffers) zero o h e s = let k : is_some x ≡ false = ap is_some (sym e ∙ s) in cc
 none_here (x ∷ buffers) (suc id) o h e s = none_here buffers id o h e s
+
+pub held : (buffers : List (Option Named)) (id : ℕ) (o : Option Named) (n : Named) → Lives buffers id n → o ≡ get_or buffers id o → o ≡ Some n
+held [] id o n h e = cc
+held (x ∷ buffers) zero o n h e = cc
+held (x ∷ buffers) (suc id) o n h e = held buffers id o n h e
 
 pub live_changed : (buffers : List (Option Named)) (id : ℕ) (new : Named) (j : ℕ) → is_live buffers j ≡ true → is_live (slice_set buffers id (Some new)) j ≡ true
 live_changed [] id new j h = h
@@ -304,11 +308,10 @@ pub kept_with : (k : Kept) (new : Named) → IsKept k → length k.buffers < 256
     → IsKept (record k { buffers = k.buffers ++ Some new ∷ [] })
 kept_with k new kept few free blocks sets lies = record { all = all_with k new kept.all few free blocks sets lies; here = live_behind k.buffers (Some new) k.current kept.here }
 
-pub editor_with : (k : Kept) (name : List Ch) (b : Stored) → buffer_of k.pool b ≡ shown.empty_buffer → editor_of (record k { buffers = k.buffers ++ Some (record { name = name; buffer = b; read_only = false }) ∷ [] }) ≡ shown.with_buffer name (editor_of k)
-editor_with k name b e =
+pub editor_with : (k : Kept) (name : List Ch) (new : Named) → live_of k.pool new ≡ shown.new_live name → editor_of (record k { buffers = k.buffers ++ Some new ∷ [] }) ≡ shown.with_buffer name (editor_of k)
+editor_with k name new e =
     ap (λ (bs : List (Option Live)). let x : Editor = record (editor_of k) { buffers = bs } in x)
-    (map-append (option_map (live_of k.pool)) k.buffers (Some (record { name = name; buffer = b; read_only = false }) ∷ [])
-    ∙ ap (λ (c : Buffer). let l : Live = record { name = name; buffer = c; read_only = false } in map (option_map (live_of k.pool)) k.buffers ++ Some l ∷ []) e)
+    (map-append (option_map (live_of k.pool)) k.buffers (Some new ∷ []) ∙ ap (λ (l : Live). map (option_map (live_of k.pool)) k.buffers ++ Some l ∷ []) e)
 
 -- ANOTHER NAME
 pub editor_renamed : (k : Kept) (id : ℕ) (n : Named) (name : List Ch) → Lives k.buffers id n → editor_of (record k { buffers = slice_set k.buffers id (Some (record n { name = name })) }) ≡ shown.renamed id name (editor_of k)

@@ -1,5 +1,5 @@
 -- A buffer is taken out, and the others stay.
-use Rattle.std.proofs.Common.{◌≡◌, ◌≢◌, ℕ, zero, suc, ◌+◌, ◌<◌, ◌≤◌, Bool, true, false, List, [], ◌∷◌, ◌++◌, All, Option, Some, None, length, map, drop, get_or, refl, sym, ap, subst, ◌∙◌, inl, inr, arith}
+use Rattle.std.proofs.Common.{◌≡◌, ◌≢◌, ℕ, zero, suc, ◌+◌, ◌<◌, ◌≤◌, Bool, true, false, List, [], ◌∷◌, ◌++◌, Option, Some, None, length, map, drop, get_or, refl, sym, ap, subst, ◌∙◌, inl, inr, arith}
 use Rattle.std.specs.Prelude.{slice_get, slice_set, option_map, unwrap_or, is_some, IfSome, ◌==◌, if◌then◌else◌}
 use Rattle.std.specs.List.{zip}
 use Rattle.std.proofs.lemmas.Bool.{cases_eq}
@@ -17,11 +17,10 @@ use Rattle.text_pool.specs.Pool.{Pooled}
 use Rattle.text_pool.specs.Pool as pool
 use Rattle.gap_text.specs.Blocks.{SameOutside}
 use Rattle.gap_text.specs.Text.{LiesIn}
-use Rattle.gap_text.proofs.Elsewhere.{SameText, text_elsewhere, same_characters}
-use Rattle.buffer_core.specs.Meaning.{Stored, buffer_of}
+use Rattle.gap_text.proofs.Elsewhere.{text_elsewhere, same_characters}
+use Rattle.buffer_core.specs.Meaning.{buffer_of}
 use Rattle.buffer_core.specs.Standing.{AreWithin, MarkerWithin, OverlayWithin}
-use Rattle.buffer_table.specs.Kept.{Named, Kept, Lives, AreKept, IsKept, is_live, nobody, named_at, live_of, editor_of, blocks_in}
-use Rattle.buffer_table.specs.Standing.{StandIn}
+use Rattle.buffer_table.specs.Kept.{Named, Kept, Lives, AreKept, IsKept, is_live, nobody, named_at, live_of, editor_of, blocks_in, blocks_of}
 use Rattle.buffer_table.specs.Places.{gone}
 use Rattle.buffer_table.proofs.StandLemmas.{stand_left}
 use Rattle.buffer_table.proofs.KeptLemmas.{map_others, all_with, editor_with, live_last}
@@ -69,6 +68,13 @@ blocks_without (Some m ∷ buffers) (suc id) n h = let r : blocks_in (slice_set 
 pub record GivesBack (blocks : List ℕ) (old new : Pooled) : Type 0 where
   pub others : SameOutside blocks old new
   pub count : pool.live new + length blocks ≡ pool.live old
+
+pub gives_back : (entry : Option Named) (n : Named) (old new : Pooled) → entry ≡ Some n → SameOutside (blocks_of entry) old new → pool.live new + length (blocks_of entry) ≡ pool.live old → GivesBack n.buffer.text.blocks old new
+gives_back entry n old new is others count =
+    record { others = subst (λ (o : Option Named). SameOutside (blocks_of o) old new) is others; count = subst (λ (o : Option Named). pool.live new + length (blocks_of o) ≡ pool.live old) is count }
+
+pub entry_lies : (k : Kept) (entry : Option Named) (id : ℕ) (n : Named) → IsKept k → Lives k.buffers id n → entry ≡ Some n → IfSome entry (λ n. LiesIn k.pool n.buffer.text)
+entry_lies k entry id n kept lives is = subst (λ (o : Option Named). IfSome o (λ n. LiesIn k.pool n.buffer.text)) (sym is) (kept.all.lie id n lives)
 
 abbrev pub without : Kept → (id : ℕ) → Pooled → Kept
 without k id new = record k { buffers = slice_set k.buffers id None; marks = leave_buffer id k.marks; pool = new }
@@ -167,11 +173,6 @@ no_others k id none j m l =
     none_left 0 (slice_set (editor_of k).buffers id None) (no_first (live_from 0 (slice_set (editor_of k).buffers id None)) none) j (live_of k.pool m)
     (ap (λ bs. slice_get bs j) (sym (map-set (option_map (live_of k.pool)) k.buffers id None)) ∙ slice_get-map (option_map (live_of k.pool)) (slice_set k.buffers id None) j ∙ ap (option_map (option_map (live_of k.pool))) l)
 
-pub before_too : (buffers : List (Option Named)) (new n : Named) (id : ℕ) → is_live buffers id ≡ true → Lives (buffers ++ Some new ∷ []) id n → Lives buffers id n
-before_too [] new n id h l = cc
-before_too (x ∷ buffers) new n zero h l = l
-before_too (x ∷ buffers) new n (suc id) h l = before_too buffers new n id h l
-
 -- a buffer in the place of the only one
 abbrev pub instead : Kept → (id : ℕ) → Named → Pooled → Kept
 instead k id made new = record k { buffers = slice_set (k.buffers ++ Some made ∷ []) id None; current = length k.buffers; marks = leave_buffer id k.marks; pool = new }
@@ -190,15 +191,14 @@ kept_instead k id n made new kept lives none g few blocks sets lies =
       here = subst (λ i. is_live (rest ++ Some made ∷ []) i ≡ true) size (live_last rest made);
     })
 
-pub editor_instead : (k : Kept) (id : ℕ) (n : Named) (name : List Ch) (b : Stored) (new : Pooled) → IsKept k → Lives k.buffers id n → None ≡ first (live_from 0 (slice_set (editor_of k).buffers id None))
-    → GivesBack n.buffer.text.blocks k.pool new → buffer_of new b ≡ shown.empty_buffer → name ≡ shown.scratch → editor_of (instead k id (record { name = name; buffer = b; read_only = false }) new) ≡ shown.killed id (editor_of k)
-editor_instead k id n name b new kept lives none g empty is_name =
-    let made : Named = record { name = name; buffer = b; read_only = false } in
+pub editor_instead : (k : Kept) (id : ℕ) (n : Named) (name : List Ch) (made : Named) (new : Pooled) → IsKept k → Lives k.buffers id n → None ≡ first (live_from 0 (slice_set (editor_of k).buffers id None))
+    → GivesBack n.buffer.text.blocks k.pool new → live_of new made ≡ shown.new_live name → name ≡ shown.scratch → editor_of (instead k id made new) ≡ shown.killed id (editor_of k)
+editor_instead k id n name made new kept lives none g empty is_name =
     let less : Kept = record (without k id new) { buffers = slice_set k.buffers id None ++ Some made ∷ [] } in
     ap (λ (bs : List (Option Named)). editor_of (record k { buffers = bs; current = length k.buffers; marks = leave_buffer id k.marks; pool = new }))
     (set-append_left k.buffers (Some made ∷ []) id None (slice_get_within k.buffers id (Some n) lives))
     ∙ only_killed (editor_of k) (editor_of less) id (length k.buffers) name none is_name (sym (length-map k.buffers (option_map (live_of k.pool))))
-    (editor_with (without k id new) name b empty ∙ ap (shown.with_buffer name) (editor_without k id n new kept lives g))
+    (editor_with (without k id new) name made empty ∙ ap (shown.with_buffer name) (editor_without k id n new kept lives g))
 
 pub front_kept : (buffers : List (Option Named)) (new : Option Named) (id : ℕ) → id < length buffers → named_at (buffers ++ new ∷ []) id ≡ named_at buffers id
 front_kept buffers new id h = ap (λ o. unwrap_or (unwrap_or o None) nobody) (get_front buffers (new ∷ []) id h)

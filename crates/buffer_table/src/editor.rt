@@ -1,8 +1,10 @@
 //! The editor.
-ghost use Rattle.std.specs.Prelude.{◌≡◌, ◌*◌, ◌<◌, ◌≤◌, true, length, None, option_map, unwrap_or};
+ghost use Rattle.std.specs.Prelude.{◌≡◌, ◌*◌, ◌<◌, ◌≤◌, true, [], length, None, option_map, unwrap_or};
 ghost use Rattle.std.specs.Prelude.{slice_get};
-ghost use Rattle.editor_model.specs.Editor.{characters_in, is_live};
-ghost use Rattle.buffer_table.specs.Kept.{blocks_in, cells_in, editor_of};
+ghost use Rattle.editor_model.specs.Editor.{characters_in, is_live, new_live};
+ghost use Rattle.gap_text.specs.Text.{LiesIn};
+ghost use Rattle.text_pool.specs.Pool.{Pooled};
+ghost use Rattle.buffer_table.specs.Kept.{blocks_in, cells_in, editor_of, live_of};
 
 use buffer_core::{Buffer, Marks};
 use ek_call::Value;
@@ -24,6 +26,23 @@ impl Model for Live {
     ghost Value = { Named };
 
     ghost view = { λ l. record { name = l.name.items; buffer = l.buffer; read_only = l.read_only } };
+}
+
+impl Live {
+    /// An empty buffer of a name, which is writable. It takes no memory.
+    pub(crate) fn new(name: Chars, alloc: Global) -> Live
+        ensures shown { (pool : Pooled) → live_of pool result ≡ new_live name.items }
+        ensures name { result.name ≡ name.items }
+        ensures blocks { result.buffer.text.blocks ≡ [] }
+        ensures sets { result.buffer.sets ≡ [] }
+        ensures lies { (pool : Pooled) → LiesIn pool result.buffer.text }
+    {
+        Live {
+            name,
+            buffer: Buffer::new(alloc),
+            read_only: false,
+        }
+    }
 }
 
 /// All buffers by number, from 0 in the order in which they were made; a killed one keeps its number. It is seen with the

@@ -2,10 +2,9 @@
 ghost use Rattle.std.specs.Prelude.{◌≡◌, ℕ, ◌⊎◌, ◌<◌, ◌≤◌, true, [], length, if◌then◌else◌, Ok};
 ghost use Rattle.std.specs.Prelude.{Err, IfOk, OnOk, OnErr, Some, option_map, slice_get};
 ghost use Rattle.text_model.specs.Properties.{part};
-ghost use Rattle.text_model.specs.Places.{clip};
 ghost use Rattle.text_model.specs.Undo.{with_boundary, started, enabled, disabled, passed};
 ghost use Rattle.text_model.specs.Commit.{replaced, reset, property_records, undone_groups};
-ghost use Rattle.editor_model.specs.TextCalls.{widened};
+ghost use Rattle.editor_model.specs.TextCalls.{point_at, narrowed, widened};
 ghost use Rattle.editor_model.specs.Editor.{is_live, buffer_at, change_site, change_buffer};
 ghost use Rattle.ek_types.specs.Seen.{ch_of};
 ghost use Rattle.prop_intervals.specs.Edits.{edit_of};
@@ -89,8 +88,7 @@ impl Editor {
     /// Point goes to the position `p`, which counts from 1, or to the nearer end of the accessible portion.
     pub fn goto(&mut self, id: u32, p: i64)
         requires { is_live (editor_of self.old) id ≡ true }
-        ensures { editor_of self.new ≡ change_buffer id
-            (λ b. record b { point = clip b.begin b.end (place_of p) }) (editor_of self.old) }
+        ensures { editor_of self.new ≡ change_buffer id (point_at (place_of p)) (editor_of self.old) }
     {
         match &mut self.buffers[id as usize] {
             Some(live) => live.buffer.goto(p),
@@ -101,8 +99,7 @@ impl Editor {
     /// Point goes to a place, or to the nearer end of the accessible portion.
     pub fn goto_place(&mut self, id: u32, place: usize)
         requires { is_live (editor_of self.old) id ≡ true }
-        ensures { editor_of self.new ≡ change_buffer id
-            (λ b. record b { point = clip b.begin b.end place }) (editor_of self.old) }
+        ensures { editor_of self.new ≡ change_buffer id (point_at place) (editor_of self.old) }
     {
         match &mut self.buffers[id as usize] {
             Some(live) => live.buffer.goto_place(place),
@@ -115,11 +112,7 @@ impl Editor {
         requires live { is_live (editor_of self.old) id ≡ true }
         requires order { from ≤ to }
         requires range { to ≤ length (buffer_at (editor_of self.old) id).text }
-        ensures { editor_of self.new ≡ change_buffer id (λ b. record b {
-          begin = from;
-          end = to;
-          point = clip from to b.point;
-        }) (editor_of self.old) }
+        ensures { editor_of self.new ≡ change_buffer id (narrowed from to) (editor_of self.old) }
     {
         match &mut self.buffers[id as usize] {
             Some(live) => live.buffer.narrow(from, to),

@@ -114,7 +114,7 @@ impl Editor {
         ensures { result ≡ (buffer_at (editor_of self.now) id).undo.on }
     {
         match self.found(id) {
-            Some(buffer) => !matches!(buffer.undo().plan(1, 0, 0), Ok(Err(Refused::Disabled))),
+            Some(buffer) => buffer.undo().is_on(),
             None => true,
         }
     }

@@ -7,7 +7,7 @@ ghost use Rattle.buffer_table.specs.Kept.{editor_of, has_name, named_at};
 
 use crate::editor::{Editor, Live};
 use crate::room::{BufferRoom, move_to};
-use buffer_core::{Buffer, same_text};
+use buffer_core::same_text;
 use ek_types::{Chars, Mem};
 use std::alloc::Global;
 
@@ -90,12 +90,8 @@ impl Editor {
         let BufferRoom { name, buffers } = room;
         let number = self.buffers.len() as u32;
         move_to(&mut self.buffers, buffers);
-        let buffer = Buffer::new(self.alloc);
-        self.buffers.push_reserved(Some(Live {
-            name,
-            buffer,
-            read_only: false,
-        }));
+        let live = Live::new(name, self.alloc);
+        self.buffers.push_reserved(Some(live));
         number
     }
 

@@ -11,7 +11,7 @@ ghost use Rattle.buffer_table.specs.Places.{gone};
 
 use crate::editor::{Editor, Live};
 use crate::table::scratch;
-use buffer_core::{Buffer, Marks};
+use buffer_core::Marks;
 use ek_types::{Mem, NoMemory};
 use std::alloc::Global;
 use std::mem;
@@ -20,7 +20,8 @@ use text_pool::Pool;
 /// Gives the blocks of a buffer back, where it lives.
 fn release(entry: Option<Live>, pool: &mut Pool)
     requires { IfSome entry (λ n. LiesIn pool.old n.buffer.text) }
-    ensures { SameOutside (blocks_of entry) pool.old pool.new }
+    ensures others { SameOutside (blocks_of entry) pool.old pool.new }
+    ensures count { live pool.new + length (blocks_of entry) ≡ live pool.old }
 {
     match entry {
         Some(live) => {
@@ -49,12 +50,7 @@ impl Editor {
                 return Err(NoMemory);
             }
         }
-        let buffer = Buffer::new(alloc);
-        buffers.push_reserved(Some(Live {
-            name,
-            buffer,
-            read_only: false,
-        }));
+        buffers.push_reserved(Some(Live::new(name, alloc)));
         Ok(Editor {
             buffers,
             current: 0,
@@ -89,17 +85,8 @@ impl Editor {
         ensures blocks { live self.new.pool + length
             (named_at self.old.buffers id).buffer.text.blocks ≡ live self.old.pool }
     {
-        match mem::replace(&mut self.buffers[id as usize], None) {
-            Some(live) => {
-                let Live {
-                    name: _,
-                    buffer,
-                    read_only: _,
-                } = live;
-                buffer.release(&mut self.pool);
-            }
-            None => unreachable!(),
-        }
+        let entry = mem::replace(&mut self.buffers[id as usize], None);
+        release(entry, &mut self.pool);
         self.marks.drop_buffer(id);
     }
 
@@ -133,24 +120,11 @@ impl Editor {
         let name = scratch(self.alloc)?;
         self.buffers.reserve(1)?;
         let number = self.buffers.len() as u32;
-        let new = Buffer::new(self.alloc);
-        self.buffers.push_reserved(Some(Live {
-            name,
-            buffer: new,
-            read_only: false,
-        }));
+        let new = Live::new(name, self.alloc);
+        self.buffers.push_reserved(Some(new));
         self.current = number;
-        match mem::replace(&mut self.buffers[only as usize], None) {
-            Some(live) => {
-                let Live {
-                    name: _,
-                    buffer: killed,
-                    read_only: _,
-                } = live;
-                killed.release(&mut self.pool);
-            }
-            None => unreachable!(),
-        }
+        let killed = mem::replace(&mut self.buffers[only as usize], None);
+        release(killed, &mut self.pool);
         self.marks.drop_buffer(only);
         Ok(())
     }

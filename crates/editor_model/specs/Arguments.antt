@@ -204,7 +204,8 @@ must_fit_a_string n = refuse TooMany (nat_le n longest_string)
 
 -- whether n more characters fit in a buffer
 abbrev pub has_room : Editor → (id n : ℕ) → Bool
-has_room e id n = (n == 0) || (nat_le (length (buffer_at e id).text + n) longest_text && nat_le (characters_in e.buffers + n) longest_texts)
+has_room e id n =
+    (n == 0) || (nat_le (length (buffer_at e id).text + n) longest_text && nat_le (characters_in e.buffers + n) longest_texts)
 
 abbrev pub must_have_room : Editor → (id n : ℕ) → Test
 must_have_room e id n = refuse BufferFull (has_room e id n)

@@ -56,7 +56,8 @@ prop_back (Symbols names) = refl
 prop_back (Text text) = refl
 
 abbrev pub coded_prop : Coded PropVal
-coded_prop = code_by PropParts (coded× coded_ℕ (coded× coded_ℤ (coded× (coded_list coded_ℕ) (coded_list coded_ch)))) prop_to prop_from prop_back
+coded_prop = code_by PropParts
+    (coded× coded_ℕ (coded× coded_ℤ (coded× (coded_list coded_ℕ) (coded_list coded_ch)))) prop_to prop_from prop_back
 
 abbrev pub coded_cell : Coded Cell
 coded_cell = coded× coded_ch (coded_list (coded× coded_ℕ coded_prop))
@@ -88,7 +89,8 @@ right _ = gnil
 pub tree_inj : (x y : Tree) → tree_code x ≡ tree_code y → x ≡ y
 unfolding tree_code
 tree_inj (Leaf v) (Leaf w) p = ap Leaf (coded_word.inj v w (ap right p))
-tree_inj (Node a b) (Node c d) p = λ i. Node (tree_inj a c (ap (λ g. left (right g)) p) i) (tree_inj b d (ap (λ g. right (right g)) p) i)
+tree_inj (Node a b) (Node c d) p =
+    λ i. Node (tree_inj a c (ap (λ g. left (right g)) p) i) (tree_inj b d (ap (λ g. right (right g)) p) i)
 tree_inj (Leaf v) (Node c d) p = let q : 0 ≡ 1 = ap (λ g. num (left g)) p in cc
 tree_inj (Node a b) (Leaf w) p = let q : 1 ≡ 0 = ap (λ g. num (left g)) p in cc
 

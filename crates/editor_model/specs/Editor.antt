@@ -121,7 +121,10 @@ first_numbered (suc tries) n buffers name = elim (find_from 0 buffers (numbered_
 ]
 
 abbrev pub free_name : List (Option Live) → Name → Name
-free_name buffers name = elim (find_from 0 buffers name) [ None ↦ name | Some id ↦ first_numbered (length buffers) 2 buffers name ]
+free_name buffers name = elim (find_from 0 buffers name) [
+  | None ↦ name
+  | Some id ↦ first_numbered (length buffers) 2 buffers name
+]
 
 -- the buffers but the current one
 abbrev pub others : Editor → List (Option Live)
@@ -147,13 +150,15 @@ abbrev pub set_marker_spot : (k : ℕ) → Option Spot → Editor → Editor
 set_marker_spot k spot e = change_marker k (λ m. record m { spot = spot }) e
 
 abbrev pub overlay_of : Editor → (k : ℕ) → Overlay
-overlay_of e k = unwrap_or (slice_get e.marks.overlays k) (record { span = None; front_advance = false; rear_advance = false; props = [] })
+overlay_of e k =
+    unwrap_or (slice_get e.marks.overlays k) (record { span = None; front_advance = false; rear_advance = false; props = [] })
 
 abbrev pub with_overlay : Overlay → Editor → Editor
 with_overlay o e = record e { marks = record e.marks { overlays = e.marks.overlays ++ o ∷ [] } }
 
 abbrev pub change_overlay : (k : ℕ) → (Overlay → Overlay) → Editor → Editor
-change_overlay k change e = record e { marks = record e.marks { overlays = slice_set e.marks.overlays k (change (overlay_of e k)) } }
+change_overlay k change e =
+    record e { marks = record e.marks { overlays = slice_set e.marks.overlays k (change (overlay_of e k)) } }
 
 -- KILLING
 -- the first live buffer, or a new scratch buffer where none lives

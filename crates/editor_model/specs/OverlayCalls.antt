@@ -66,7 +66,8 @@ end_position e = (here e).end + 1
 abbrev pub overlays_in : Editor → (a b : Value) → Reply
 overlays_in e a b =
     answer (must_be_position a ∷ must_be_position b ∷ must_point_somewhere e a ∷ must_point_somewhere e b ∷ [])
-    (overlay_values (overlays_where e.current (lies_within (first_position e a b) (last_position e a b) (end_position e)) e.marks.overlays))
+    (overlay_values (overlays_where e.current
+    (lies_within (first_position e a b) (last_position e a b) (end_position e)) e.marks.overlays))
 
 -- the winner's value, else the text property
 abbrev pub char_property : Option (ℕ × Overlay) → (name : ℕ) → PropSet → Option PropVal
@@ -74,7 +75,8 @@ char_property None name set = get set name
 char_property (Some o) name set = get o.1.props name
 
 abbrev pub char_property_at : Editor → (p : Value) → (name : ℕ) → Option PropVal
-char_property_at e p name = char_property (winner e.current (position e p) name e.marks.overlays) name (set_at (here e) (place e p))
+char_property_at e p name =
+    char_property (winner e.current (position e p) name e.marks.overlays) name (set_at (here e) (place e p))
 
 abbrev pub get_char_property : Editor → (p name : Value) → Reply
 get_char_property e p name =
@@ -102,7 +104,13 @@ abbrev pub make_overlay : Editor → (a b buffer front rear : Value) → Applied
 make_overlay e a b buffer front rear =
     applied e (must_be_position a ∷ must_be_position b ∷ must_be_buffer_or_nil buffer ∷ buffer_there e buffer ∷
     must_point_somewhere e a ∷ must_point_somewhere e b ∷ must_be_fewer most_overlays (length e.marks.overlays) ∷ [])
-    (with_overlay (record { span = Some (span_in e (buffer_of e buffer) a b); front_advance = flag front; rear_advance = flag rear; props = [] }) e) (TheOverlay (length e.marks.overlays))
+    (with_overlay (record {
+      span = Some (span_in e (buffer_of e buffer) a b);
+      front_advance = flag front;
+      rear_advance = flag rear;
+      props = [];
+    }) e)
+    (TheOverlay (length e.marks.overlays))
 
 -- an overlay that is empty and evaporates is deleted
 abbrev pub kept_in : Option Span → Overlay → Overlay
@@ -125,7 +133,8 @@ overlay_home e _ buffer = buffer_of e buffer
 abbrev pub move_overlay : Editor → (o a b buffer : Value) → Applied
 move_overlay e o a b buffer =
     let k : ℕ = overlay_number o in
-    applied e (must_be_overlay o ∷ must_be_position a ∷ must_be_position b ∷ must_be_buffer_or_nil buffer ∷ buffer_there e buffer ∷
+    applied e (must_be_overlay o ∷ must_be_position a ∷ must_be_position b ∷ must_be_buffer_or_nil buffer ∷
+    buffer_there e buffer ∷
     must_point_somewhere e a ∷ must_point_somewhere e b ∷ [])
     (change_overlay k (λ old. kept (record old { span = Some (span_in e (overlay_home e old.span buffer) a b) })) e) o
 

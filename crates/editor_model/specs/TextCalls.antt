@@ -91,7 +91,8 @@ widen e = applied e [] (change_buffer e.current widened e) Nil
 -- INSERTING
 -- the properties that an insertion at a place inherits: only the accessible portion counts
 abbrev pub inherited_at : Buffer → ℕ → PropSet
-inherited_at b p = inherited (option_map (λ c. c.1) (if p == 0 then None else char_at b (p - 1))) (option_map (λ c. c.1) (char_at b p))
+inherited_at b p =
+    inherited (option_map (λ c. c.1) (if p == 0 then None else char_at b (p - 1))) (option_map (λ c. c.1) (char_at b p))
 
 abbrev pub with_inherited : PropSet → List Cell → List Cell
 with_inherited set piece = map (λ c. (c.0, put_all set c.1)) piece
@@ -120,7 +121,8 @@ inserted_piece e inherit piece = with_inherited (if inherit then inherited_at (h
 
 abbrev pub insert : Editor → (all inherit : Bool) → List Value → Prepared
 insert e all inherit args =
-    prepared (map must_be_string args ++ must_take_text e (length (joined args)) ∷ must_have_room e e.current (length (joined args)) ∷ [])
+    prepared (map must_be_string args ++ must_take_text e (length (joined args)) ∷
+    must_have_room e e.current (length (joined args)) ∷ [])
     (insertion e.current (here e).point (inserted_piece e inherit (joined args)) all)
 
 -- nil is that end of the other buffer's accessible portion
@@ -138,7 +140,8 @@ insert_buffer_substring e buffer a b =
 -- the insertion of a process's output at a place: its mark goes behind the text; a read-only buffer takes it
 abbrev pub output : Editor → (id mark at : ℕ) → List Cell → Prepared
 output e id mark at text =
-    prepared (must_be_writable (is_tested e (nat_lt 0 (length text))) false (takes_no_text e id at) ∷ must_have_room e id (length text) ∷ [])
+    prepared (must_be_writable (is_tested e (nat_lt 0 (length text))) false (takes_no_text e id at) ∷
+    must_have_room e id (length text) ∷ [])
     (Changes (record { buffer = id; from = at; to = at; what = Put text true false false (Some mark); reply = Nil }))
 
 -- a mark that isn't in the buffer counts as the end of the accessible portion

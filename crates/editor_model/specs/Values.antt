@@ -129,7 +129,25 @@ as_pairs _ = None
 
 -- why a call is refused
 pub data Fault : Type 0 where
-  ArgsOutOfRange WrongType VoidVariable NoSuchBuffer BufferKilled NoFurtherUndo UndoOutside UndoDisabled NoSuchProcess ProcessEnded BrokenPipe SpawnFailed Nesting ExchangesSpent BufferFull TooMany BufferReadOnly TextReadOnly CodingFixed : Fault
+  ArgsOutOfRange : Fault
+  WrongType : Fault
+  VoidVariable : Fault
+  NoSuchBuffer : Fault
+  BufferKilled : Fault
+  NoFurtherUndo : Fault
+  UndoOutside : Fault
+  UndoDisabled : Fault
+  NoSuchProcess : Fault
+  ProcessEnded : Fault
+  BrokenPipe : Fault
+  SpawnFailed : Fault
+  Nesting : Fault
+  ExchangesSpent : Fault
+  BufferFull : Fault
+  TooMany : Fault
+  BufferReadOnly : Fault
+  TextReadOnly : Fault
+  CodingFixed : Fault
 
 -- what a call comes to
 pub data Reply : Type 0 where

@@ -82,7 +82,10 @@ coding_of _ = Utf8
 -- the listed process of a name
 abbrev pub find_process : ℕ → List Process → Name → Option ℕ
 find_process p [] name = None
-find_process p (x ∷ rest) name = elim (x.listed && same_name x.name name) [ true ↦ Some p | false ↦ find_process (p + 1) rest name ]
+find_process p (x ∷ rest) name = elim (x.listed && same_name x.name name) [
+  | true ↦ Some p
+  | false ↦ find_process (p + 1) rest name
+]
 
 -- a process argument: a process, or the name of a listed one
 abbrev pub is_process : Value → Bool
@@ -156,7 +159,10 @@ is_new_name e _ = false
 -- the name, or the first of name<1>, name<2> .. that no listed process has
 abbrev pub free_name : (tries n : ℕ) → List Process → Name → Name
 free_name zero n list name = numbered_name name n
-free_name (suc tries) n list name = elim (is_some (find_process 0 list (numbered_name name n))) [ true ↦ free_name tries (n + 1) list name | false ↦ numbered_name name n ]
+free_name (suc tries) n list name = elim (is_some (find_process 0 list (numbered_name name n))) [
+  | true ↦ free_name tries (n + 1) list name
+  | false ↦ numbered_name name n
+]
 
 abbrev pub process_name : List Process → Name → Name
 process_name list name = elim (is_some (find_process 0 list name)) [ true ↦ free_name (length list) 1 list name | false ↦ name ]

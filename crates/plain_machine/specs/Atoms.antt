@@ -50,20 +50,25 @@ IsNew name seen = IsTrue (not (list_any (λ n. n == name) seen))
 pub data IsPropertyList : (seen : List ℕ) → Values → PropSet → Type 0 where
   no_more : {seen : List ℕ} → IsPropertyList seen End []
   property : {seen : List ℕ} {name : ℕ} {v : Value} {more : Values} {value : Option PropVal} {set : PropSet} →
-      IsNew name seen → as_prop v ≡ Some value → IsPropertyList (name ∷ seen) more set → IsPropertyList seen (More (Sym name) (More v more)) (put set name value)
+      IsNew name seen → as_prop v ≡ Some value → IsPropertyList (name ∷ seen) more set →
+      IsPropertyList seen (More (Sym name) (More v more)) (put set name value)
 
 -- Triples of two numbers and a property list, by rising places: each gives the characters from the one place to the
 -- other its set, and all others have none.
 pub data AreRuns (symbols : List (List ℕ)) : (at : ℕ) → List Cell → List Word → Type 0 where
   no_run : {at : ℕ} (left : List Ch) → AreRuns symbols at (bare left) []
-  run : {at : ℕ} (gap chars : List Ch) (list : Values) (set : PropSet) (from to inside : List Word) {rest : List Cell} {words : List Word} →
-      1 ≤ length chars → IsNumber (pos (at + length gap)) from → IsNumber (pos (at + length gap + length chars)) to → AreItems symbols list inside → IsPropertyList [] list set →
+  run : {at : ℕ} (gap chars : List Ch) (list : Values) (set : PropSet) (from to inside : List Word)
+      {rest : List Cell} {words : List Word} →
+      1 ≤ length chars → IsNumber (pos (at + length gap)) from → IsNumber (pos (at + length gap + length chars)) to →
+      AreItems symbols list inside → IsPropertyList [] list set →
       AreRuns symbols (at + length gap + length chars) rest words →
-      AreRuns symbols at (bare gap ++ (map (λ c. (c, set)) chars ++ rest)) (from ++ (to ++ (opening ∷ (inside ++ closing ∷ words))))
+      AreRuns symbols at (bare gap ++ (map (λ c. (c, set)) chars ++ rest))
+      (from ++ (to ++ (opening ∷ (inside ++ closing ∷ words))))
 
 abbrev pub IsPropString : (symbols : List (List ℕ)) → List Cell → List Word → Type 0
 IsPropString symbols text words =
-    (string runs : List Word) × (words ≡ hash ∷ opening ∷ (string ++ (runs ++ closing ∷ []))) × IsText (map (λ c. c.0) text) string × AreRuns symbols 0 text runs
+    (string runs : List Word) × (words ≡ hash ∷ opening ∷ (string ++ (runs ++ closing ∷ []))) ×
+    IsText (map (λ c. c.0) text) string × AreRuns symbols 0 text runs
 
 -- ATOMS
 abbrev pub Quoted : (List Word → Type 0) → List Word → Type 0
@@ -74,7 +79,8 @@ IsConst symbols Nil words = (words ≡ Plain (codes "nil") ∷ []) ⊎ Quoted (I
 IsConst symbols T words = (words ≡ Plain (codes "t") ∷ []) ⊎ Quoted (IsItem symbols T) words
 IsConst symbols (Int i) words = IsNumber i words
 IsConst symbols (Sym s) words = Quoted (IsSymbol symbols s) words
-IsConst symbols (Str text) words = ((chars : List Ch) × (text ≡ bare chars) × IsText chars words) ⊎ IsPropString symbols text words
+IsConst symbols (Str text) words =
+    ((chars : List Ch) × (text ≡ bare chars) × IsText chars words) ⊎ IsPropString symbols text words
 IsConst symbols (Items (More v vs)) words = Quoted (InParentheses (AreItems symbols (More v vs))) words
 IsConst symbols _ words = ⊥
 

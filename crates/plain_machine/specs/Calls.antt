@@ -42,7 +42,8 @@ with_editor e s = record s { editor = e }
 
 -- HOOKS
 abbrev pub set_hook : State → Target → List Item → (hook : Value) → List ℕ → Step
-set_hook s target rest hook names = on (set_hook_list s.editor.current (symbol_of hook) names s) (GiveAnswer (list (map Sym names)) target ∷ rest)
+set_hook s target rest hook names =
+    on (set_hook_list s.editor.current (symbol_of hook) names s) (GiveAnswer (list (map Sym names)) target ∷ rest)
 
 -- STARTING A PROCESS
 -- the buffer of a new process, made where the name is unknown
@@ -64,7 +65,20 @@ started s name b child =
     let buffer : Option ℕ = process_buffer e b in
     record s {
       editor = with_marker (record { spot = end_of e buffer; advances = false }) e;
-      processes = s.processes ++ record { name = process_name s.processes (name_of name); child = child; status = Runs; buffer = buffer; mark = length e.marks.markers; filter = Default; sentinel = None; coding = Utf8; bytes = None; drained = false; closed = false; listed = true } ∷ [];
+      processes = s.processes ++ record {
+        name = process_name s.processes (name_of name);
+        child = child;
+        status = Runs;
+        buffer = buffer;
+        mark = length e.marks.markers;
+        filter = Default;
+        sentinel = None;
+        coding = Utf8;
+        bytes = None;
+        drained = false;
+        closed = false;
+        listed = true;
+      } ∷ [];
       asked = s.asked + 1;
     }
 
@@ -75,7 +89,8 @@ is_new_child s child = not (list_any (λ x. x.child == child) s.processes)
 -- the first answer of a host for a child that it started before is none
 abbrev pub spawned_child : (is_new : Bool) → State → Target → List Item → (name b : Value) → (child : ℕ) → Option Next
 spawned_child false s target rest name b child = None
-spawned_child true s target rest name b child = Some (silent (started s name b child) (GiveAnswer (TheProcess (length s.processes)) target ∷ rest))
+spawned_child true s target rest name b child =
+    Some (silent (started s name b child) (GiveAnswer (TheProcess (length s.processes)) target ∷ rest))
 
 abbrev pub spawned : State → Target → List Item → (name b : Value) → Answer → Option Next
 spawned s target rest name b (Started child) = spawned_child (is_new_child s child) s target rest name b child
@@ -98,8 +113,10 @@ with_coding c x = elim x.bytes [ Some bytes ↦ x | None ↦ record x { coding =
 
 -- SENDING
 abbrev pub sent_answer : State → Target → List Item → (size : ℕ) → Answer → Option Next
-sent_answer s target rest size Sent = Some (silent (record s { asked = s.asked + 1; sent = s.sent + size }) (GiveAnswer Nil target ∷ rest))
-sent_answer s target rest size Broken = Some (silent (record s { asked = s.asked + 1; sent = s.sent + size }) (Refuse BrokenPipe ∷ rest))
+sent_answer s target rest size Sent =
+    Some (silent (record s { asked = s.asked + 1; sent = s.sent + size }) (GiveAnswer Nil target ∷ rest))
+sent_answer s target rest size Broken =
+    Some (silent (record s { asked = s.asked + 1; sent = s.sent + size }) (Refuse BrokenPipe ∷ rest))
 sent_answer s target rest size _ = None
 
 -- an empty text asks nothing
@@ -111,7 +128,9 @@ abbrev pub with_input_closed : Process → Process
 with_input_closed x = record x { closed = true }
 
 abbrev pub closed_answer : State → Target → List Item → (p : ℕ) → Answer → Option Next
-closed_answer s target rest p Closed = Some (silent (change_process p with_input_closed (record s { asked = s.asked + 1 })) (GiveAnswer (TheProcess p) target ∷ rest))
+closed_answer s target rest p Closed =
+    Some (silent (change_process p with_input_closed (record s { asked = s.asked + 1 }))
+    (GiveAnswer (TheProcess p) target ∷ rest))
 closed_answer s target rest p _ = None
 
 -- the input is closed once
@@ -122,7 +141,8 @@ send_eof s target rest p false = Asks (Close (child_of s p)) (closed_answer s ta
 -- WAITING
 abbrev pub waiting : State → (p n flag : Value) → Waiting
 waiting s Nil n flag = record { target = None; just = false; rounds = rounds_of n; asking = []; counted = false }
-waiting s p n flag = record { target = Some (process_of s p); just = not (is_nil flag); rounds = rounds_of n; asking = []; counted = false }
+waiting s p n flag =
+    record { target = Some (process_of s p); just = not (is_nil flag); rounds = rounds_of n; asking = []; counted = false }
 
 -- ASKING ABOUT PROCESSES
 -- the symbols `run`, `exit`, `signal`, `failed`
@@ -177,21 +197,36 @@ process_effect s target rest RemoveHook args = set_hook s target rest (arg args 
 process_effect s target rest KillBuffer args =
     let b : ℕ = buffer_of s.editor (arg args 0) in
     on s (map Delete (running_in s b) ++ (Item.KillBuffer b target ∷ rest))
-process_effect s target rest StartProcess args = Asks (Spawn (encoded (string_of (arg args 2))) (map (λ v. encoded (string_of v)) (drop 3 args))) (spawned s target rest (arg args 0) (arg args 1))
+process_effect s target rest StartProcess args =
+    Asks (Spawn (encoded (string_of (arg args 2))) (map (λ v. encoded (string_of v)) (drop 3 args)))
+    (spawned s target rest (arg args 0) (arg args 1))
 process_effect s target rest ProcessList args = on s (GiveAnswer (list (listed s)) target ∷ rest)
 process_effect s target rest GetProcess args = on s (GiveAnswer (get_process s (arg args 0)) target ∷ rest)
-process_effect s target rest SetProcessFilter args = on (change_process (process_of s (arg args 0)) (with_filter (filter_of (arg args 1))) s) (GiveAnswer (arg args 1) target ∷ rest)
-process_effect s target rest SetProcessSentinel args = on (change_process (process_of s (arg args 0)) (with_sentinel (sentinel_of (arg args 1))) s) (GiveAnswer (arg args 1) target ∷ rest)
-process_effect s target rest SetProcessBuffer args = on (change_process (process_of s (arg args 0)) (of_buffer (process_buffer s.editor (arg args 1))) s) (GiveAnswer (arg args 1) target ∷ rest)
-process_effect s target rest SetProcessCodingSystem args = on (change_process (process_of s (arg args 0)) (with_coding (coding_of (arg args 1))) s) (GiveAnswer (arg args 1) target ∷ rest)
-process_effect s target rest ProcessSendString args = send s target rest (child_of s (process_of s (arg args 0))) (encoded (string_of (arg args 1)))
-process_effect s target rest ProcessSendEof args = send_eof s target rest (process_of s (arg args 0)) (is_closed s (process_of s (arg args 0)))
+process_effect s target rest SetProcessFilter args =
+    on (change_process (process_of s (arg args 0)) (with_filter (filter_of (arg args 1))) s)
+    (GiveAnswer (arg args 1) target ∷ rest)
+process_effect s target rest SetProcessSentinel args =
+    on (change_process (process_of s (arg args 0)) (with_sentinel (sentinel_of (arg args 1))) s)
+    (GiveAnswer (arg args 1) target ∷ rest)
+process_effect s target rest SetProcessBuffer args =
+    on (change_process (process_of s (arg args 0)) (of_buffer (process_buffer s.editor (arg args 1))) s)
+    (GiveAnswer (arg args 1) target ∷ rest)
+process_effect s target rest SetProcessCodingSystem args =
+    on (change_process (process_of s (arg args 0)) (with_coding (coding_of (arg args 1))) s)
+    (GiveAnswer (arg args 1) target ∷ rest)
+process_effect s target rest ProcessSendString args =
+    send s target rest (child_of s (process_of s (arg args 0))) (encoded (string_of (arg args 1)))
+process_effect s target rest ProcessSendEof args =
+    send_eof s target rest (process_of s (arg args 0)) (is_closed s (process_of s (arg args 0)))
 process_effect s target rest DeleteProcess args = on s (Delete (process_of s (arg args 0)) ∷ GiveAnswer Nil target ∷ rest)
-process_effect s target rest AcceptProcessOutput args = on s (Wait (waiting s (arg args 0) (arg args 1) (arg args 2)) target ∷ rest)
-process_effect s target rest prim args = on s (GiveAnswer (told_of_one prim (process s (process_of s (arg args 0)))) target ∷ rest)
+process_effect s target rest AcceptProcessOutput args =
+    on s (Wait (waiting s (arg args 0) (arg args 1) (arg args 2)) target ∷ rest)
+process_effect s target rest prim args =
+    on s (GiveAnswer (told_of_one prim (process s (process_of s (arg args 0)))) target ∷ rest)
 
 abbrev pub process_call : Program → (bound : ℕ) → State → Target → List Item → Prim → List Value → Step
-process_call program bound s target rest prim args = unless (process_tests program bound s prim args) s rest (process_effect s target rest prim args)
+process_call program bound s target rest prim args =
+    unless (process_tests program bound s prim args) s rest (process_effect s target rest prim args)
 
 abbrev pub change_call : State → Target → List Item → Prepared → Step
 change_call s target rest (Changes c) = on s (MakeChange c ∷ GiveAnswer c.reply target ∷ rest)

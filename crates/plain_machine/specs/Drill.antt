@@ -21,7 +21,10 @@ abbrev pub is_drill_number : List ℕ → Bool
 is_drill_number w = list_all is_digit w && (nat_le 1 (length w) && nat_le (length w) 4)
 
 abbrev pub drill_of : List (List ℕ) → Option ℕ
-drill_of (w ∷ number ∷ []) = elim (same_word w (codes "drill") && is_drill_number number) [ true ↦ Some (digits_value 0 number) | false ↦ None ]
+drill_of (w ∷ number ∷ []) = elim (same_word w (codes "drill") && is_drill_number number) [
+  | true ↦ Some (digits_value 0 number)
+  | false ↦ None
+]
 drill_of _ = None
 
 -- THE CHILD
@@ -70,7 +73,8 @@ g = 25
 
 abbrev pub drill_symbols : List (List ℕ)
 drill_symbols =
-    first_symbols ++ codes "f" ∷ codes "p" ∷ codes "s" ∷ codes "b" ∷ codes "m" ∷ codes "e" ∷ codes "n" ∷ codes "out" ∷ codes "g" ∷ []
+    first_symbols ++ codes "f" ∷ codes "p" ∷ codes "s" ∷ codes "b" ∷ codes "m" ∷ codes "e" ∷ codes "n" ∷
+    codes "out" ∷ codes "g" ∷ []
 
 abbrev pub call : Prim → List Arg → Call
 call prim args = record { prim = prim; args = args }
@@ -89,8 +93,10 @@ drill_handlers =
       params = p ∷ s ∷ [];
       body = in_order (
           Setq b (call ProcessBuffer (Name p ∷ [])) ∷ Do (call SetBuffer (Name b ∷ [])) ∷
-          Setq m (call ProcessMark (Name p ∷ [])) ∷ Do (call GotoChar (Name m ∷ [])) ∷ Do (call Insert (Name s ∷ [])) ∷ Setq e (call PointAt []) ∷
-          Do (call PutTextProperty (Name m ∷ Name e ∷ Const (Sym n) ∷ Const (Sym out) ∷ [])) ∷ Do (call SetMarker (Name m ∷ Name e ∷ [])) ∷ Do (call UndoBoundary []) ∷ []);
+          Setq m (call ProcessMark (Name p ∷ [])) ∷ Do (call GotoChar (Name m ∷ [])) ∷
+          Do (call Insert (Name s ∷ [])) ∷ Setq e (call PointAt []) ∷
+          Do (call PutTextProperty (Name m ∷ Name e ∷ Const (Sym n) ∷ Const (Sym out) ∷ [])) ∷
+          Do (call SetMarker (Name m ∷ Name e ∷ [])) ∷ Do (call UndoBoundary []) ∷ []);
     } ∷
     record { name = g; params = p ∷ s ∷ []; body = NoForms } ∷ []
 
@@ -112,5 +118,7 @@ in_64_bits k = decimal (k % 18446744073709551616)
 -- the lines that a run has said, with its dump, its exchanges, and the characters of all live buffers
 abbrev pub summary : ℕ → List Said → List Exchange → State → List ℕ
 summary count said exchanges last =
-    codes "drill " ++ (decimal count ++ (codes ": " ++ (in_64_bits (length (filter (λ c. c == 10) (lines said))) ++ (codes " lines, " ++
-    (in_64_bits (length exchanges) ++ (codes " exchanges, " ++ (in_64_bits (characters_in last.editor.buffers) ++ codes " characters\n")))))))
+    codes "drill " ++ (decimal count ++
+    (codes ": " ++ (in_64_bits (length (filter (λ c. c == 10) (lines said))) ++ (codes " lines, " ++
+    (in_64_bits (length exchanges) ++
+    (codes " exchanges, " ++ (in_64_bits (characters_in last.editor.buffers) ++ codes " characters\n")))))))

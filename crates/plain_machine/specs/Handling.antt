@@ -51,7 +51,8 @@ put_output s p text rest = output_in s (process_buffer_of s p) (mark_of_process 
 
 -- a line feed, Process, the name, and what the sentinel is told
 abbrev pub sentinel_words : State → (p : ℕ) → List Cell → List Cell
-sentinel_words s p text = bare (map Scalar (codes "\nProcess ")) ++ (bare (elim (process s p) [ Some x ↦ x.name | None ↦ [] ]) ++ (bare (map Scalar (32 ∷ [])) ++ text))
+sentinel_words s p text = bare (map Scalar (codes "\nProcess ")) ++
+    (bare (elim (process s p) [ Some x ↦ x.name | None ↦ [] ]) ++ (bare (map Scalar (32 ∷ [])) ++ text))
 
 abbrev pub second : List Value → List Cell
 second (v ∷ Str text ∷ rest) = text
@@ -73,8 +74,10 @@ in_scope scope s = record s { scopes = scope ∷ s.scopes }
 
 -- a script's handler hides a native of its name
 abbrev pub named_body : Program → State → Option HandlerDef → (name : ℕ) → List Value → List Item → Config
-named_body program s (Some d) name args rest = record { state = in_scope (bound_params d.params args) s; work = Body d.body ∷ rest }
-named_body program s None name args rest = record { state = in_scope [] s; work = Native (unwrap_or (native_from 0 program.natives name) 0) args [] ∷ rest }
+named_body program s (Some d) name args rest =
+    record { state = in_scope (bound_params d.params args) s; work = Body d.body ∷ rest }
+named_body program s None name args rest =
+    record { state = in_scope [] s; work = Native (unwrap_or (native_from 0 program.natives name) 0) args [] ∷ rest }
 
 abbrev pub body_of : Program → State → Kind → Option ℕ → List Value → List Item → Config
 body_of program s kind None args rest = default_handler (in_scope [] s) kind args rest
@@ -82,16 +85,23 @@ body_of program s kind (Some name) args rest = named_body program s (handler_def
 
 abbrev pub enter : Program → State → Kind → Option ℕ → List Value → List Item → Next
 enter program s kind handler args rest = record {
-  said = record { event = Entered s.depth kind handler args; line = line program.symbols s (Entered s.depth kind handler args) } ∷ [];
+  said = record {
+    event = Entered s.depth kind handler args;
+    line = line program.symbols s (Entered s.depth kind handler args);
+  } ∷ [];
   config = body_of program (record s { depth = s.depth + 1 }) kind handler args (Exit kind handler s.editor.current false ∷ rest);
 }
 
 -- a native's call: one that no script might make is refused before all else
 abbrev pub native_call : Program → State → Prim × List Value → Item
-native_call program s c = elim (is_callable program s c) [ true ↦ MakeCall c.0 (map normal c.1) ToNative | false ↦ Refuse WrongType ]
+native_call program s c = elim (is_callable program s c) [
+  | true ↦ MakeCall c.0 (map normal c.1) ToNative
+  | false ↦ Refuse WrongType
+]
 
 -- a native goes on until it is done, or has had 256 replies
-abbrev pub native_next : (goes_on : Bool) → Option (Prim × List Value) → Program → State → ℕ → List Value → List Reply → List Item → Step
+abbrev pub native_next : (goes_on : Bool) → Option (Prim × List Value) → Program → State → ℕ → List Value →
+    List Reply → List Item → Step
 native_next false c program s i args past rest = on s rest
 native_next true None program s i args past rest = on s rest
 native_next true (Some c) program s i args past rest = on s (native_call program s c ∷ Called i args past ∷ rest)
@@ -110,8 +120,10 @@ unlisted x = record x { listed = false }
 abbrev pub ended_handler : Kind → (faulted : Bool) → State → List Item → Config
 ended_handler (OfFilter p) faulted s rest = record { state = s; work = rest }
 ended_handler (OfSentinel p) faulted s rest = record { state = change_process p unlisted s; work = rest }
-ended_handler (OfBefore b) true s rest = record { state = if_live s b (set_hook_list b before_change_functions [] s); work = without_hooks_item rest }
-ended_handler (OfAfter b) true s rest = record { state = if_live s b (set_hook_list b after_change_functions [] s); work = without_hooks_item rest }
+ended_handler (OfBefore b) true s rest =
+    record { state = if_live s b (set_hook_list b before_change_functions [] s); work = without_hooks_item rest }
+ended_handler (OfAfter b) true s rest =
+    record { state = if_live s b (set_hook_list b after_change_functions [] s); work = without_hooks_item rest }
 ended_handler _ faulted s rest = record { state = s; work = rest }
 
 -- the state behind a handler, and the state in which its body begins

@@ -63,7 +63,10 @@ shown_set symbols (p ∷ set) = bracketed (spaced (prop_words symbols (p ∷ set
 
 abbrev pub run_words : List (List ℕ) → List (PropSet × ℕ × ℕ) → List (List ℕ)
 run_words symbols [] = []
-run_words symbols (r ∷ runs) = elim r.0 [ [] ↦ run_words symbols runs | p ∷ set ↦ decimal r.1 ∷ decimal r.2 ∷ shown_set symbols (p ∷ set) ∷ run_words symbols runs ]
+run_words symbols (r ∷ runs) = elim r.0 [
+  | [] ↦ run_words symbols runs
+  | p ∷ set ↦ decimal r.1 ∷ decimal r.2 ∷ shown_set symbols (p ∷ set) ∷ run_words symbols runs
+]
 
 abbrev pub shown_text : List (List ℕ) → List Cell → List ℕ
 shown_text symbols text =
@@ -74,7 +77,10 @@ shown_text symbols text =
     ]
 
 abbrev pub shown_buffer : Editor → ℕ → List ℕ
-shown_buffer e b = elim (live e b) [ Some l ↦ codes "#<buffer " ++ (shown_name l.name ++ codes ">") | None ↦ codes "#<killed buffer>" ]
+shown_buffer e b = elim (live e b) [
+  | Some l ↦ codes "#<buffer " ++ (shown_name l.name ++ codes ">")
+  | None ↦ codes "#<killed buffer>"
+]
 
 abbrev pub buffer_name : Editor → ℕ → List ℕ
 buffer_name e b = elim (live e b) [ Some l ↦ shown_name l.name | None ↦ [] ]
@@ -83,12 +89,20 @@ abbrev pub shown_marker : Editor → ℕ → List ℕ
 shown_marker e k =
     let m : Marker = marker_of e k in
     codes "#<marker " ++ ((if m.advances then codes "(moves after insertion) " else []) ++
-    (elim m.spot [ Some s ↦ codes "at " ++ (decimal (s.place + 1) ++ (codes " in " ++ (buffer_name e s.buffer ++ codes ">"))) | None ↦ codes "in no buffer>" ]))
+    (elim m.spot [
+      | Some s ↦ codes "at " ++ (decimal (s.place + 1) ++ (codes " in " ++ (buffer_name e s.buffer ++ codes ">")))
+      | None ↦ codes "in no buffer>"
+    ]))
 
 abbrev pub shown_overlay : Editor → ℕ → List ℕ
 shown_overlay e k = elim (slice_get e.marks.overlays k) [
   | None ↦ codes "#<overlay in no buffer>"
-  | Some o ↦ (elim o.span [ Some s ↦ codes "#<overlay from " ++ (decimal (s.start + 1) ++ (codes " to " ++ (decimal (s.end + 1) ++ (codes " in " ++ (buffer_name e s.buffer ++ codes ">"))))) | None ↦ codes "#<overlay in no buffer>" ])
+  | Some o ↦ (elim o.span [
+    | Some s ↦
+        codes "#<overlay from " ++ (decimal (s.start + 1) ++ (codes " to " ++ (decimal (s.end + 1) ++
+        (codes " in " ++ (buffer_name e s.buffer ++ codes ">")))))
+    | None ↦ codes "#<overlay in no buffer>"
+  ])
 ]
 
 abbrev pub shown_process : State → ℕ → List ℕ
@@ -166,9 +180,12 @@ abbrev pub shown_live : List (List ℕ) → (current : ℕ) → ℕ × Option Li
 shown_live symbols current numbered = elim numbered.1 [
   | None ↦ []
   | Some l ↦
-      codes "buffer " ++ (shown_name l.name ++ (codes " point " ++ (decimal (l.buffer.point + 1) ++ (codes " min " ++ (decimal (l.buffer.begin + 1) ++
-      (codes " max " ++ (decimal (l.buffer.end + 1) ++ (codes " modified " ++ ((if l.buffer.modified then codes "t" else codes "nil") ++
-      ((if l.read_only then codes " read-only" else []) ++ ((if numbered.0 == current then codes " current\ntext " else codes "\ntext ") ++
+      codes "buffer " ++ (shown_name l.name ++
+      (codes " point " ++ (decimal (l.buffer.point + 1) ++ (codes " min " ++ (decimal (l.buffer.begin + 1) ++
+      (codes " max " ++ (decimal (l.buffer.end + 1) ++
+      (codes " modified " ++ ((if l.buffer.modified then codes "t" else codes "nil") ++
+      ((if l.read_only then codes " read-only" else []) ++
+      ((if numbered.0 == current then codes " current\ntext " else codes "\ntext ") ++
       (shown_text symbols l.buffer.text ++ 10 ∷ []))))))))))))
 ]
 
@@ -181,15 +198,21 @@ shown_status Lost = codes "failed nil"
 abbrev pub dump : List (List ℕ) → State → List ℕ
 dump symbols s =
     flat_map (shown_live symbols s.editor.current) (enumerate_from 0 s.editor.buffers) ++
-    (flat_map (λ m. codes "marker " ++ (decimal m.0 ++ (32 ∷ (shown_marker s.editor m.0 ++ 10 ∷ [])))) (enumerate_from 0 s.editor.marks.markers) ++
-    (flat_map (λ o. codes "overlay " ++ (decimal o.0 ++ (32 ∷ (shown_overlay s.editor o.0 ++ (32 ∷ (shown_set symbols o.1.props ++ 10 ∷ [])))))) (enumerate_from 0 s.editor.marks.overlays) ++
-    flat_map (λ p. codes "process " ++ (decimal p.0 ++ (32 ∷ (shown_process s p.0 ++ (32 ∷ (shown_status p.1.status ++ 10 ∷ [])))))) (enumerate_from 0 s.processes)))
+    (flat_map (λ m. codes "marker " ++ (decimal m.0 ++ (32 ∷ (shown_marker s.editor m.0 ++ 10 ∷ []))))
+    (enumerate_from 0 s.editor.marks.markers) ++
+    (flat_map (λ o. codes "overlay " ++
+    (decimal o.0 ++ (32 ∷ (shown_overlay s.editor o.0 ++ (32 ∷ (shown_set symbols o.1.props ++ 10 ∷ []))))))
+    (enumerate_from 0 s.editor.marks.overlays) ++
+    flat_map (λ p. codes "process " ++
+    (decimal p.0 ++ (32 ∷ (shown_process s p.0 ++ (32 ∷ (shown_status p.1.status ++ 10 ∷ []))))))
+    (enumerate_from 0 s.processes)))
 
 -- the line of an event in a state
 abbrev pub line : List (List ℕ) → State → Event → List ℕ
 line symbols s (Replied depth (Answered v)) = indented depth (codes "= " ++ shown symbols s v)
 line symbols s (Replied depth (Refused f)) = indented depth (codes "! " ++ fault_words f)
-line symbols s (Entered depth kind handler args) = indented depth (codes "> " ++ spaced (kind_word kind ∷ handler_word symbols handler ∷ map (shown symbols s) args))
+line symbols s (Entered depth kind handler args) =
+    indented depth (codes "> " ++ spaced (kind_word kind ∷ handler_word symbols handler ∷ map (shown symbols s) args))
 line symbols s (Left depth handler) = indented depth (codes "< " ++ handler_word symbols handler)
 line symbols s (KilledLast p) = codes "kill " ++ (shown_process s p ++ 10 ∷ [])
 line symbols s Dumped = dump symbols s

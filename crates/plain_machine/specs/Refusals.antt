@@ -96,10 +96,12 @@ process_tests program bound s KillBuffer args =
     only_where (nat_lt 0 (length (running_in s b))) (must_nest bound s) ∷ []
 process_tests program bound s StartProcess args =
     let new : Bool = is_new_name s.editor (arg args 1) in
-    must_be_name (arg args 0) ∷ refuse WrongType (is_process_buffer (arg args 1)) ∷ must_be_name (arg args 2) ∷ must_be_word (arg args 2) ∷ map must_be_word (drop 3 args) ++
+    must_be_name (arg args 0) ∷ refuse WrongType (is_process_buffer (arg args 1)) ∷ must_be_name (arg args 2) ∷
+    must_be_word (arg args 2) ∷ map must_be_word (drop 3 args) ++
     must_live_or_be_named s.editor (arg args 1) ∷
     must_be_short (arg args 0) ∷ only_where new (must_be_short (arg args 1)) ∷
-    must_be_fewer most_processes (length s.processes) ∷ must_be_fewer most_markers (length s.editor.marks.markers) ∷ only_where new (must_be_fewer most_buffers (length s.editor.buffers)) ∷
+    must_be_fewer most_processes (length s.processes) ∷ must_be_fewer most_markers (length s.editor.marks.markers) ∷
+    only_where new (must_be_fewer most_buffers (length s.editor.buffers)) ∷
     must_ask s ∷ []
 process_tests program bound s ProcessList args = []
 process_tests program bound s GetProcess args = must_be_process (arg args 0) ∷ []

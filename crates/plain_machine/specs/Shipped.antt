@@ -29,11 +29,15 @@ line wanted made = record { wanted = wanted; made = made }
 
 -- Down the list by the replies so far: done at a fault, and at an answer of another kind. At the end of the list
 -- the answers and the replies that are left give the rest.
-abbrev pub along : List Line → (answers : List Value) → List Reply → (List Value → List Reply → Option NativeCall) → Option NativeCall
+abbrev pub along : List Line → (answers : List Value) → List Reply → (List Value → List Reply → Option NativeCall) →
+    Option NativeCall
 along [] answers past rest = rest answers past
 along (l ∷ lines) answers [] rest = Some (l.made answers)
 along (l ∷ lines) answers (Refused f ∷ past) rest = None
-along (l ∷ lines) answers (Answered v ∷ past) rest = elim (is_wanted l.wanted v) [ true ↦ along lines (answers ++ v ∷ []) past rest | false ↦ None ]
+along (l ∷ lines) answers (Answered v ∷ past) rest = elim (is_wanted l.wanted v) [
+  | true ↦ along lines (answers ++ v ∷ []) past rest
+  | false ↦ None
+]
 
 abbrev pub number_of : Value → ℤ
 number_of (Int i) = i

@@ -70,7 +70,9 @@ more_characters old new = drop (length old) new
 -- the output has ended: what was held back comes out too
 abbrev pub drain : State → Waiting → Target → List Item → ℕ → Process → Option Next
 drain s w target rest p x =
-    Some (silent (change_process p (λ y. record y { drained = true }) (asked_more s)) (entry_of s p x (more_characters (decoded x.coding (read_so_far x)) (all_decoded x.coding (read_so_far x))) (Wait w target ∷ rest)))
+    Some (silent (change_process p (λ y. record y { drained = true }) (asked_more s))
+    (entry_of s p x (more_characters (decoded x.coding (read_so_far x)) (all_decoded x.coding (read_so_far x)))
+    (Wait w target ∷ rest)))
 
 -- one read gives 1 to 4,096 bytes
 abbrev pub is_room : List ℕ → Bool
@@ -80,7 +82,8 @@ abbrev pub hear : (fits : Bool) → State → Waiting → Target → List Item �
 hear false s w target rest p x bytes = None
 hear true s w target rest p x bytes =
     Some (silent (change_process p (λ y. record y { bytes = Some (read_so_far x ++ bytes) }) (asked_more s))
-    (entry_of s p x (more_characters (decoded x.coding (read_so_far x)) (decoded x.coding (read_so_far x ++ bytes))) (Wait (record w { counted = w.counted || counts w p }) target ∷ rest)))
+    (entry_of s p x (more_characters (decoded x.coding (read_so_far x)) (decoded x.coding (read_so_far x ++ bytes)))
+    (Wait (record w { counted = w.counted || counts w p }) target ∷ rest)))
 
 abbrev pub read_answer : State → Waiting → Target → List Item → ℕ → Process → Answer → Option Next
 read_answer s w target rest p x (Bytes bytes) = hear (is_room bytes) s w target rest p x bytes
@@ -92,7 +95,8 @@ read_answer s w target rest p x _ = None
 -- ENDS
 -- a process ends: its sentinel is entered, the one set at this step
 abbrev pub ends : State → (p : ℕ) → Process → Status → List ℕ → List Item → Next
-ends s p x status text rest = silent (change_process p (λ y. record y { status = status }) s) (Enter (OfSentinel p) x.sentinel (TheProcess p ∷ Str (bare (map Scalar text)) ∷ []) ∷ rest)
+ends s p x status text rest = silent (change_process p (λ y. record y { status = status }) s)
+    (Enter (OfSentinel p) x.sentinel (TheProcess p ∷ Str (bare (map Scalar text)) ∷ []) ∷ rest)
 
 -- what a sentinel is told of an exit code
 abbrev pub exit_text : ℤ → List ℕ
@@ -128,16 +132,19 @@ target_is_eligible s w = elim w.target [ None ↦ true | Some t ↦ is_eligible 
 
 -- Case by case: a read that counts was answered by bytes; the target isn't eligible; one is left to be asked in this
 -- round; none is eligible; no round is left; another round begins.
-abbrev pub wait_case : (counted target_is_eligible : Bool) → (asking eligible : List ℕ) → (rounds : ℕ) → State → Waiting → Target → List Item → Step
+abbrev pub wait_case : (counted target_is_eligible : Bool) → (asking eligible : List ℕ) → (rounds : ℕ) → State →
+    Waiting → Target → List Item → Step
 wait_case true fit asking all rounds s w target rest = on s (GiveAnswer T target ∷ rest)
 wait_case false false asking all rounds s w target rest = on s (GiveAnswer Nil target ∷ rest)
 wait_case false true (p ∷ asking) all rounds s w target rest = ask_process s (record w { asking = asking }) target rest p
 wait_case false true [] [] rounds s w target rest = on s (GiveAnswer Nil target ∷ rest)
 wait_case false true [] (p ∷ more) zero s w target rest = on s (GiveAnswer Nil target ∷ rest)
-wait_case false true [] (p ∷ more) (suc rounds) s w target rest = on s (Wait (record w { rounds = rounds; asking = p ∷ more }) target ∷ rest)
+wait_case false true [] (p ∷ more) (suc rounds) s w target rest =
+    on s (Wait (record w { rounds = rounds; asking = p ∷ more }) target ∷ rest)
 
 abbrev pub wait : State → Waiting → Target → List Item → Step
-wait s w target rest = wait_case w.counted (target_is_eligible s w) (from_eligible s w w.asking) (eligible s w) w.rounds s w target rest
+wait s w target rest =
+    wait_case w.counted (target_is_eligible s w) (from_eligible s w w.asking) (eligible s w) w.rounds s w target rest
 
 -- DELETING, KILLING, AND THE END OF A RUN
 abbrev pub kill_answer : Next → Answer → Option Next
@@ -160,7 +167,8 @@ delete s p rest = delete_one s p (process s p) rest
 -- the buffer is killed, unless it was meanwhile
 abbrev pub kill_live : (lives : Bool) → State → (b : ℕ) → Target → List Item → Step
 kill_live false s b target rest = on s (GiveAnswer Nil target ∷ rest)
-kill_live true s b target rest = unless (must_be_replaceable s.editor b ∷ []) s rest (on (with_editor (killed b s.editor) s) (GiveAnswer T target ∷ rest))
+kill_live true s b target rest =
+    unless (must_be_replaceable s.editor b ∷ []) s rest (on (with_editor (killed b s.editor) s) (GiveAnswer T target ∷ rest))
 
 abbrev pub kill_at_end : State → (b : ℕ) → Target → List Item → Step
 kill_at_end s b target rest = kill_live (is_live s.editor b) s b target rest

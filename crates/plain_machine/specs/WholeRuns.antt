@@ -34,7 +34,8 @@ AreKills (c ∷ children) (x ∷ exchanges) = (x.ask ≡ Kill c) × AreKills chi
 AreKills _ _ = ⊥
 
 -- the run was broken off: some of its bytes are written, and the children that live are killed
-pub record BrokenOff (program : Program) (bound : ℕ) (script : Script) (exchanges : List Exchange) (written : List ℕ) : Type 0 where
+pub record BrokenOff (program : Program) (bound : ℕ) (script : Script) (exchanges : List Exchange)
+    (written : List ℕ) : Type 0 where
   pub made : List Exchange
   pub kills : List Exchange
   pub said : List Said

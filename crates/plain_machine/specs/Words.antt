@@ -41,7 +41,8 @@ pub data IsBlanks : List ℕ → Type 0 where
 
 -- at the end of the script a comment may go on to the end
 abbrev pub IsLastBlanks : List ℕ → Type 0
-IsLastBlanks bytes = IsBlanks bytes ⊎ ((blanks text : List ℕ) × (bytes ≡ blanks ++ 59 ∷ text) × IsBlanks blanks × HasNoLineFeed text)
+IsLastBlanks bytes =
+    IsBlanks bytes ⊎ ((blanks text : List ℕ) × (bytes ≡ blanks ++ 59 ∷ text) × IsBlanks blanks × HasNoLineFeed text)
 
 -- WORDS
 -- a word of the script: a name that gets a number as a symbol, or anything else
@@ -84,12 +85,15 @@ EndsThere w rest =
 -- the bytes are these words, with blanks round them
 abbrev pub AreWords : List Word → List ℕ → Type 0
 AreWords [] bytes = IsLastBlanks bytes
-AreWords (w ∷ words) bytes = (blanks rest : List ℕ) × (bytes ≡ blanks ++ (spelled w ++ rest)) × IsBlanks blanks × EndsThere w rest × AreWords words rest
+AreWords (w ∷ words) bytes = (blanks rest : List ℕ) × (bytes ≡ blanks ++ (spelled w ++ rest)) × IsBlanks blanks ×
+    EndsThere w rest × AreWords words rest
 
 -- NAMES, NUMBERS, STRINGS
 -- a letter, then letters, digits and dashes; at most 64 bytes; neither t nor nil
 abbrev pub is_name : List ℕ → Bool
-is_name word = begins_with is_letter word && (list_all is_word_byte word && (nat_le (length word) 64 && not (same_word word (codes "t") || same_word word (codes "nil"))))
+is_name word = begins_with is_letter word &&
+    (list_all is_word_byte word &&
+    (nat_le (length word) 64 && not (same_word word (codes "t") || same_word word (codes "nil"))))
 
 -- 1 to 18 digits
 abbrev pub are_digits : List ℕ → Bool
@@ -124,10 +128,13 @@ StartsAnew (c ∷ rest) = c ≡ 92
 pub data IsInside : List ℕ → List Ch → Type 0 where
   nothing : IsInside [] []
   plain : (run : List ℕ) {rest : List ℕ} {text : List Ch} →
-      IsTrue (list_all is_plain_byte run) → StartsAnew rest → IsInside rest text → IsInside (run ++ rest) (all_characters run ++ text)
-  escaped : {c code : ℕ} {rest : List ℕ} {text : List Ch} → IsEscape c code → IsInside rest text → IsInside (92 ∷ c ∷ rest) (Scalar code ∷ text)
+      IsTrue (list_all is_plain_byte run) → StartsAnew rest → IsInside rest text →
+      IsInside (run ++ rest) (all_characters run ++ text)
+  escaped : {c code : ℕ} {rest : List ℕ} {text : List Ch} → IsEscape c code → IsInside rest text →
+      IsInside (92 ∷ c ∷ rest) (Scalar code ∷ text)
   octal : (a b c : ℕ) {rest : List ℕ} {text : List Ch} →
-      IsTrue (nat_lt a 4 && (nat_lt b 8 && nat_lt c 8)) → IsInside rest text → IsInside (92 ∷ (48 + a) ∷ (48 + b) ∷ (48 + c) ∷ rest) (octal_ch (64 * a + 8 * b + c) ∷ text)
+      IsTrue (nat_lt a 4 && (nat_lt b 8 && nat_lt c 8)) → IsInside rest text →
+      IsInside (92 ∷ (48 + a) ∷ (48 + b) ∷ (48 + c) ∷ rest) (octal_ch (64 * a + 8 * b + c) ∷ text)
 
 abbrev pub IsString : List ℕ → List Ch → Type 0
 IsString word text = (inside : List ℕ) × (word ≡ 34 ∷ (inside ++ 34 ∷ [])) × IsInside inside text

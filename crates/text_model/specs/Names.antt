@@ -7,8 +7,10 @@ use Rattle.text_model.specs.Properties.{same_list}
 -- the names that have a number from the beginning
 abbrev pub first_symbols : List (List ℕ)
 first_symbols =
-    codes "front-sticky" ∷ codes "rear-nonsticky" ∷ codes "evaporate" ∷ codes "priority" ∷ codes "before-change-functions" ∷ codes "after-change-functions" ∷
-    codes "run" ∷ codes "exit" ∷ codes "signal" ∷ codes "failed" ∷ codes "read-only" ∷ codes "invisible" ∷ codes "before-string" ∷ codes "after-string" ∷
+    codes "front-sticky" ∷ codes "rear-nonsticky" ∷ codes "evaporate" ∷ codes "priority" ∷
+    codes "before-change-functions" ∷ codes "after-change-functions" ∷
+    codes "run" ∷ codes "exit" ∷ codes "signal" ∷ codes "failed" ∷ codes "read-only" ∷ codes "invisible" ∷
+    codes "before-string" ∷ codes "after-string" ∷
     codes "utf-8-unix" ∷ codes "utf-8-dos" ∷ codes "latin-1-unix" ∷ []
 
 abbrev pub same_word : List ℕ → List ℕ → Bool

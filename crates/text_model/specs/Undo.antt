@@ -79,7 +79,10 @@ max_after max _ = max
 -- the first record, if any, one of whose places lies outside min to max as these then stand
 abbrev pub trial : (min max : ℕ) → List Entry → Option Entry
 trial min max [] = None
-trial min max (e ∷ entries) = elim (lies_inside min max e.what) [ true ↦ trial min (max_after max e.what) entries | false ↦ Some e ]
+trial min max (e ∷ entries) = elim (lies_inside min max e.what) [
+  | true ↦ trial min (max_after max e.what) entries
+  | false ↦ Some e
+]
 
 -- Cutting: the oldest group goes with the boundary next to it.
 abbrev pub has_boundary : List Entry → Bool
@@ -92,7 +95,10 @@ without_oldest_group (e ∷ entries) = if has_boundary entries then e ∷ withou
 
 abbrev pub kept_characters : List Entry → ℕ
 kept_characters [] = 0
-kept_characters (e ∷ entries) = elim e.what [ Deleted piece place ↦ length piece + kept_characters entries | _ ↦ kept_characters entries ]
+kept_characters (e ∷ entries) = elim e.what [
+  | Deleted piece place ↦ length piece + kept_characters entries
+  | _ ↦ kept_characters entries
+]
 
 abbrev pub fits : List Entry → Bool
 fits entries = nat_le (length entries) 65536 && nat_le (kept_characters entries) 1048576
@@ -106,7 +112,9 @@ cut (suc turns) entries = elim (fits entries) [ true ↦ entries | false ↦ cut
 abbrev pub in_front : Rec → ℕ → List Entry → List Entry
 in_front r serial [] = record { what = r; serial = serial } ∷ []
 in_front (Inserted from to) serial (e ∷ entries) = elim e.what [
-  | Inserted b p ↦ if p == from then record e { what = Inserted b to } ∷ entries else record { what = Inserted from to; serial = serial } ∷ e ∷ entries
+  | Inserted b p ↦
+      if p == from then record e { what = Inserted b to } ∷ entries else
+      record { what = Inserted from to; serial = serial } ∷ e ∷ entries
   | _ ↦ record { what = Inserted from to; serial = serial } ∷ e ∷ entries
 ]
 in_front r serial (e ∷ entries) = record { what = r; serial = serial } ∷ e ∷ entries
@@ -121,7 +129,13 @@ extends (Inserted from to) (e ∷ entries) = ends_at from e.what
 extends _ _ = false
 
 abbrev pub pushed : Rec → Undo → Undo
-pushed r u = if u.on then record u { entries = cut (length u.entries + 1) (in_front r u.next u.entries); next = if extends r u.entries then u.next else u.next + 1 } else u
+pushed r u =
+    if u.on then
+    record u {
+      entries = cut (length u.entries + 1) (in_front r u.next u.entries);
+      next = if extends r u.entries then u.next else u.next + 1;
+    } else
+    u
 
 abbrev pub pushed_all : List Rec → Undo → Undo
 pushed_all [] u = u

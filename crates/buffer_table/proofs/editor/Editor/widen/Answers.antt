@@ -1,5 +1,4 @@
-use Rattle.std.proofs.Common.{◌≡◌, ◌∙◌, arith}
-use Rattle.editor_model.specs.TextCalls.{widened}
+use Rattle.std.proofs.Common.{◌∙◌, arith}
 use Rattle.buffer_table.specs.Kept.{editor_of}
 use Rattle.buffer_table.proofs.Shown.{widened_to}
 use Rattle.buffer_table.proofs.editor.Editor.widen.Goals as goal
