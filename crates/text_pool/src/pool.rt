@@ -182,8 +182,13 @@ impl Pool {
         ensures target_is_live { IsLive self.new target.now }
         ensures others { SameOthers self.old self.new target.now }
         ensures spare { self.new.spare ≡ self.old.spare }
-        ensures live { live self.new ≡ live self.old }
+        ensures count { live self.new ≡ live self.old }
     {
+        if source.number == target.number {
+            let cells = self.blocks.get_mut(target.number).unwrap();
+            cells.copy_within(at..at + count, to);
+            return;
+        }
         let copied = self.blocks[source.number];
         let cells = self.blocks.get_mut(target.number).unwrap();
         cells[to..to + count].copy_from_slice(&copied[at..at + count]);
