@@ -9,6 +9,7 @@ pub mod Sizes
 pub mod Putting
 pub mod Moves
 pub mod NameLemmas
+pub mod NamesInTurn
 pub mod Stretches
 pub mod Reset
 pub mod Elsewhere

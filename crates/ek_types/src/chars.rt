@@ -101,8 +101,8 @@ impl Chars {
         };
     }
 
-    /// Puts the characters that have these bytes as their numbers behind the others, each of ASCII for itself. A refusal
-    /// leaves them as they were and the spare no smaller.
+    /// Puts the characters U+0000 to U+00FF that have these bytes as their scalar values behind the others, so that ASCII
+    /// stands for itself. A refusal leaves them as they were and the spare no smaller.
     pub fn extend_bytes(&mut self, bytes: &[u8]) -> Mem<()>
         ensures ok { OnOk result (self.new.items ≡ self.old.items ++ map Scalar bytes.now) }
         ensures room { OnOk result (self.old.spare ≤ self.new.spare + length bytes.now) }
@@ -115,8 +115,8 @@ impl Chars {
         Ok(())
     }
 
-    /// Puts the characters that have these bytes as their numbers behind the others, with no memory taken. There must be
-    /// spare for them, which falls by their number.
+    /// Puts the characters U+0000 to U+00FF that have these bytes as their scalar values behind the others, with no memory
+    /// taken. There must be spare for them, which falls by their number.
     pub fn extend_bytes_spare(&mut self, bytes: &[u8])
         requires { length bytes.now ≤ self.old.spare }
         ensures items { self.new.items ≡ self.old.items ++ map Scalar bytes.now }

@@ -1,41 +1,48 @@
 -- The steps of the loops that copy a text and that give its blocks back.
-use Rattle.std.proofs.Common.{◌≡◌, ℕ, ◌+◌, ◌-◌, ◌*◌, ◌<◌, ◌≤◌, List, [], ◌∷◌, ◌++◌, length, get_or, set, take, drop, refl, sym, ap, ◌∙◌, subst, arith, append_assoc, append-nil, None}
-use Rattle.std.proofs.lemmas.List.{take_more, take_more_set, length-append, drop_all}
+use Rattle.std.proofs.Common.{◌≡◌, ℕ, ◌+◌, ◌-◌, ◌*◌, ◌<◌, ◌≤◌, List, [], ◌∷◌, ◌++◌, length, take, drop, map, refl, sym, ap, ◌∙◌, subst, arith, append_assoc, append-nil, None}
+use Rattle.std.specs.Prelude.{min}
+use Rattle.std.proofs.lemmas.List.{length-append, length-drop, length-take, length-take-le, take-take, drop_all}
+use Rattle.text_model.specs.Characters.{code}
 use Rattle.text_pool.specs.Pool.{Pooled, cells_at, IsLive, live, SameOthers}
 use Rattle.gap_text.specs.Blocks.{cells_of, Absent, Distinct, AllLive, AllGone, Apart, IsRow, SameOutside, OnlyFresh, ChangesCellsOf}
 use Rattle.ek_types.specs.Seen.{AreCodes}
-use Rattle.gap_text.specs.Text.{Gapped, codes, LiesIn}
+use Rattle.ek_types.proofs.Readings.{part_of_read}
+use Rattle.gap_text.specs.Text.{Gapped, codes, characters, LiesIn}
 use Rattle.gap_text.proofs.BlockLemmas.{apart_nil, absent_split, apart_sym, distinct_split, live_split}
 use Rattle.gap_text.proofs.Rows.{length_row}
-use Rattle.gap_text.proofs.Moves.{no_change, one_more_change}
+use Rattle.gap_text.proofs.Moves.{Writing, writes}
 use Rattle.gap_text.proofs.Texts.{made}
 use Rattle.gap_text.proofs.Elsewhere.{SameText, text_elsewhere, live_elsewhere}
 
--- the first codes of a text are in the first cells of a row
-pub record Copying (blocks : List ℕ) (source : Gapped) (first pool : Pooled) (count : ℕ) : Type 0 where
-  pub taken : take count (cells_of pool blocks) ≡ take count (codes first source)
-  pub row : IsRow pool blocks
-  pub changes : ChangesCellsOf blocks first pool
+pub source_stays : (blocks codes_of : List ℕ) (source : Gapped) (first pool : Pooled) (place count : ℕ) → Writing blocks first pool place codes_of count → Apart source.blocks blocks → LiesIn first source → SameText first pool source source
+source_stays blocks codes_of source first pool place count w apart lies = text_elsewhere first pool source blocks w.changes.others apart lies
 
-pub starts_copying : (blocks : List ℕ) (source : Gapped) (pool : Pooled) → IsRow pool blocks → Copying blocks source pool pool 0
-starts_copying blocks source pool row = record { taken = refl; row = row; changes = no_change blocks pool }
+-- codes that are lent, as they stand among all
+lent_codes : (source : Gapped) (first middle : Pooled) (place : ℕ) (lent : List ℕ) → SameText first middle source source → lent ≡ map code (take (length lent) (drop place (characters middle source)))
+    → lent ≡ take (length lent) (drop place (codes first source))
+lent_codes source first middle place lent same e =
+    e ∙ sym (part_of_read place (length lent) (codes middle source) same.lies.codes) ∙ ap (λ cs. take (length lent) (drop place cs)) same.codes
 
-pub source_stays : (blocks : List ℕ) (source : Gapped) (first pool : Pooled) (count : ℕ) → Copying blocks source first pool count → Apart source.blocks blocks → LiesIn first source → SameText first pool source source
-source_stays blocks source first pool count c apart lies = text_elsewhere first pool source blocks c.changes.others apart lies
+-- no more are lent than there are
+pub lent_within : (source : Gapped) (first middle : Pooled) (place : ℕ) (lent : List ℕ) → SameText first middle source source → lent ≡ map code (take (length lent) (drop place (characters middle source)))
+    → place ≤ length (codes first source) → place + length lent ≤ length (codes first source)
+lent_within source first middle place lent same e h =
+    let size : length lent ≡ min (length lent) (length (drop place (codes first source))) = ap length (lent_codes source first middle place lent same e) ∙ length-take (length lent) (drop place (codes first source)) in
+    omega (arith, length-drop place (codes first source))
 
-pub copies_on : (blocks : List ℕ) (source : Gapped) (first middle last : Pooled) (count value : ℕ) → Copying blocks source first middle count → Apart source.blocks blocks → LiesIn first source
-    → count < length (codes first source) → length (codes first source) ≤ 256 * length blocks → value ≡ get_or (codes middle source) count 0
-    → cells_of last blocks ≡ set (cells_of middle blocks) count value → IsRow last blocks → ChangesCellsOf blocks middle last
-    → Copying blocks source first last (count + 1)
-copies_on blocks source first middle last count value c apart lies more room v e row changes =
-    let size : length (cells_of middle blocks) ≡ 256 * length blocks = length_row middle blocks c.row.live in
-    let is : value ≡ get_or (codes first source) count 0 = v ∙ ap (λ cs. get_or cs count 0) (source_stays blocks source first middle count c apart lies).codes in
-    record {
-      taken = ap (λ found. take (count + 1) found) e ∙ take_more_set (cells_of middle blocks) count value (omega arith)
-          ∙ ap (λ l. l ++ value ∷ []) c.taken ∙ ap (λ n. take count (codes first source) ++ n ∷ []) is ∙ sym (take_more (codes first source) count 0 more);
-      row = row;
-      changes = one_more_change blocks first middle last c.changes changes;
-    }
+-- some more codes are in the first cells of a row
+pub copies_on : (blocks : List ℕ) (source : Gapped) (first middle last : Pooled) (place count : ℕ) (lent part : List ℕ) → Writing blocks first middle 0 (codes first source) place
+    → Apart source.blocks blocks → LiesIn first source → place ≤ length (codes first source) → length (codes first source) ≤ 256 * length blocks
+    → lent ≡ map code (take (length lent) (drop place (characters middle source))) → count ≤ length lent → part ≡ take count lent
+    → cells_of last blocks ≡ take place (cells_of middle blocks) ++ part ++ drop (place + length part) (cells_of middle blocks) → IsRow last blocks → ChangesCellsOf blocks middle last
+    → Writing blocks first last 0 (codes first source) (place + count)
+copies_on blocks source first middle last place count lent part w apart lies within room e few is written row changes =
+    let same = source_stays blocks (codes first source) source first middle 0 place w apart lies in
+    let more : place + length lent ≤ length (codes first source) = lent_within source first middle place lent same e within in
+    let z : 0 + place ≡ place = omega arith in
+    let size : length part ≡ count = ap length is ∙ length-take-le count lent few in
+    let front : part ≡ take count (drop place (codes first source)) = is ∙ ap (take count) (lent_codes source first middle place lent same e) ∙ take-take count (length lent) (drop place (codes first source)) few in
+    writes blocks first middle last 0 (codes first source) place count part w (omega arith) size front (rw z written) row changes
 
 -- a text without characters that got those of another
 pub filled_text : (first last : Pooled) (from : Gapped) (blocks : List ℕ) (spare count : ℕ) → spare ≡ 256 * length blocks → LiesIn first from → count ≡ length (codes first from) → count ≤ spare

@@ -1,7 +1,7 @@
 -- The cells of a list of blocks as one row.
-use Rattle.std.proofs.Common.{◌/◌, ◌%◌, ⊎_elim, ◌≡◌, ◌≢◌, ℕ, zero, suc, ◌+◌, ◌-◌, ◌*◌, ◌<◌, ◌≤◌, List, [], ◌∷◌, ◌++◌, length, get_or, set, take, drop, flat_map, refl, sym, ap, ◌∙◌, subst, arith, append_assoc, unwrap_or, IsSomeAnd, Option, Some, None}
+use Rattle.std.proofs.Common.{◌/◌, ◌%◌, ⊎_elim, ◌≡◌, ◌≢◌, ℕ, zero, suc, ◌+◌, ◌-◌, ◌*◌, ◌<◌, ◌≤◌, List, [], ◌∷◌, ◌++◌, length, get_or, take, drop, flat_map, refl, sym, ap, ◌∙◌, subst, arith, append_assoc, unwrap_or, IsSomeAnd, Option, Some, None}
 use lib.Seq.{paste}
-use Rattle.std.proofs.lemmas.List.{length-append, length-drop, length-take-le, get_or_append_left, get_or-append_right, set-append_left, set-append_right, take-append-le, drop-append-le}
+use Rattle.std.proofs.lemmas.List.{length-append, length-drop, length-take-le, get_or_append_left, get_or-append_right, take-append-le, drop-append-le}
 use Rattle.gap_text.proofs.Gaps.{drop_past, take_past}
 use Rattle.text_pool.specs.Pool.{Pooled, cells_at, cells, IsLive, live, SameOthers}
 use Rattle.std.proofs.lemmas.Bool.{cases_eq}
@@ -47,24 +47,6 @@ pub flat_map_same : (f g : ℕ → List ℕ) (blocks : List ℕ) (number : ℕ) 
 flat_map_same f g [] number a same = refl
 flat_map_same f g (block ∷ blocks) number a same =
     rw (same block (λ e. a.0 (sym e)), flat_map_same f g blocks number a.1 same) refl
-
--- a cell of one block is set in the row
-pub set-row : (f g : ℕ → List ℕ) (blocks : List ℕ) (q r place d value : ℕ) → Distinct blocks → q < length blocks → r < 256 → place ≡ 256 * q + r
-    → ((k : ℕ) → k < length blocks → length (f (get_or blocks k d)) ≡ 256)
-    → g (get_or blocks q d) ≡ set (f (get_or blocks q d)) r value → ((other : ℕ) → other ≢ get_or blocks q d → g other ≡ f other)
-    → flat_map g blocks ≡ set (flat_map f blocks) place value
-set-row f g [] q r place d value n l k e full here same = absurd (omega arith)
-set-row f g (block ∷ blocks) zero r place d value n l k e full here same =
-    let at : place ≡ r = omega arith in
-    let whole : length (f block) ≡ 256 = full 0 (omega arith) in
-    let left : set (f block ++ flat_map f blocks) r value ≡ set (f block) r value ++ flat_map f blocks = set-append_left (f block) (flat_map f blocks) r value (omega arith) in
-    rw (at, left, here, flat_map_same f g blocks block n.0 same) refl
-set-row f g (block ∷ blocks) (suc q) r place d value n l k e full here same =
-    let whole : length (f block) ≡ 256 = full 0 (omega arith) in
-    let right : set (f block ++ flat_map f blocks) place value ≡ f block ++ set (flat_map f blocks) (place - 256) value = set-append_right (f block) (flat_map f blocks) 256 place value whole (omega arith) in
-    let rest : flat_map g blocks ≡ set (flat_map f blocks) (place - 256) value =
-    set-row f g blocks q r (place - 256) d value n.1 (omega arith) k (omega arith) (λ j h. full (suc j) (omega arith)) here same in
-    rw (same block (absent_at block blocks q d n.0 (omega arith)), right, rest) refl
 
 -- a part of the row that lies in one block
 pub part-row : (pool : Pooled) (blocks : List ℕ) (q r place n d : ℕ) → AllLive pool blocks → q < length blocks → r + n ≤ 256 → place ≡ 256 * q + r
@@ -148,16 +130,6 @@ absent_differs blocks place block number h a e =
 
 same_full : (pool : Pooled) (blocks : List ℕ) (d k : ℕ) → AllLive pool blocks → k < length blocks → length (cells pool (get_or blocks k d)) ≡ 256
 same_full pool blocks d k live l = length_live pool (get_or blocks k d) (live_at pool blocks k d live l)
-
-pub write_row : (old new : Pooled) (blocks : List ℕ) (place block value : ℕ) → Holds blocks place block → AllLive old blocks → Distinct blocks
-    → cells new block ≡ set (cells old block) (place % 256) value → SameOthers old new block
-    → cells_of new blocks ≡ set (cells_of old blocks) place value
-write_row old new blocks place block value h live distinct here same =
-    let range : place < 256 * length blocks = h.range in
-    set-row (cells old) (cells new) blocks (place / 256) (place % 256) place block value distinct (omega arith) (omega arith) (omega arith)
-    (λ k l. same_full old blocks block k live l)
-    (subst (λ b. cells new b ≡ set (cells old b) (place % 256) value) h.is here)
-    (λ other ne. ap (λ o. unwrap_or o []) (same other (λ e. ne (e ∙ h.is))))
 
 -- cells of one block are copied over those of another, or of the same one
 pub copy_row : (old new : Pooled) (blocks : List ℕ) (from to source target count : ℕ) → Holds blocks from source → Holds blocks to target → AllLive old blocks → Distinct blocks

@@ -1,7 +1,7 @@
 //! The cells of a list of blocks as one row, counted from 0, and the gap in it.
 ghost use lib.Seq.{paste};
 ghost use Rattle.std.specs.Prelude.{◌≡◌, ℕ, ◌+◌, ◌*◌, ◌%◌, ◌<◌, ◌≤◌, ◌++◌, length, take, drop, map};
-ghost use Rattle.std.specs.Prelude.{slice_index, slice_set};
+ghost use Rattle.std.specs.Prelude.{slice_index};
 ghost use Rattle.text_model.specs.Characters.{code};
 ghost use Rattle.ek_types.specs.Seen.{AreCharacters};
 ghost use Rattle.gap_text.specs.Blocks.{cells_of, IsRow, AllLive, ChangesCellsOf};
@@ -36,18 +36,6 @@ pub(crate) fn cells_from<'a>(
     let first = place % CELLS;
     let end = CELLS.min(first.saturating_add(most));
     &pool.cells(&blocks[place / CELLS])[first..end]
-}
-
-/// Sets the cell at a place, and no other.
-pub(crate) fn set_cell_at(blocks: &[Block], pool: &mut Pool, place: usize, value: u32)
-    requires row { IsRow pool.old blocks.now }
-    requires range { place < 256 * length blocks.now }
-    ensures cells { cells_of pool.new blocks.now ≡
-        slice_set (cells_of pool.old blocks.now) place value }
-    ensures row { IsRow pool.new blocks.now }
-    ensures pool { ChangesCellsOf blocks.now pool.old pool.new }
-{
-    pool.set_cell(&blocks[place / CELLS], place % CELLS, value);
 }
 
 /// Copies `count` cells from the place `from` on to the places from `to` on. Either part lies in one block.
@@ -129,7 +117,7 @@ pub(crate) fn move_gap(blocks: &[Block], pool: &mut Pool, gap: usize, spare: usi
 }
 
 /// Sets the cells from a place on, which lie in one block, to some values, and no others.
-fn set_cells_at(blocks: &[Block], pool: &mut Pool, place: usize, values: &[u32])
+pub(crate) fn set_cells_at(blocks: &[Block], pool: &mut Pool, place: usize, values: &[u32])
     requires row { IsRow pool.old blocks.now }
     requires some { 0 < length values.now }
     requires one_block { place % 256 + length values.now ≤ 256 }

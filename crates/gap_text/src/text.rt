@@ -9,7 +9,7 @@ ghost use Rattle.gap_text.specs.Blocks.{ChangesCellsOf};
 ghost use Rattle.gap_text.specs.Text.{Gapped, codes, characters, LiesIn};
 
 use crate::growth::{blocks_wanted, insert_blocks, make_room};
-use crate::row::{cell_at, cells_from, move_gap, set_cell_at, write};
+use crate::row::{cell_at, cells_from, move_gap, set_cells_at, write};
 use ek_types::{Ch, Chars, Mem};
 use std::alloc::Global;
 use std::marker::Model;
@@ -179,7 +179,8 @@ impl Text {
 
 impl Text {
     /// Makes the spare at least `n`. A refusal leaves the text as it was, and the pool but for spare room. Blocks are
-    /// put where the gap is, so that at most the cells of one block move, and their number grows by an eighth at least.
+    /// put where the gap is, so that at most the cells of one block move; a row that grows grows by an eighth of its blocks
+    /// at least.
     pub fn reserve(&mut self, pool: &mut Pool, n: usize) -> Mem<()>
         requires { LiesIn pool.old self.old }
         ensures lies { LiesIn pool.new self.new }
@@ -250,7 +251,7 @@ impl Text {
         blocks.destroy_empty();
     }
 
-    /// Writes all codes to the first cells of a row of other blocks.
+    /// Writes all codes to the first cells of a row of other blocks, by parts that lie in one block of either.
     fn copy_codes(&self, pool: &mut Pool, blocks: &[Block])
         requires lies { LiesIn pool.old self.now }
         requires row { IsRow pool.old blocks.now }
@@ -261,9 +262,16 @@ impl Text {
         ensures row { IsRow pool.new blocks.now }
         ensures pool { ChangesCellsOf blocks.now pool.old pool.new }
     {
-        for i in 0..self.len() {
-            let code = self.code_at(pool, i);
-            set_cell_at(blocks, pool, i, code);
+        let size = self.len();
+        // The pool can't lend cells while others of it are set.
+        let mut held = [0; CELLS];
+        let mut place = 0;
+        while place < size {
+            let lent = self.stretch(pool, place);
+            let count = lent.len().min(CELLS - place % CELLS);
+            held[..count].copy_from_slice(&lent[..count]);
+            set_cells_at(blocks, pool, place, &held[..count]);
+            place += count;
         }
     }
 

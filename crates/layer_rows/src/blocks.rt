@@ -27,10 +27,10 @@ fn each_block_keeps_its_cells(rt: HostRuntime) {
     pool.reserve(2).expect(&rt, "memory");
     let first = pool.take().expect(&rt, "a first block");
     let second = pool.take().expect(&rt, "a second block");
-    pool.set_cell(&first, 0, 10);
-    pool.set_cell(&first, 255, 11);
-    pool.set_cell(&second, 0, 20);
-    pool.set_cell(&second, 255, u32::MAX);
+    pool.set_cells(&first, 0, &[10]);
+    pool.set_cells(&first, 255, &[11]);
+    pool.set_cells(&second, 0, &[20]);
+    pool.set_cells(&second, 255, &[u32::MAX]);
     is(&rt, pool.cell(&first, 0), 10);
     is(&rt, pool.cell(&first, 255), 11);
     pool.give(first);
@@ -44,8 +44,7 @@ fn a_part_is_copied_over_itself(rt: HostRuntime) {
     let mut pool = Pool::new(rt.alloc());
     pool.reserve(1).expect(&rt, "memory");
     let block = pool.take().expect(&rt, "a block");
-    pool.set_cell(&block, 0, 10);
-    pool.set_cell(&block, 1, 11);
+    pool.set_cells(&block, 0, &[10, 11]);
     pool.copy_cells(&block, 0, &block, 1, 2);
     is(&rt, pool.cell(&block, 0), 10);
     is(&rt, pool.cell(&block, 1), 10);
@@ -59,7 +58,7 @@ fn a_part_is_copied_to_another_block(rt: HostRuntime) {
     pool.reserve(2).expect(&rt, "memory");
     let first = pool.take().expect(&rt, "a first block");
     let second = pool.take().expect(&rt, "a second block");
-    pool.set_cell(&first, 1, 10);
+    pool.set_cells(&first, 1, &[10]);
     pool.copy_cells(&first, 1, &second, 255, 1);
     is(&rt, pool.cell(&second, 255), 10);
     pool.give(first);

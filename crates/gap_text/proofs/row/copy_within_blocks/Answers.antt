@@ -32,5 +32,5 @@ returns-clause-pool c =
     record {
       others = λ number a. c.copy_cells.ensures.others number (absent_differs c.args.blocks.now c.args.to c.index-blocks-to.result number to a);
       spare = c.copy_cells.ensures.spare;
-      count = c.copy_cells.ensures.live;
+      count = c.copy_cells.ensures.count;
     }
