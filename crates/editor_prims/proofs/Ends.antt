@@ -1,14 +1,14 @@
 -- Overlays that are asked one after the other: which stand in front of a position, and where the first of them begins or ends.
 use Rattle.std.proofs.Common.{◌≡◌, ℕ, zero, suc, ◌+◌, ◌<◌, ◌≤◌, Bool, true, false, List, [], ◌∷◌, ◌++◌, length, drop, refl, sym, ap, ◌∙◌, arith, append_assoc, append-nil}
-use Rattle.std.specs.Prelude.{◌&&◌, ◌||◌, ◌==◌, nat_lt, min, if◌then◌else◌, filter, Some, None, slice_get, unwrap_or}
+use Rattle.std.specs.Prelude.{◌&&◌, ◌||◌, ◌==◌, nat_lt, min, max, if◌then◌else◌, filter, Option, Some, None, is_some, slice_get, unwrap_or}
 use Rattle.std.specs.List.{enumerate_from}
 use Rattle.std.proofs.lemmas.Bool.{lt-ltb, le-ltb, ltb-false, lt-leb, eq-eqb, ne_eqb}
 use Rattle.std.proofs.lemmas.List.{drop_all}
 use Rattle.text_model.proofs.Lists.{drop_at}
 use Rattle.text_model.specs.Marks.{Overlay, Span}
-use Rattle.text_model.specs.OverlayQuestions.{span_passes, ends_of_span, overlay_ends, least, greatest, previous_end, lies_within, overlaps, stands_in}
+use Rattle.text_model.specs.OverlayQuestions.{span_passes, ends_of_span, overlay_ends, least, greatest, next_end, previous_end, lies_within, overlaps, stands_in}
 use Rattle.editor_model.specs.Editor.{Editor, overlay_of}
-use Rattle.overlay_set.specs.Numbered.{numbers_of}
+use Rattle.overlay_set.specs.Numbered.{numbers_of, previous_or}
 
 eq_test : (a b : ℕ) → a ≡ b → (a == b) ≡ true
 eq_test a b h = eq-eqb a b h
@@ -40,40 +40,42 @@ passes_all id test os k front whole l inv =
     sym (append-nil front) ∙ ap (λ l. front ++ numbers_of (filter (λ (p : ℕ × Overlay). span_passes id test p.1.span) (enumerate_from k l))) (sym (drop_all k os l)) ∙ inv
 
 -- ENDS
-filter_both : (t : ℕ → Bool) (xs ys : List ℕ) → filter t (xs ++ ys) ≡ filter t xs ++ filter t ys
-filter_both t [] ys = refl
-filter_both t (x ∷ xs) ys = go (t x) (filter_both t xs ys)
-  where
-    go : (b : Bool) → filter t (xs ++ ys) ≡ filter t xs ++ filter t ys → (if b then x ∷ filter t (xs ++ ys) else filter t (xs ++ ys)) ≡ (if b then x ∷ filter t xs else filter t xs) ++ filter t ys
-    go true e = ap (λ l. x ∷ l) e
-    go false e = e
+least_one : (xs : List ℕ) → least 1 (filter (λ x. nat_lt 0 x) xs) ≡ 1
+least_one [] = refl
+least_one (zero ∷ xs) = least_one xs
+least_one (suc x ∷ xs) =
+    let nearer : min 1 (suc x) ≡ 1 = omega arith in
+    rw (lt-ltb 0 (suc x) (omega arith)) (ap (λ n. least n (filter (λ x. nat_lt 0 x) xs)) nearer ∙ least_one xs)
 
-least_both : (n : ℕ) (xs ys : List ℕ) → least n (xs ++ ys) ≡ least (least n xs) ys
-least_both n [] ys = refl
-least_both n (x ∷ xs) ys = least_both (min n x) xs ys
+greatest_most : (n : ℕ) (xs : List ℕ) → n ≤ greatest n xs
+greatest_most n [] = omega arith
+greatest_most n (x ∷ xs) = let more = greatest_most (max n x) xs in omega (arith, more)
 
-pub nearest_more : (id : ℕ) (os : List Overlay) (k : ℕ) (o : Overlay) (best new whole : ℕ) → slice_get os k ≡ Some o → new ≡ least best (filter (λ x. nat_lt 0 x) (ends_of_span id o.span))
-    → least best (filter (λ x. nat_lt 0 x) (overlay_ends id (drop k os))) ≡ whole → least new (filter (λ x. nat_lt 0 x) (overlay_ends id (drop (k + 1) os))) ≡ whole
-nearest_more id os k o best new whole at step inv =
-    let rest = overlay_ends id (drop (k + 1) os) in
-    let own = ends_of_span id o.span in
-    ap (λ n. least n (filter (λ x. nat_lt 0 x) rest)) step
-    ∙ sym (least_both best (filter (λ x. nat_lt 0 x) own) (filter (λ x. nat_lt 0 x) rest))
-    ∙ ap (least best) (sym (filter_both (λ x. nat_lt 0 x) own rest))
-    ∙ ap (λ l. least best (filter (λ x. nat_lt 0 x) (overlay_ends id l))) (sym (drop_at os k o at)) ∙ inv
+-- where 1 is among some numbers, it is the first of those behind 0
+first_is_one : (n : ℕ) (xs : List ℕ) → 1 ≤ n → 1 ≤ greatest 0 (filter (λ x. nat_lt x 2) xs) → least n (filter (λ x. nat_lt 0 x) xs) ≡ 1
+first_is_one n [] low there = absurd (omega arith)
+first_is_one n (zero ∷ xs) low there = first_is_one n xs low there
+first_is_one n (suc zero ∷ xs) low there = ap (λ m. least m (filter (λ x. nat_lt 0 x) xs)) (let e : min n 1 ≡ 1 = omega arith in e) ∙ least_one xs
+first_is_one n (suc (suc x) ∷ xs) low there =
+    let rest : 1 ≤ greatest 0 (filter (λ x. nat_lt x 2) xs) = rw (le-ltb (suc (suc x)) 2 (omega arith)) at there in
+    rw (lt-ltb 0 (suc (suc x)) (omega arith)) (first_is_one (min n (suc (suc x))) xs (omega arith) rest)
 
-pub nearest_all : (id : ℕ) (os : List Overlay) (k best whole : ℕ) → length os ≤ k → least best (filter (λ x. nat_lt 0 x) (overlay_ends id (drop k os))) ≡ whole → best ≡ whole
-nearest_all id os k best whole l inv = ap (λ l. least best (filter (λ x. nat_lt 0 x) (overlay_ends id l))) (sym (drop_all k os l)) ∙ inv
+-- where it isn't, those behind 0 are those behind 1
+none_is_one : (xs : List ℕ) → greatest 0 (filter (λ x. nat_lt x 2) xs) ≡ 0 → filter (λ x. nat_lt 0 x) xs ≡ filter (λ x. nat_lt 1 x) xs
+none_is_one [] none = refl
+none_is_one (zero ∷ xs) none = none_is_one xs none
+none_is_one (suc zero ∷ xs) none = let more = greatest_most 1 (filter (λ x. nat_lt x 2) xs) in absurd (omega (arith, more, none))
+none_is_one (suc (suc x) ∷ xs) none =
+    let rest : greatest 0 (filter (λ x. nat_lt x 2) xs) ≡ 0 = rw (le-ltb (suc (suc x)) 2 (omega arith)) at none in
+    rw (lt-ltb 0 (suc (suc x)) (omega arith), lt-ltb 1 (suc (suc x)) (omega arith)) (ap (λ ys. suc (suc x) ∷ ys) (none_is_one xs rest))
 
-pub of_span : (id buffer from to best : ℕ) → buffer ≡ id → min (min best from) to + 1 ≡ least (best + 1) (filter (λ x. nat_lt 0 x) (ends_of_span id (Some (record { buffer = buffer; start = from; end = to }))))
-of_span id buffer from to best h =
-    let own : (buffer == id) ≡ true = eq_test buffer id h in
-    let a : nat_lt 0 (from + 1) ≡ true = lt-ltb 0 (from + 1) (omega arith) in
-    let b : nat_lt 0 (to + 1) ≡ true = lt-ltb 0 (to + 1) (omega arith) in
-    rw (own, a, b) (omega arith)
+pub first_found : (id last : ℕ) (os : List Overlay) (found : Option ℕ) → ((first : ℕ) → previous_end id 2 first os ≡ previous_or first found) → is_some found ≡ true → 1 ≤ last → 1 ≡ next_end id 0 last os
+first_found id last os None h some low = cc
+first_found id last os (Some place) h some low = sym (first_is_one last (overlay_ends id os) low (let e = h 0 in omega (arith, e)))
 
-pub of_other : (id buffer from to best : ℕ) → (buffer ≡ id → ⊥) → best + 1 ≡ least (best + 1) (filter (λ x. nat_lt 0 x) (ends_of_span id (Some (record { buffer = buffer; start = from; end = to }))))
-of_other id buffer from to best h = rw (let own : (buffer == id) ≡ false = ne_test buffer id h in own) refl
+pub first_behind : (id last : ℕ) (os : List Overlay) (found : Option ℕ) → ((first : ℕ) → previous_end id 2 first os ≡ previous_or first found) → is_some found ≡ false → next_end id 1 last os ≡ next_end id 0 last os
+first_behind id last os None h none = sym (ap (least last) (none_is_one (overlay_ends id os) (h 0)))
+first_behind id last os (Some place) h none = cc
 
 none_before : (xs : List ℕ) → filter (λ x. nat_lt x 0) xs ≡ []
 none_before [] = refl

@@ -1,12 +1,14 @@
 -- Property lists, read from their ends.
 use Rattle.std.proofs.Common.{◌≡◌, ℕ, zero, suc, ◌+◌, ◌*◌, ◌≤◌, Bool, true, false, List, [], ◌∷◌, ◌++◌, length, map, take, drop, refl, sym, ap, ◌∙◌, arith, append_assoc}
-use Rattle.std.specs.Prelude.{slice_get, Option, Some, None, filter, is_none, is_some, unwrap_or, ◌==◌, if◌then◌else◌}
+use Rattle.std.specs.Prelude.{slice_get, Option, Some, None, filter, is_none, is_some, unwrap_or, ◌==◌, ◌||◌, if◌then◌else◌}
 use Rattle.std.specs.List.{list_any}
 use Rattle.std.proofs.lemmas.List.{take_all}
+use Rattle.std.proofs.lemmas.List.Folds.{list_any-append}
 use Rattle.text_model.proofs.Lists.{take_one_more, drop_at}
 use Rattle.text_model.specs.Properties.{PropVal}
 use Rattle.editor_model.specs.Values.{Value, Sym, Pairs, as_prop, with_pair, pairs_of, items, values}
 use Rattle.editor_model.specs.PropertyCalls.{names_of_pairs, nil_names}
+use Rattle.ek_types.specs.Property.{number_of}
 use Rattle.editor_prims.specs.declared.property_lists.Pair.{Pair}
 use Rattle.editor_prims.specs.PropertyArguments.{backwards, paired, pair_of}
 
@@ -22,6 +24,20 @@ pushed_pair old new p h = ap backwards h ∙ pushed old p
 
 pub all_back : (list : List Pair) (i : ℕ) → length list ≤ i → backwards (take i list) ≡ backwards list
 all_back list i l = ap backwards (take_all i list l)
+
+or_turned : (a b : Bool) → (a || (b || false)) ≡ (b || a)
+or_turned true true = refl
+or_turned true false = refl
+or_turned false true = refl
+or_turned false false = refl
+
+-- whichever pair is asked first
+pub any_back : (name : ℕ) (list : List Pair) → list_any (λ (p : ℕ × Option PropVal). p.0 == name) (backwards list) ≡ list_any (λ (p : Pair). number_of p.name == name) list
+any_back name [] = refl
+any_back name (p ∷ list) =
+    list_any-append (λ (q : ℕ × Option PropVal). q.0 == name) (backwards list) (pair_of p ∷ [])
+    ∙ or_turned (list_any (λ (q : ℕ × Option PropVal). q.0 == name) (backwards list)) (number_of p.name == name)
+    ∙ ap (λ b. (number_of p.name == name) || b) (any_back name list)
 
 -- A PROPERTY LIST
 pub paired_first : (x y : Value) (rest : List Value) → paired x y (pairs_of rest) ≡ pairs_of (x ∷ y ∷ rest)

@@ -1,10 +1,9 @@
 //! Which overlays stand where ("Finding Overlays" in the GNU Emacs Lisp Reference Manual).
-ghost use Rattle.std.specs.Prelude.{◌≡◌, ◌≤◌, ◌+◌, nat_lt, map, option_map, filter, if◌then◌else◌};
+ghost use Rattle.std.specs.Prelude.{◌≡◌, ◌≤◌, ◌+◌, map, option_map, if◌then◌else◌};
 ghost use Rattle.std.specs.Prelude.{IfOk, OnOk, ◌++◌, ◌∷◌, []};
 ghost use Rattle.overlay_set.specs.Numbered.{numbers_of, span_of};
 ghost use Rattle.text_model.specs.OverlayQuestions.{overlays_where, span_passes, covers};
-ghost use Rattle.text_model.specs.OverlayQuestions.{lies_within, winner, ends_of_span, least};
-ghost use Rattle.text_model.specs.OverlayQuestions.{next_end, previous_end};
+ghost use Rattle.text_model.specs.OverlayQuestions.{lies_within, winner, next_end, previous_end};
 ghost use Rattle.editor_model.specs.Values.{of_prop, TheOverlay, list};
 ghost use Rattle.editor_model.specs.Arguments.{position};
 ghost use Rattle.editor_model.specs.OverlayCalls as calls;
@@ -216,26 +215,18 @@ pub(crate) fn overlays_in(editor: &Editor, a: &Value, b: &Value) -> Result<Value
     Ok(standing_list(editor, a, b)?)
 }
 
-/// The nearest of the places of an overlay of a buffer and another place.
-fn nearest(span: Option<(u32, usize, usize)>, id: u32, best: usize) -> usize
-    ensures { result + 1 ≡ least (best + 1) (filter (λ x. nat_lt 0 x)
-        (ends_of_span id (span_of span))) }
-{
-    match span {
-        Some((buffer, from, to)) if buffer == id => best.min(from).min(to),
-        _ => best,
-    }
-}
-
 /// The first place where an overlay of a buffer begins or ends, or a place that comes before it.
 fn first_end(editor: &Editor, id: u32, end: usize) -> usize
     ensures { result + 1 ≡ next_end id 0 (end + 1) (editor_of editor.now).marks.overlays }
 {
-    let mut best = end;
-    for k in 0..overlay_count(editor) {
-        best = nearest(span(editor, k), id, best);
+    let overlays = &editor.marks().overlays;
+    if overlays.prev_change(id, 1).is_some() {
+        return 0;
     }
-    best
+    match overlays.next_change(id, 0) {
+        Some(found) => found.min(end),
+        None => end,
+    }
 }
 
 /// The next place where an overlay of the current buffer begins or ends behind a position, or the end of the accessible

@@ -1,5 +1,5 @@
 //! Arguments that are property lists: names and values in turn, no name twice.
-ghost use Rattle.std.specs.Prelude.{◌≡◌, ◌==◌, ◌||◌, map, IfOk, OnOk, is_some, ◌++◌, option_map};
+ghost use Rattle.std.specs.Prelude.{◌≡◌, ◌==◌, map, IfOk, OnOk, is_some, ◌++◌, option_map};
 ghost use Rattle.std.specs.Prelude.{Some, [], ◌∷◌};
 ghost use Rattle.text_model.specs.Properties.{put};
 ghost use Rattle.std.specs.List.{list_any};
@@ -28,28 +28,11 @@ pub struct Pair {
 /// The pairs of a property list, the last first.
 pub type Pairs = ListOf<Pair>;
 
-/// Whether a pair has a name.
-fn is_named(pair: &Pair, name: Sym) -> bool
-    ensures { result ≡ ((pair_of pair.now).0 == number_of name) }
-{
-    pair.name.0 == name.0
-}
-
-fn either(one: bool, other: bool) -> bool
-    ensures { result ≡ (one || other) }
-{
-    one || other
-}
-
 /// Whether one of the pairs has a name.
 fn has_name(list: &Pairs, name: Sym) -> bool
     ensures { result ≡ list_any (λ p. p.0 == number_of name) (backwards (items_of list.now)) }
 {
-    let mut found = false;
-    for i in 0..list.len() {
-        found = either(is_named(list.at(i), name), found);
-    }
-    found
+    list.as_slice().iter().any(|pair| pair.name.0 == name.0)
 }
 
 /// The pairs of a list with a name and a value in front, where these can stand there.

@@ -1,13 +1,11 @@
 //! The calls on undo records.
-ghost use Rattle.std.specs.Prelude.{◌≡◌, true, OnOk, OnErr};
-ghost use Rattle.text_model.specs.Undo.{with_boundary, started, enabled, disabled};
-ghost use Rattle.editor_model.specs.Editor.{here};
+ghost use Rattle.std.specs.Prelude.{◌≡◌, OnOk, OnErr};
+ghost use Rattle.text_model.specs.Undo.{with_boundary, enabled, disabled};
 ghost use Rattle.editor_model.specs.UndoCalls as calls;
 ghost use Rattle.buffer_table.specs.Kept.{editor_of};
 ghost use Rattle.editor_prims.specs.Meaning.{Applies};
 
 use crate::failure::Failure;
-use crate::kinds::must;
 use buffer_table::Editor;
 use ek_call::{Fault, Value};
 use ek_types::Mem;
@@ -62,23 +60,14 @@ pub(crate) fn buffer_disable_undo(editor: &mut Editor) -> Result<Value, Failure>
     Ok(Value::Nil)
 }
 
-/// Makes all records of the current buffer pending.
-fn start(editor: &mut Editor)
-    requires { (here (editor_of editor.old)).undo.on ≡ true }
-    ensures { editor_of editor.new ≡ calls.with_undo started (editor_of editor.old) }
-{
-    let id = editor.current();
-    let _ = editor.undo_start(id);
-}
-
 /// All records of the current buffer become pending, where it records. It is refused where it doesn't.
-#[tactic(auto, using(crate::proofs::Changing::test_passed))]
 pub(crate) fn undo_start(editor: &mut Editor) -> Result<Value, Failure>
     ensures { Applies result (editor_of editor.old) (editor_of editor.new)
         (calls.undo_start (editor_of editor.old)) }
 {
     let id = editor.current();
-    must(editor.is_recording(id), Fault::UndoDisabled)?;
-    start(editor);
-    Ok(Value::Nil)
+    match editor.undo_start(id) {
+        Ok(()) => Ok(Value::Nil),
+        Err(_) => Err(Failure::Refused(Fault::UndoDisabled)),
+    }
 }

@@ -7,7 +7,7 @@ ghost use Rattle.marker_set.specs.Numbered.{nowhere, marker_at, spot_of, points_
 ghost use Rattle.marker_set.specs.Numbered.{numbers_within, HasRoomFor};
 ghost use Rattle.marker_set.specs.Changes.{moved_by, CanMoveIn};
 ghost use Rattle.marker_set.specs.Blocks.{IsFree, moved_block, CanMoveBlock};
-ghost use Rattle.marker_set.specs.Homes.{moved_slot, CanMoveSlot};
+ghost use Rattle.marker_set.specs.Homes.{moved_slot, CanMoveSlot, IsNotAlone};
 
 use crate::change::Change;
 use crate::choice::{chosen, crowded, has_two_spares, partner, roomy_nearest, stays_in};
@@ -103,6 +103,7 @@ impl Markers {
         let number = self.count();
         let Room { slots, part, parts } = room;
         self.add_reserved(part, parts);
+        self.settle();
         self.make_in(slots);
         number
     }
@@ -146,10 +147,10 @@ impl Markers {
         ensures { self.new ≡ self.old }
     {
         if self.lacks_part() {
-            self.add_part()
-        } else {
-            Ok(())
+            self.add_part()?;
+            self.settle();
         }
+        Ok(())
     }
 
     /// Adds an empty part.
@@ -160,6 +161,48 @@ impl Markers {
         let part = Part::new(*self.slots.allocator())?;
         self.parts.push_reserved(part);
         Ok(())
+    }
+
+    /// Takes markers that are kept alone into the part that was added last, as far as it takes them.
+    fn settle(&mut self)
+        ensures { self.new ≡ self.old }
+    {
+        let parts = self.parts.len();
+        if !self.some_alone || parts == 0 {
+            return;
+        }
+        for k in 0..self.count() {
+            self.settle_one(k, parts - 1);
+        }
+    }
+
+    /// Takes marker `k` into a part, where it is kept alone and the part takes it.
+    fn settle_one(&mut self, k: u32, part: usize)
+        requires { k < length self.old }
+        ensures { self.new ≡ self.old }
+    {
+        if self.slots[k as usize].is_alone() && self.has_room(part) {
+            self.rehouse(k, part);
+        }
+    }
+
+    /// Whether a part has an empty cell.
+    fn has_room(&self, part: usize) -> bool {
+        part < self.parts.len() && self.parts[part].taken() < CELLS
+    }
+
+    /// Takes marker `k` into a part, if that takes it. It points where it did.
+    fn rehouse(&mut self, k: u32, part: usize)
+        requires { k < length self.old }
+        ensures { self.new ≡ self.old }
+    {
+        let Some(spot) = self.place(k) else {
+            return;
+        };
+        self.leave(k as usize);
+        if !self.enter(k as usize, Some(part), spot) {
+            self.stand_alone(k as usize, spot);
+        }
     }
 
     /// Where marker `k` points: a buffer and a place in it, or nowhere.
@@ -343,13 +386,7 @@ impl Markers {
         let Some(k) = self.parts[part].behind(cell, middle) else {
             return;
         };
-        let Some(spot) = self.place(k) else {
-            return;
-        };
-        self.leave(k as usize);
-        if !self.enter(k as usize, Some(spare), spot) {
-            self.stand_alone(k as usize, spot);
-        }
+        self.rehouse(k, spare);
     }
 
     /// Whether marker `k` advances at an insertion.
@@ -406,7 +443,16 @@ impl Markers {
         note_parts(self.parts.as_mut_slice(), buffer, change);
         if self.some_alone {
             note_alone(self.slots.as_mut_slice(), buffer, change);
+            self.look_for_alone();
         }
+    }
+
+    /// Looks whether a marker is still kept alone.
+    fn look_for_alone(&mut self)
+        ensures { self.new ≡ self.old }
+    {
+        let some_alone = any_alone(self.slots.as_slice());
+        self.some_alone = some_alone;
     }
 
     /// The markers of a buffer that stand between two places or at one of them, by rising number.
@@ -482,6 +528,18 @@ fn note_alone(slots: &mut [Slot], buffer: u32, change: Change)
     for slot in slots.iter_mut() {
         *slot = slot.moved(buffer, change);
     }
+}
+
+/// Whether a marker is kept alone.
+fn any_alone(slots: &[Slot]) -> bool
+    ensures { result ≡ false → All IsNotAlone slots.now }
+{
+    for slot in slots.iter() {
+        if slot.is_alone() {
+            return true;
+        }
+    }
+    false
 }
 
 /// The same parts again.

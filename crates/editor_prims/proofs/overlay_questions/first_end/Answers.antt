@@ -1,19 +1,29 @@
-use Rattle.std.proofs.Common.{◌+◌, ◌∙◌, ap, arith}
-use Rattle.std.specs.Prelude.{filter, nat_lt}
-use Rattle.text_model.specs.OverlayQuestions.{ends_of_span, least}
-use Rattle.editor_model.specs.Editor.{overlay_of}
+use Rattle.std.proofs.Common.{◌≡◌, ◌+◌, ap, sym, ◌∙◌, arith}
+use Rattle.text_model.specs.Marks.{Marks}
+use Rattle.text_model.specs.OverlayQuestions.{next_end}
 use Rattle.buffer_table.specs.Kept.{editor_of}
-use Rattle.editor_prims.proofs.Ends.{nearest_more, nearest_all, made_there}
+use Rattle.editor_prims.proofs.Ends.{first_found, first_behind}
 use Rattle.editor_prims.proofs.overlay_questions.first_end.Goals as goal
 
-pub loop-k-preserved : goal.loop-k-preserved
-loop-k-preserved c =
-    let e = editor_of c.args.editor.now in
-    let k = c.loop-k.k in
-    nearest_more c.args.id e.marks.overlays k (overlay_of e k) (c.loop-k.best + 1) _ _ (made_there e k (omega arith))
-    (c.nearest-best.ensures ∙ ap (λ s. least (c.loop-k.best + 1) (filter (λ x. nat_lt 0 x) (ends_of_span c.args.id s))) c.span.ensures.span) c.loop-k.invariant
+pub returns-then-is_some : goal.returns-then-is_some
+returns-then-is_some c =
+    let os = c.behind-editor.inside.overlays in
+    let same : os ≡ (editor_of c.args.editor.now).marks.overlays = ap (λ (m : Marks). m.overlays) (c.behind-editor.view_is ∙ c.marks.ensures) in
+    first_found c.args.id (c.args.end + 1) os c.prev_change.result c.prev_change.ensures (sym c.is_some.ensures ∙ c.if-is_some.true) (omega arith)
+    ∙ ap (next_end c.args.id 0 (c.args.end + 1)) same
 
-pub returns : goal.returns
-returns c =
-    let e = editor_of c.args.editor.now in
-    nearest_all c.args.id e.marks.overlays c.loop-k.k (c.loop-k.best + 1) _ (omega arith) c.loop-k.invariant
+pub returns-in-Some : goal.returns-in-Some
+returns-in-Some c =
+    let os = c.behind-editor.inside.overlays in
+    let same : os ≡ (editor_of c.args.editor.now).marks.overlays = ap (λ (m : Marks). m.overlays) (c.behind-editor.view_is ∙ c.marks.ensures) in
+    let behind = first_behind c.args.id (c.args.end + 1) os c.prev_change.result c.prev_change.ensures (sym c.is_some.ensures ∙ c.if-is_some.false) in
+    let found = c.in-Some.ensures (c.args.end + 1) in
+    let here : c.min.result + 1 ≡ next_end c.args.id 0 (c.args.end + 1) os = omega (arith, behind, found, c.min.ensures) in
+    here ∙ ap (next_end c.args.id 0 (c.args.end + 1)) same
+
+pub returns-in-None : goal.returns-in-None
+returns-in-None c =
+    let os = c.behind-editor.inside.overlays in
+    let same : os ≡ (editor_of c.args.editor.now).marks.overlays = ap (λ (m : Marks). m.overlays) (c.behind-editor.view_is ∙ c.marks.ensures) in
+    let behind = first_behind c.args.id (c.args.end + 1) os c.prev_change.result c.prev_change.ensures (sym c.is_some.ensures ∙ c.if-is_some.false) in
+    sym (c.in-None.ensures (c.args.end + 1)) ∙ behind ∙ ap (next_end c.args.id 0 (c.args.end + 1)) same

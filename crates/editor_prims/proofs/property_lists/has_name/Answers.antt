@@ -1,16 +1,17 @@
-use Rattle.std.proofs.Common.{◌∙◌, ap, sym}
-use Rattle.std.specs.Prelude.{◌==◌, ◌||◌}
+use Rattle.std.proofs.Common.{◌≡◌, ap, sym, ◌∙◌, rules, tests}
+use Rattle.std.specs.Prelude.{◌==◌}
 use Rattle.std.specs.List.{list_any}
+use Rattle.std.proofs.lemmas.Iterator.{YieldsList-from_slice}
+use Rattle.std.proofs.lemmas.Iterator.Search.{any_from_yields_List}
 use Rattle.ek_types.specs.Listing.{items_of}
 use Rattle.ek_types.specs.Property.{number_of}
-use Rattle.editor_prims.specs.PropertyArguments.{pair_of}
-use Rattle.editor_prims.proofs.Pairing.{one_back}
+use Rattle.editor_prims.specs.declared.property_lists.Pair.{Pair}
+use Rattle.editor_prims.proofs.Pairing.{any_back}
 use Rattle.editor_prims.proofs.property_lists.has_name.Goals as goal
 
-pub loop-i-preserved : goal.loop-i-preserved
-loop-i-preserved c =
-    let items = items_of c.args.list.now in
-    c.either-found.ensures
-    ∙ ap (λ b. b || c.loop-i.found) c.is_named.ensures
-    ∙ ap (λ b. ((pair_of c.at.result.now).0 == number_of c.args.name) || b) c.loop-i.invariant
-    ∙ ap (list_any (λ p. p.0 == number_of c.args.name)) (sym (one_back items c.loop-i.i c.at.result.now c.at.ensures))
+pub returns : goal.returns
+returns c =
+    let pairs = c.as_slice.result.now in
+    let found : c.any.result ≡ list_any (λ (p : Pair). number_of p.name == number_of c.args.name) pairs =
+    any_from_yields_List (λ (p : Pair). number_of p.name == number_of c.args.name) _ _ _ c.any.ensures.ran (YieldsList-from_slice pairs cc) (λ x b q k. search (rules, tests)) in
+    found ∙ ap (list_any (λ (p : Pair). number_of p.name == number_of c.args.name)) c.as_slice.ensures ∙ sym (any_back (number_of c.args.name) (items_of c.args.list.now))
