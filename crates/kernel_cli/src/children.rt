@@ -1,15 +1,18 @@
 //! Real children as a host. Their standard input and output are pipes, and their standard error is this process's.
 //!
 //! A read waits for the pipe and the question how a child has ended waits for the child, so this host never answers
-//! `Nothing` or `Running`. It tells no exchanges. A child that is killed, or that has ended when it is asked, is reaped.
+//! `Nothing` or `Running`. It tells no exchanges. A child that is killed, or that has ended when it is asked, is
+//! reaped.
 //!
-//! The lines so far are handed on before each call but a kill. Where that fails no child is asked, and the answer is a fault;
-//! only an input is closed all the same. The next line can't be written then, which ends the run.
-ghost use Rattle.std.specs.Prelude.{◌≡◌, ◌<◌, ◌-◌, ◌^◌, ℕ, List, [], map, length, None, Some, false, true, slice_get, slice_set, string_bytes, IsSome, IsTrue, IfSome, IfOk, OnOk, OnErr};
+//! The lines so far are handed on before each call but a kill. Where that fails no child is asked, and the answer is a
+//! fault; only an input is closed all the same. The next line can't be written then, which ends the run.
+ghost use Rattle.std.specs.Prelude.{◌≡◌, ◌<◌, ◌-◌, ◌^◌, ℕ, List, [], map, length, None, Some, false, true};
+ghost use Rattle.std.specs.Prelude.{slice_get, slice_set, string_bytes, IsSome, IsTrue, IfSome, IfOk, OnOk, OnErr};
 ghost use Rattle.std.specs.Io.KnownBytes.{Keeps};
 ghost use Rattle.std.specs.Process.{child_status, command_program, command_args, command_var, command_dir, clears_env};
 ghost use Rattle.plain_machine.specs.Exchanges.{Spawn, Read, AskEnd, Send, Close, Kill, Closed};
-ghost use Rattle.host_link.specs.Hosts.{Asked, Exchanged, Fits, IsNumbered, after_spawn, is_fault, spawned_answer, got_answer, ended_answer, send_answer, kill_answer};
+ghost use Rattle.host_link.specs.Hosts.{Asked, Exchanged, Fits, IsNumbered, after_spawn, is_fault};
+ghost use Rattle.host_link.specs.Hosts.{spawned_answer, got_answer, ended_answer, send_answer, kill_answer};
 ghost use Rattle.kernel_cli.specs.Answers.{untold, IsChildCall, Gives, InputTakes, EndsAs};
 
 use crate::output::Output;
@@ -149,7 +152,7 @@ fn is_sent<I: Write, W: Write + Drop>(
     }
 }
 
-/// Closes a child's input, waits for its end, which reaps it, and closes its output.
+/// Closes a child's input and output, and waits for its end, which reaps it.
 fn waited_for<P: OpenProcess, W: Write + Drop>(
     output: &Output<W>,
     child: &mut Child<P>,
@@ -162,9 +165,9 @@ fn waited_for<P: OpenProcess, W: Write + Drop>(
 {
     child.stdin = None;
     output.hand_on()?;
-    let status = child.wait()?;
+    // Nothing reads it any more: a child that still writes would wait for ever.
     child.stdout = None;
-    match status.code() {
+    match child.wait()?.code() {
         Some(code) => Ok(Ended::Code(code)),
         None => Ok(Ended::Signal),
     }

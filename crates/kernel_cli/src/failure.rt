@@ -5,6 +5,7 @@ ghost use Rattle.kernel_cli.specs.Exits.{failure_of, exit_status};
 use kernel_top::Status;
 use thiserror::Error;
 
+/// What a run came to other than its end. It reads as the line on standard error.
 #[derive(Clone, Copy, Debug, Error)]
 pub enum Failure {
     #[error("kernel_cli: usage")]
@@ -30,6 +31,7 @@ pub enum Failure {
 }
 
 impl Failure {
+    /// The status that the program ends with, each failure with its own.
     pub fn exit_status(&self) -> u8
         ensures { result ≡ exit_status self.now }
     {

@@ -1,8 +1,8 @@
-//! Standard output in two hands: the sink writes lines to it, where they gather, and the host has them handed on before it
-//! asks a child for anything.
+//! Standard output in two hands: the sink writes lines to it, where they gather, and the host has them handed on before
+//! it asks a child for anything.
 //!
-//! So whoever watches has seen all lines before a wait begins, and many short lines take few calls of the system. Once a
-//! call of the writer has failed, nothing more is written.
+//! So whoever watches has seen all lines before a wait begins, and many short lines take few calls of the system. Once
+//! a call of the writer has failed, nothing more is written.
 ghost use Rattle.std.specs.Io.{WritesAtMost};
 
 use std::alloc::Global;
@@ -13,7 +13,6 @@ use std::io::{self, BufWriter, Error, ErrorKind, Write};
 const KEPT_BACK: usize = 65_536;
 
 /// A writer that keeps back what it is given until it is full, or has to hand it on.
-#[derive(Drop)]
 pub struct Output<W: Write + Drop> {
     writer: RefCell<BufWriter<W>>,
     has_failed: Cell<bool>,
@@ -53,6 +52,16 @@ impl<W: Write + Drop> Output<W> {
         self.writer
             .try_borrow_mut()
             .map_err(|_| Error::from(ErrorKind::ResourceBusy))
+    }
+}
+
+/// A `BufWriter` that is dropped offers its writer what it still keeps, so behind a call that failed it is taken apart.
+impl<W: Write + Drop> Drop for Output<W> {
+    fn drop(self) {
+        let Output { writer, has_failed } = self;
+        if has_failed.get() {
+            let _ = writer.into_inner().into_parts();
+        }
     }
 }
 

@@ -19,6 +19,7 @@ pub struct ReaderSource<R> {
 }
 
 impl<R: Read> ReaderSource<R> {
+    /// A source of a reader none of whose calls has failed yet.
     pub fn new(reader: R) -> ReaderSource<R>
         ensures reader { result.reader ≡ reader }
         ensures faults { result.faults ≡ 0 }
@@ -58,6 +59,7 @@ pub struct WriterSink<W> {
 }
 
 impl<W: Write> WriterSink<W> {
+    /// A sink of a writer none of whose calls has failed yet.
     pub fn new(writer: W) -> WriterSink<W>
         ensures writer { result.writer ≡ writer }
         ensures faults { result.faults ≡ 0 }

@@ -114,8 +114,21 @@ fn a_child_that_is_never_read_is_killed(rt: HostRuntime) -> Result<(), Fail> {
     Ok(())
 }
 
-/// A child that can't be asked, since the lines before couldn't be handed on, is told as a fault. Its input is closed all the
-/// same, and it is killed.
+#[test]
+fn a_child_that_still_writes_is_waited_for(rt: HostRuntime) -> Result<(), Fail> {
+    let nowhere = Output::new(rt.alloc(), io::sink())?;
+    let mut host = RealHost::new(rt.alloc(), &rt, &nowhere);
+    let words = words(rt.alloc(), "head -c 1048576 /dev/zero; exit 3")?;
+    let Spawned::Started(child) = host.spawn("sh", words.as_slice())? else {
+        return Err(Fail::from("refused"));
+    };
+    assert_eq!(rt; host.end(child)?, Ended::Code(3));
+    assert_eq!(rt; host.faults, 0);
+    Ok(())
+}
+
+/// A child that can't be asked, since the lines before couldn't be handed on, is told as a fault. Its input is closed
+/// all the same, and it is killed.
 #[test]
 fn no_child_is_asked_behind_a_line_that_is_lost(rt: HostRuntime) -> Result<(), Fail> {
     let mut full = [0u8; 1];

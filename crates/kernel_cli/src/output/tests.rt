@@ -70,6 +70,7 @@ fn nothing_is_written_behind_a_call_that_failed(rt: HostRuntime) -> Result<(), F
     assert!(rt; output.hand_on().is_err());
     assert!(rt; hand.write(b"= nil\n").is_err());
     assert!(rt; output.hand_on().is_err());
+    drop(output);
     assert_eq!(rt; calls.get(), 1);
     Ok(())
 }
