@@ -1,6 +1,6 @@
 #!/bin/bash
 # Runs the program on each example and compares what it writes, on sessions and their lines, on two of the most bytes and one more, on views, on three
-# drills, and on a line session: examples/check.sh [PROGRAM]
+# drills, on a line session, and on standard streams that fail: examples/check.sh [PROGRAM]
 set -u
 here="$(cd "$(dirname "$0")" && pwd)"
 program="${1:-$here/../crates/kernel_cli/out/kernel_cli}"
@@ -81,6 +81,25 @@ done << 'DRILLS'
 1 drill 1: 37 lines, 6 exchanges, 4 characters
 9999 drill 9999: 236588 lines, 19725 exchanges, 68883 characters
 DRILLS
+# Standard streams that fail: a full device, a closed output, a pipe that nobody reads any more, a closed input.
+ends_with() { # STATUS WHAT
+    if [ "$?" != "$1" ]; then
+        echo "differs: $2"
+        failed=1
+    fi
+}
+"$program" run < "$here/first.el" > /dev/full 2> /dev/null
+ends_with 4 "a full device"
+"$program" run < "$here/first.el" >&- 2> /dev/null
+ends_with 4 "a closed output"
+many="$(mktemp)"
+yes '(insert "line")' | head -n 20000 > "$many"
+"$program" run < "$many" 2> /dev/null | true
+(exit "${PIPESTATUS[0]}")
+ends_with 4 "a closed pipe"
+rm -f "$many"
+"$program" run <&- > /dev/null 2>&1
+ends_with 3 "a closed input"
 # A child that ends well the third time, by what it finds in a file.
 tries="$(mktemp)"
 lines="$("$program" session 5 sh -c 'echo x >> "$1"; cat "$1"; printf .; test "$(wc -l < "$1")" -eq 3' sh "$tries" < /dev/null 2> /dev/null)"

@@ -1,25 +1,16 @@
-//! Runs, records, replays or views what stands on standard input, or runs a drill or a line session, and writes what comes of it to
-//! standard output.
+//! Runs, records, replays or views what stands on standard input, or runs a drill or a line session, and writes what
+//! comes of it to standard output.
 #![tactic(auto)]
 
 ghost use Rattle.std.specs.Prelude.{◌≡◌, ◌^◌, ◌≤◌, [], Some, length};
 
-mod children;
-mod failure;
-mod output;
-mod shipped;
-mod standard;
-
-use children::RealHost;
-use failure::{Failure, result_of};
 use host_link::{Host, Recorder};
 use kernel_top::{drill, drill_of};
-use output::{Hand, Output};
-use shipped::run_shipped;
-use standard::{ReaderSource, WriterSink};
+use shipped_run::{Failure, result_of, run_shipped};
 use std::env;
 use std::io::{self, Write};
 use std::process::ExitCode;
+use system_host::{Hand, Output, ReaderSource, RealHost, WriterSink};
 
 /// The words behind the program's name. One that isn't UTF-8 is none that the program knows.
 fn words(rt: &HostRuntime) -> Result<Vec<String>, Failure> {
@@ -78,6 +69,3 @@ fn main(rt: HostRuntime) -> ExitCode {
         }
     }
 }
-
-#[cfg(test)]
-mod tests;

@@ -1,4 +1,0 @@
-pub mod Answers
-pub mod Counts
-pub mod Exits
-pub mod Shipped

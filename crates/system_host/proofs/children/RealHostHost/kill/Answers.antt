@@ -1,0 +1,39 @@
+use Rattle.std.proofs.Common.{false, refl, arith}
+use Rattle.std.proofs.lemmas.Option.{slice_get_read, slice_get_within}
+use Rattle.plain_machine.specs.Exchanges.{Killed}
+use Rattle.system_host.proofs.Calls.{child_within, OthersStay-slice_set, slice_get-slice_set_same, HasCause-no_fault}
+use Rattle.system_host.proofs.children.RealHostHost.kill.Goals as goal
+
+pub returns-in-Ok-clause-asked : goal.returns-in-Ok-clause-asked
+returns-in-Ok-clause-asked g c = rw (← c.self.view_is) record {
+  told = refl;
+  kills = refl;
+  cause = HasCause-no_fault Killed _ refl;
+}
+
+pub returns-in-Ok-clause-made : goal.returns-in-Ok-clause-made
+returns-in-Ok-clause-made g c =
+    let there = child_within c.self.inside.children c.self.inside.kills c.args.child c.self.invariant (rw (← c.self.view_is) at (slice_get_within c.args.self.now.kills c.args.child false c.requires)) in
+    let was = slice_get_read c.self.inside.children.items _ c.args.child _ refl there c.index_mut-2.ensures.value in
+    rw (← c.self.view_is) record {
+      faults = refl;
+      others = OthersStay-slice_set c.self.inside.children.items c.args.child _;
+      did = rw (slice_get-slice_set_same, was) (c.in-Ok.ensures.reaped, c.kill_and_reap.ensures.again, c.in-Ok.ensures.closed);
+    }
+
+pub returns-in-Err-clause-asked : goal.returns-in-Err-clause-asked
+returns-in-Err-clause-asked g c = rw (← c.self.view_is) record {
+  told = refl;
+  kills = refl;
+  cause = record { later = omega arith; rose = λ _. omega arith };
+}
+
+pub returns-in-Err-clause-made : goal.returns-in-Err-clause-made
+returns-in-Err-clause-made g c =
+    let there = child_within c.self.inside.children c.self.inside.kills c.args.child c.self.invariant (rw (← c.self.view_is) at (slice_get_within c.args.self.now.kills c.args.child false c.requires)) in
+    let was = slice_get_read c.self.inside.children.items _ c.args.child _ refl there c.index_mut-2.ensures.value in
+    rw (← c.self.view_is) record {
+      faults = c.saturating_add-self-inside.ensures;
+      others = OthersStay-slice_set c.self.inside.children.items c.args.child _;
+      did = rw (slice_get-slice_set_same, was) c.kill_and_reap.ensures.again;
+    }

@@ -1,0 +1,8 @@
+use Rattle.std.proofs.Common.{◌≡◌, ◌<◌, length}
+use Rattle.system_rows.proofs.children.output_size.Given as goal
+
+abbrev pub invariant-loop : goal.invariant-loop
+invariant-loop g l = record {
+  kills : (g.H.Host.state l.host).kills ≡ (g.H.Host.state l.initial.host).kills;
+  there : l.child < length (g.H.Host.state l.host).kills;
+}
