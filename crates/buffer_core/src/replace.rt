@@ -1,7 +1,6 @@
 //! Changes of a buffer's text.
 ghost use Rattle.std.specs.Prelude.{◌≡◌, ◌⊎◌, ◌+◌, ◌<◌, ◌≤◌, true, false, [], length, map, All};
 ghost use Rattle.std.specs.Prelude.{◌++◌, take, drop, IfOk, OnOk, OnErr};
-ghost use Rattle.text_model.specs.Places.{after_insert};
 ghost use Rattle.text_model.specs.Undo.{Undo, pushed_all};
 ghost use Rattle.text_model.specs.Commit.{inserted, deleted, replaced, deletion_records};
 ghost use Rattle.gap_text.specs.Text.{LiesIn, characters};
@@ -20,27 +19,12 @@ use crate::buffer::Buffer;
 use crate::marks::Marks;
 use crate::pieces::are_empty;
 use crate::recording::{Deletion, push_deletion, push_first, push_reserved, records_before};
-use ek_types::{Mem, NoMemory, Piece, place_after_insert};
+use ek_types::{Mem, NoMemory, Piece};
 use gap_text::Text;
 use machine_laws::replacing_keeps_boundaries;
-use narrow_region::Bounds;
 use prop_intervals::length_of;
 use text_pool::Pool;
 use undo_list::Rec;
-
-/// The accessible portion after `n` characters were put in at `at`; point there goes behind them where it `advances`.
-fn bounds_after_insert(bounds: Bounds, at: usize, n: usize, advances: bool) -> Bounds
-    requires { n + bounds.end ≤ usize.MAX }
-    ensures start { result.start ≡ after_insert at n false bounds.start }
-    ensures end { result.end ≡ after_insert at n true bounds.end }
-    ensures point { result.point ≡ after_insert at n advances bounds.point }
-{
-    Bounds {
-        start: place_after_insert(at, n, false, bounds.start),
-        end: place_after_insert(at, n, true, bounds.end),
-        point: place_after_insert(at, n, advances, bounds.point),
-    }
-}
 
 /// Puts the characters of some pieces in before character `at`, or behind all. The gap is behind the piece put in last,
 /// where the next one goes, so that each costs its own characters alone. It takes no memory.
@@ -95,7 +79,7 @@ impl Buffer {
         put_characters(&mut self.text, pool, at, pieces);
         // Read for what it ensures: all characters can be counted.
         let _size = self.text.len();
-        self.bounds = bounds_after_insert(self.bounds, at, n, advances);
+        self.bounds.note_insert(at, n, advances);
         push_first(&mut self.undo, self.modified);
         push_reserved(&mut self.undo, Rec::Inserted(at, at + n));
         self.modified = true;

@@ -38,7 +38,7 @@ fn a_narrowing_takes_point_along(rt: HostRuntime) {
 /// Characters are put in at a place.
 fn put_in(rt: &impl Abort, portion: &mut Bounds, at: usize, n: usize) {
     assert!(rt; portion.end < 100 && n < 100);
-    portion.note_insert(at, n);
+    portion.note_insert(at, n, true);
 }
 
 #[test]

@@ -42,18 +42,18 @@ impl Bounds {
         };
     }
 
-    /// `n` characters were put in at `at`. At the place itself the start stays, and the end and point advance: whoever
-    /// puts in text behind point brings point back by `goto`.
-    pub fn note_insert(&mut self, at: usize, n: usize)
+    /// `n` characters were put in at `at`. At the place itself the start stays, and the end advances; point does where it
+    /// `advances`.
+    pub fn note_insert(&mut self, at: usize, n: usize, advances: bool)
         requires { n + self.old.end ≤ usize.MAX }
         ensures start { self.new.start ≡ after_insert at n false self.old.start }
         ensures end { self.new.end ≡ after_insert at n true self.old.end }
-        ensures point { self.new.point ≡ after_insert at n true self.old.point }
+        ensures point { self.new.point ≡ after_insert at n advances self.old.point }
     {
         *self = Bounds {
             start: place_after_insert(at, n, false, self.start),
             end: place_after_insert(at, n, true, self.end),
-            point: place_after_insert(at, n, true, self.point),
+            point: place_after_insert(at, n, advances, self.point),
         };
     }
 

@@ -49,8 +49,8 @@ put_characters-requires-clause-place c =
     let same : length (characters c.reserve.new.pool c.reserve.new.self) ≡ length (characters c.args.pool.now c.self.inside.text) = ap length c.in_ok-reserve.ensures.characters in
     omega (arith, c.requires.place)
 
-pub bounds_after_insert-self-inside-requires : goal.bounds_after_insert-self-inside-requires
-bounds_after_insert-self-inside-requires c =
+pub note_insert-requires : goal.note_insert-requires
+note_insert-requires c =
     let lies : LiesIn c.args.pool.now c.self.inside.text = subst (λ (b : Stored). LiesIn c.args.pool.now b.text) (sym c.self.view_is) c.requires.lies in
     let size : length (characters c.args.pool.now c.self.inside.text) ≡ length c.self.inside.props = text_size c.args.pool.now c.self.inside.text c.self.inside.props lies c.self.invariant.size in
     let sets : length c.self.inside.props ≡ length c.args.self.now.sets = ap (λ (b : Stored). length b.sets) c.self.view_is in
@@ -75,8 +75,8 @@ overflow_add-at c =
     (omega (arith, c.requires.place)) same letters_n c.put_characters.ensures.characters (c.len-size.ensures.characters c.put_characters.new.pool c.put_characters.ensures.lies) c.len-size.type_inv in
     omega (arith, c.requires.place)
 
-pub note_insert-requires : goal.note_insert-requires
-note_insert-requires c =
+pub note_insert-requires-2 : goal.note_insert-requires-2
+note_insert-requires-2 c =
     let lies : LiesIn c.args.pool.now c.self.inside.text = subst (λ (b : Stored). LiesIn c.args.pool.now b.text) (sym c.self.view_is) c.requires.lies in
     let size : length (characters c.args.pool.now c.self.inside.text) ≡ length c.self.inside.props = text_size c.args.pool.now c.self.inside.text c.self.inside.props lies c.self.invariant.size in
     let sets : length c.self.inside.props ≡ length c.args.self.now.sets = ap (λ (b : Stored). length b.sets) c.self.view_is in
@@ -109,9 +109,9 @@ invariant_of-self-2 c =
     within_insert c.args.at c.in-Some.n c.self.inside.bounds.end (length c.self.inside.props) true (omega (arith, c.requires.place)) c.self.invariant.end in
     record {
       size = omega (arith, c.put_characters.ensures.spare, n);
-      begin = c.bounds_after_insert-self-inside.result.point_after_start;
-      point = c.bounds_after_insert-self-inside.result.point_before_end;
-      end = omega (arith, c.bounds_after_insert-self-inside.ensures.end);
+      begin = c.note_insert.new.self.point_after_start;
+      point = c.note_insert.new.self.point_before_end;
+      end = omega (arith, c.note_insert.ensures.end);
       undo = subst (λ (u : Undo). Undoable u.entries) (sym c.push_reserved.ensures.state)
           (undoable-pushed (Inserted c.args.at (c.args.at + c.in-Some.n)) c.push_first.new.undo.state (omega arith)
           (undoable-first c.self.inside.modified c.reserve-2.new.self.state c.push_first.new.undo.state c.push_first.ensures.state
@@ -126,15 +126,15 @@ returns-clause-ok c =
     rw (← c.self.view_is)
     (inserted_site c.args.id c.args.at c.in-Some.n (together c.args.pieces.now) c.args.all c.args.advances c.args.pool.now c.put_characters.new.pool
     (record { text = c.self.inside.text; sets = c.self.inside.props; begin = c.self.inside.bounds.start; end = c.self.inside.bounds.end; point = c.self.inside.bounds.point; modified = c.self.inside.modified; undo = c.self.inside.undo })
-    (record { text = c.put_characters.new.text; sets = c.splice.new.self; begin = c.bounds_after_insert-self-inside.result.start; end = c.bounds_after_insert-self-inside.result.end; point = c.bounds_after_insert-self-inside.result.point; modified = true; undo = c.push_reserved.new.undo })
-    c.args.marks.now c.note_insert.new.self n size
+    (record { text = c.put_characters.new.text; sets = c.splice.new.self; begin = c.note_insert.new.self.start; end = c.note_insert.new.self.end; point = c.note_insert.new.self.point; modified = true; undo = c.push_reserved.new.undo })
+    c.args.marks.now c.note_insert-2.new.self n size
     (c.put_characters.ensures.characters ∙ ap (λ t. take c.args.at t ++ (letters (together c.args.pieces.now) ++ drop c.args.at t)) c.in_ok-reserve.ensures.characters)
     c.in_ok-splice.ensures.ok
-    c.bounds_after_insert-self-inside.ensures.start c.bounds_after_insert-self-inside.ensures.end c.bounds_after_insert-self-inside.ensures.point refl
+    c.note_insert.ensures.start c.note_insert.ensures.end c.note_insert.ensures.point refl
     (first_pushed c.self.inside.modified (Inserted c.args.at (c.args.at + c.in-Some.n) ∷ []) c.self.inside.undo.state c.push_first.new.undo.state c.push_reserved.new.undo.state
     (c.push_first.ensures.state ∙ ap (λ (u : Undo). if c.self.inside.modified then u else pushed First u) c.in_ok-reserve-2.ensures.state)
     c.push_reserved.ensures.state)
-    c.note_insert.ensures)
+    c.note_insert-2.ensures)
 
 pub returns-clause-marks : goal.returns-clause-marks
 returns-clause-marks c =
@@ -151,6 +151,6 @@ returns-clause-marks c =
     let spliced : length c.splice.new.self ≡ length c.self.inside.props - (c.args.at - c.args.at) + length (sets_in (together c.args.pieces.now)) =
     ap length c.in_ok-splice.ensures.ok ∙ length-spliced c.args.at c.args.at c.self.inside.props (sets_in (together c.args.pieces.now)) (omega arith) (omega (arith, c.requires.place)) in
     let whole : length c.splice.new.self ≡ length c.self.inside.props + c.in-Some.n = omega arith in
-    subst (λ (m : Marks). AreWithin c.args.id (length c.splice.new.self) m) (sym c.note_insert.ensures)
+    subst (λ (m : Marks). AreWithin c.args.id (length c.splice.new.self) m) (sym c.note_insert-2.ensures)
     (subst (λ k. AreWithin c.args.id k (move_marks c.args.id c.args.all (insertion c.args.at c.in-Some.n) c.args.marks.now)) (let e : length c.args.self.now.sets + c.in-Some.n ≡ length c.splice.new.self = omega arith in e)
     (within_inserted c.args.id c.args.at c.in-Some.n (length c.args.self.now.sets) c.args.all c.args.marks.now c.requires.place c.requires.marks))
