@@ -12,6 +12,7 @@ pub mod NameLemmas
 pub mod NamesInTurn
 pub mod Stretches
 pub mod Reset
+pub mod SomeRecord
 pub mod Elsewhere
 pub mod Returning
 pub mod UndoLemmas

@@ -118,6 +118,46 @@ fn add_records_of_name(
     Ok(())
 }
 
+/// Whether a change of one property has a record: whether a value of it is not the new one.
+fn has_record_of_name(
+    props: &Props,
+    from: usize,
+    to: usize,
+    name: Sym,
+    new: Option<&PropVal>,
+) -> bool
+    requires order { from ≤ to }
+    requires range { to ≤ length props.now }
+    ensures { result ≡ is_some_record (records_from name.0 (option_map (λ v. prop_of v.now)
+        new.entry) from (drop from (take to props.now))) }
+{
+    let mut start = from;
+    while start < to {
+        let end = stretch_end(props, start, to, name);
+        if !same_option(props.at(start).get(name), new) {
+            return true;
+        }
+        start = end;
+    }
+    false
+}
+
+/// Whether a change of properties has a record. None is made.
+fn has_record(alloc: Global, edit: &PropEdit, props: &Props, from: usize, to: usize) -> Mem<bool>
+    requires order { from ≤ to }
+    requires range { to ≤ length props.now }
+    ensures { (text : List Cell) → sets_in text ≡ props.now →
+        IfOk result (λ b. b ≡ is_some_record (property_records (edit_of edit.now) from to text)) }
+{
+    let names = touched(alloc, edit, props, from, to)?;
+    for name in &names {
+        if has_record_of_name(props, from, to, *name, new_value(edit, *name)) {
+            return Ok(true);
+        }
+    }
+    Ok(false)
+}
+
 /// The records of a change of properties from one place to another: properties by rising number, and each from left to
 /// right.
 fn property_records(
@@ -151,8 +191,7 @@ impl Buffer {
             IfOk result (λ b. b ≡ is_some_record
             (property_records (edit_of edit.now) from to text)) }
     {
-        let records = property_records(self.alloc, edit, &self.props, from, to)?;
-        Ok(!records.is_empty())
+        has_record(self.alloc, edit, &self.props, from, to)
     }
 
     /// Changes the properties of the characters from `from` to before `to`, and says whether something is to be recorded of
