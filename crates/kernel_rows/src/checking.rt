@@ -1,6 +1,6 @@
 //! Claimed lines that are checked.
 
-use super::playing::{PLAIN, RECORD, Ran, Run, Setting, check_ran, plays, run_words};
+use super::playing::{PLAIN, Ran, Run, Setting, TO_RECORD, check_ran, plays, run_words};
 use super::recording::SCRIPT;
 use super::replaying::LINES;
 use super::runs;
@@ -8,11 +8,11 @@ use kernel_top::Status;
 use std::alloc::Global;
 use std::process::Abort;
 
-const CHECK: [&str; 1] = ["check"];
+const TO_CHECK: [&str; 1] = ["check"];
 
 /// What a check of a transcript comes to, over a host without a child.
 fn check(rt: &impl Abort, alloc: Global, text: &str, setting: Setting) -> Ran {
-    run_words(rt, alloc, &CHECK, text, Vec::new(alloc), setting)
+    run_words(rt, alloc, &TO_CHECK, text, Vec::new(alloc), setting)
 }
 
 const JOURNAL: &str = "spawn 636174 -> started 0
@@ -200,7 +200,7 @@ fn a_sink_that_is_full_holds_a_front_of_the_answer(rt: HostRuntime) {
 /// A run is recorded from its host in memory, and its lines are claimed of its journal.
 pub fn is_claimed(rt: &impl Abort, alloc: Global, run: &Run) {
     let children = plays(rt, alloc, run.children);
-    let recorded = run_words(rt, alloc, &RECORD, run.script.as_str(), children, PLAIN);
+    let recorded = run_words(rt, alloc, &TO_RECORD, run.script.as_str(), children, PLAIN);
     let session = String::from_utf8_lossy(alloc, recorded.written.as_slice()).expect(rt, "memory");
     let rest = run.script.as_str().len() + 7;
     assert!(rt; rest <= session.as_str().len(), "{}", run.shows);

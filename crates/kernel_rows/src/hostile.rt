@@ -2,7 +2,7 @@
 //! here.
 
 use super::playing::{
-    Calls, Child, PLAIN, RUN, Ran, Row, Run, Setting, UNREAD, check_ran, plays, run_over,
+    Calls, Child, PLAIN, Ran, Row, Run, Setting, TO_RUN, UNREAD, check_ran, plays, run_over,
     run_script,
 };
 use super::runs::all;
@@ -504,7 +504,7 @@ fn check_hostile(rt: &impl Abort, alloc: Global, hostile: &Hostile) {
     let row = &hostile.row;
     let fails = hostile.fails.to_vec(alloc).expect(rt, "memory");
     let host = MemoryHost::new(plays(rt, alloc, row.children), fails);
-    let ran = run_over(rt, alloc, &RUN, row.script, host, PLAIN, &NoNatives);
+    let ran = run_over(rt, alloc, &TO_RUN, row.script, host, PLAIN, &NoNatives);
     check_ran(rt, alloc, row.shows, &ran, row.lines, row.exchanges);
 }
 

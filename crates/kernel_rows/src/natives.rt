@@ -1,7 +1,7 @@
 //! Handlers of the program's own.
 
 use super::acting::{InTurn, Native};
-use super::playing::{Child, PLAIN, RUN, check_ran, plays, run_natives};
+use super::playing::{Child, PLAIN, TO_RUN, check_ran, plays, run_natives};
 use ek_call::{Primitive, Value};
 use ek_types::{Ch, Chars, ListOf, Piece, Sym};
 use handler_code::NativeCall;
@@ -83,7 +83,7 @@ fn check(
     natives.push(second).expect(rt, "memory");
     let natives = InTurn::new(natives);
     let plays = plays(rt, alloc, children);
-    let ran = run_natives(rt, alloc, &RUN, script, plays, PLAIN, &natives);
+    let ran = run_natives(rt, alloc, &TO_RUN, script, plays, PLAIN, &natives);
     check_ran(rt, alloc, script, &ran, lines, exchanges)
 }
 

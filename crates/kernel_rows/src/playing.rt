@@ -163,9 +163,9 @@ pub fn one_child(rt: &impl Abort, alloc: Global, reads: &[&[u8]]) -> Vec<Play> {
 }
 
 /// The words of the command line that run and record a script.
-pub const RUN: [&str; 1] = ["run"];
+pub const TO_RUN: [&str; 1] = ["run"];
 
-pub const RECORD: [&str; 1] = ["record"];
+pub const TO_RECORD: [&str; 1] = ["record"];
 
 /// Runs these words of the command line over a host that has started no child, with these natives.
 pub fn run_over<N: Natives>(
@@ -243,7 +243,7 @@ pub fn run_script(
     plays: Vec<Play>,
     setting: Setting,
 ) -> Ran {
-    run_words(rt, alloc, &RUN, script, plays, setting)
+    run_words(rt, alloc, &TO_RUN, script, plays, setting)
 }
 
 /// Compares what a run writes with its lines.

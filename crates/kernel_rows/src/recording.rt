@@ -1,6 +1,6 @@
 //! Runs that are recorded.
 
-use super::playing::{PLAIN, RECORD, Ran, Setting, one_child, run_words};
+use super::playing::{PLAIN, Ran, Setting, TO_RECORD, one_child, run_words};
 use kernel_top::Status;
 use std::alloc::Global;
 use std::process::Abort;
@@ -22,7 +22,7 @@ const EXCHANGES: &[u8] = b"spawn cat: started 0\nread 0: bytes ab\nread 0: end\n
 /// A script that is recorded over a child that writes `ab`.
 fn record(rt: &impl Abort, alloc: Global, script: &str, setting: Setting) -> Ran {
     let child = one_child(rt, alloc, &[b"ab"]);
-    run_words(rt, alloc, &RECORD, script, child, setting)
+    run_words(rt, alloc, &TO_RECORD, script, child, setting)
 }
 
 /// How a recording ended, what it wrote and what it asked.

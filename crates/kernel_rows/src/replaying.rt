@@ -1,17 +1,17 @@
 //! Sessions that are replayed.
 
-use super::playing::{PLAIN, RECORD, Ran, Run, Setting, check_ran, plays, run_words};
+use super::playing::{PLAIN, Ran, Run, Setting, TO_RECORD, check_ran, plays, run_words};
 use super::recording::{SCRIPT, SESSION};
 use super::runs;
 use kernel_top::Status;
 use std::alloc::Global;
 use std::process::Abort;
 
-const REPLAY: [&str; 1] = ["replay"];
+const TO_REPLAY: [&str; 1] = ["replay"];
 
 /// What a replay of a session comes to, over a host without a child.
 fn replay(rt: &impl Abort, alloc: Global, session: &str, setting: Setting) -> Ran {
-    run_words(rt, alloc, &REPLAY, session, Vec::new(alloc), setting)
+    run_words(rt, alloc, &TO_REPLAY, session, Vec::new(alloc), setting)
 }
 
 pub const LINES: &str = "= #<process c>
@@ -155,7 +155,7 @@ fn a_sink_that_is_full_holds_a_front_of_the_lines(rt: HostRuntime) {
 /// A run is recorded from its host in memory, and its session replayed without a child.
 fn is_replayed(rt: &impl Abort, alloc: Global, run: &Run) {
     let children = plays(rt, alloc, run.children);
-    let recorded = run_words(rt, alloc, &RECORD, run.script.as_str(), children, PLAIN);
+    let recorded = run_words(rt, alloc, &TO_RECORD, run.script.as_str(), children, PLAIN);
     assert_eq!(rt; recorded.status, Status::Done, "{}", run.shows);
     assert_eq!(rt;
         recorded.exchanges.as_slice(),

@@ -91,12 +91,12 @@ const SEEN: [Seen; 9] = [
     },
 ];
 
-const VIEW: [&str; 1] = ["view"];
+const TO_VIEW: [&str; 1] = ["view"];
 
 /// A script that is viewed.
 fn view(rt: &impl Abort, alloc: Global, script: &str, children: &[Child], setting: Setting) -> Ran {
     let plays = plays(rt, alloc, children);
-    run_words(rt, alloc, &VIEW, script, plays, setting)
+    run_words(rt, alloc, &TO_VIEW, script, plays, setting)
 }
 
 fn is_seen(rt: &impl Abort, alloc: Global, seen: &Seen) {
