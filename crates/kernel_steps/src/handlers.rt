@@ -110,7 +110,8 @@ fn run_default<M: Kernel, P: Program, H: Host, K: Sink>(
     match kernel.prepare_default(kind, args)? {
         Prepared::Change(change) => make_change(kernel, program, host, sink, &change),
         Prepared::Fault(fault) => Err(refuse(kernel, program, sink, fault)),
-        Prepared::Quiet(_) | Prepared::Nothing(_) => Ok(()),
+        Prepared::Quiet(_) => Ok(()),
+        Prepared::Nothing(_) => Ok(()),
     }
 }
 
