@@ -14,7 +14,8 @@ use Rattle.journal_text.specs.Transcripts.{between, IsTranscriptTo}
 use Rattle.kernel_steps.specs.Outcomes.{RanScript}
 use Rattle.kernel_top.specs.Reading.{HasEnded, IsAll, IsGivenUp}
 use Rattle.kernel_top.specs.Sessions.{longest_session}
-use Rattle.kernel_top.specs.Replaying.{Followed, Strays, HasNoScript, IsUnread}
+use Rattle.kernel_top.specs.Scripts.{IsNoScript}
+use Rattle.kernel_top.specs.Replaying.{Followed, Strays, IsUnread}
 use Rattle.kernel_top.specs.Checking.{Judged, Checked, yes, Told}
 use Rattle.kernel_top.specs.Outcomes.{written_status}
 use Rattle.kernel_top.specs.declared.reading.Refused.{Refused}
@@ -49,8 +50,19 @@ checked_bytes program script (status.Journal line) read list from to at found is
 checked_bytes program script status.JournalFull read list from to at found is so = absurd so
 checked_bytes program script status.SessionFull read list from to at found is so = absurd so
 
-pub unscripted : (program : Script → Program) (line : ℕ) (read : List ℕ) (list : List Exchange) (from to at : ℕ) → IsTranscriptTo read list from to at → HasNoScript (drop at read) line → Checked program (status.Script line) read
-unscripted program line read list from to at found none = record { journal = list; claimed = between from to read; bytes = drop at read; lines = found.lines; is = found.whole; so = none }
+-- behind the claimed lines there is no script
+pub unscripted : (program : Script → Program) (answer : Status) (read : List ℕ) (list : List Exchange) (from to at : ℕ) → IsTranscriptTo read list from to at → IsNoScript answer (drop at read) → Checked program answer read
+unscripted program (status.Script line) read list from to at found none = record { journal = list; claimed = between from to read; bytes = drop at read; lines = found.lines; is = found.whole; so = none }
+unscripted program status.NoMemory read list from to at found none = tt
+unscripted program status.Done read list from to at found none = absurd none
+unscripted program status.Usage read list from to at found none = absurd none
+unscripted program status.ReadFault read list from to at found none = absurd none
+unscripted program status.WriteFault read list from to at found none = absurd none
+unscripted program (status.Journal line) read list from to at found none = absurd none
+unscripted program status.JournalFull read list from to at found none = absurd none
+unscripted program (status.Strayed most) read list from to at found none = absurd none
+unscripted program (status.Differs line) read list from to at found none = absurd none
+unscripted program status.SessionFull read list from to at found none = absurd none
 
 -- WHAT IS WRITTEN
 -- the line of a yes was written, or a front of it

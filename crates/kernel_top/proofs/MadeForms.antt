@@ -18,7 +18,7 @@ use Rattle.ek_call.specs.declared.form.Form.TheVariants as form
 use Rattle.ek_call.specs.declared.value.Value.{fold-roll-Value}
 use Rattle.ek_call.specs.declared.value.Value.TheOpen.{Value-F}
 use Rattle.ek_call.specs.declared.value.Value.TheVariants as value
-use Rattle.kernel_top.specs.DrillForms.{forms_of}
+use Rattle.line_session.specs.Forms.{forms_of}
 
 -- WHAT THEY STAND FOR
 pub do_is : (c : Call) → form_of (form.Do c) ≡ model.Do (call_of c)

@@ -13,7 +13,7 @@ use Rattle.kernel_steps.specs.Outside.{deepest}
 use Rattle.kernel_steps.specs.Ending.{IsAnsweredKill}
 use Rattle.kernel_steps.specs.Outcomes.{RanScript, StoppedScript}
 use Rattle.kernel_steps.specs.declared.stop.Stop.{Stop}
-use Rattle.kernel_top.specs.Counting.{line_feeds}
+use Rattle.plain_machine.specs.Grammar.{line_feeds}
 use Rattle.kernel_top.specs.Drills.{SumsUp, BreaksOff, AreCounts, line_of}
 use Rattle.kernel_top.specs.declared.summing.Counts.{Counts}
 

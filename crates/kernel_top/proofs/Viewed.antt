@@ -34,9 +34,6 @@ module _ (program : Program) (script : Script) where
   pub no_read_fault : (answer : Status) (written : List ℕ) (exchanges : List Exchange) (before now : SinkState) → Viewed answer program script written exchanges before now → answer ≡ status.ReadFault → ⊥
   no_read_fault answer written exchanges before now so e = subst (λ a. Viewed a program script written exchanges before now) e so
 
-  pub no_usage : (answer : Status) (written : List ℕ) (exchanges : List Exchange) (before now : SinkState) → Viewed answer program script written exchanges before now → answer ≡ status.Usage → ⊥
-  no_usage answer written exchanges before now so e = subst (λ a. Viewed a program script written exchanges before now) e so
-
   -- THE VIEW
   -- a script that was run to its end was viewed
   pub viewed : (exchanges : List Exchange) (lines : List ℕ) (ran : Ran program deepest script exchanges lines) (left : Editor) → ran.last.state.editor ≡ left → (r : Result (Unit {0}) ViewFault) (old new : SinkState) → Views old new r (view_of left) →

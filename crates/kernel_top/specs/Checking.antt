@@ -1,19 +1,16 @@
 -- What a check comes to: claimed lines beside those of the machine's run of a script on the exchanges of a journal.
 pub use Rattle.trace_check.specs.Verdicts.{IsClaimed, DiffersIn}
-use Rattle.std.specs.Prelude.{◌≡◌, ℕ, ◌+◌, ◌≤◌, ◌<◌, ◌⊎◌, ◌==◌, nat_lt, ◌^◌, Bool, true, false, List, [], ◌∷◌, ◌++◌, length, codes, Some}
+use Rattle.std.specs.Prelude.{◌≡◌, ℕ, ◌≤◌, ◌<◌, List, length, codes}
 use Rattle.editor_model.specs.Values.{Script}
 use Rattle.plain_machine.specs.Exchanges.{Exchange}
 use Rattle.plain_machine.specs.State.{Program}
-use Rattle.plain_machine.specs.Grammar.{IsScript, line_feeds}
-use Rattle.std.specs.Io.KnownBytes.{Consumes, Appends}
-use Rattle.ek_types.specs.Io.{SourceState, SinkState, IsPrefixOf}
+use Rattle.plain_machine.specs.Grammar.{IsScript}
+use Rattle.ek_types.specs.Io.{SinkState, IsPrefixOf}
 use Rattle.journal_text.specs.Lines.{transcript}
 use Rattle.journal_text.specs.Allowed.{IsJournal}
 use Rattle.journal_text.specs.Transcripts.{HasNoTranscript, IsTranscriptFault}
-use Rattle.kernel_top.specs.Sessions.{longest_session}
-use Rattle.kernel_top.specs.Reading.{HasEnded}
-use Rattle.kernel_top.specs.Unseen.{IsWhole}
-use Rattle.kernel_top.specs.Replaying.{Strays, HasNoScript, IsUnwritten, IsUnread}
+use Rattle.kernel_top.specs.Scripts.{HasNoScript}
+use Rattle.kernel_top.specs.Replaying.{Strays, IsUnwritten}
 use Rattle.kernel_top.specs.declared.status.Status.{Status}
 use Rattle.kernel_top.specs.declared.status.Status.TheVariants as status
 

@@ -3,10 +3,12 @@
 #![tactic(auto)]
 
 mod checking;
+mod commands;
 mod counting;
 mod drill_child;
 mod drill_script;
 mod drilling;
+mod gathered;
 mod laws;
 mod reading;
 mod recording;
