@@ -1,7 +1,7 @@
 -- What the words behind the program's name ask for.
 use Rattle.std.specs.Prelude.{◌≡◌, ℕ, List, [], ◌∷◌, Option, Some, None, option_map, codes, if◌then◌else◌}
 use Rattle.text_model.specs.Names.{same_word}
-use Rattle.plain_machine.specs.Drill.{drill_of}
+use Rattle.plain_machine.specs.Drill.{is_run, drill_of}
 use Rattle.kernel_top.specs.SessionWords.{session_of}
 use Rattle.kernel_top.specs.declared.commands.Command.{Command}
 use Rattle.kernel_top.specs.declared.commands.Command.TheVariants as command
@@ -9,7 +9,7 @@ use Rattle.kernel_top.specs.declared.commands.Command.TheVariants as command
 -- the command that is this one word
 abbrev pub command_alone : List ℕ → Option Command
 command_alone word =
-    if same_word word (codes "run") then Some command.Run else
+    if is_run (word ∷ []) then Some command.Run else
     if same_word word (codes "record") then Some command.Record else
     if same_word word (codes "replay") then Some command.Replay else
     if same_word word (codes "check") then Some command.Check else

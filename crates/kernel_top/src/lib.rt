@@ -1,5 +1,5 @@
-//! The top call: from the words of the command line and the bytes of a source to the lines of a run. And the drill, by which
-//! the program measures itself.
+//! The top call: from the words of the command line and the bytes of a source to the lines of a run. And the drill, by
+//! which the program measures itself.
 #![tactic(auto)]
 
 mod checking;
