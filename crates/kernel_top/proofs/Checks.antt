@@ -1,5 +1,5 @@
 -- What the functions of a check come to.
-use Rattle.std.proofs.Common.{◌≡◌, ℕ, Bool, true, false, ◌<◌, ◌≤◌, ◌+◌, ◌-◌, List, [], ◌∷◌, ◌++◌, length, take, drop, Result, Ok, Err, inl, inr, refl, sym, ap, subst, ◌∙◌, arith, length-append, codes}
+use Rattle.std.proofs.Common.{◌≡◌, ℕ, Bool, true, false, ◌<◌, ◌≤◌, ◌-◌, List, [], ◌++◌, length, drop, Result, Ok, Err, refl, ap, subst, arith, length-append, codes}
 use Rattle.std.specs.Prelude.{nat_lt}
 use Rattle.std.proofs.lemmas.Bool.{ltb-true, ltb-false}
 use Rattle.std.proofs.lemmas.List.{length-take-le, length-drop}
@@ -8,18 +8,13 @@ use Rattle.editor_model.specs.Values.{Script}
 use Rattle.plain_machine.specs.Exchanges.{Exchange}
 use Rattle.plain_machine.specs.State.{Program}
 use Rattle.plain_machine.specs.Grammar.{IsScript}
-use Rattle.ek_types.specs.Io.{SourceState, SinkState, Writes}
+use Rattle.ek_types.specs.Io.{SinkState, Writes}
 use Rattle.journal_text.specs.Lines.{journal, claim}
 use Rattle.journal_text.specs.Transcripts.{between, IsTranscriptTo}
-use Rattle.kernel_steps.specs.Outcomes.{RanScript}
-use Rattle.kernel_top.specs.Reading.{HasEnded, IsAll, IsGivenUp}
 use Rattle.kernel_top.specs.Sessions.{longest_session}
 use Rattle.kernel_top.specs.Scripts.{IsNoScript}
-use Rattle.kernel_top.specs.Replaying.{Followed, Strays, IsUnread}
 use Rattle.kernel_top.specs.Checking.{Judged, Checked, yes, Told}
 use Rattle.kernel_top.specs.Outcomes.{written_status}
-use Rattle.kernel_top.specs.declared.reading.Refused.{Refused}
-use Rattle.kernel_top.specs.declared.reading.Refused.TheVariants as refused
 use Rattle.kernel_top.specs.declared.status.Status.{Status}
 use Rattle.kernel_top.specs.declared.status.Status.TheVariants as status
 use Rattle.kernel_top.proofs.Replays.{few_lines}

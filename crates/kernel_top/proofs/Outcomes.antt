@@ -22,7 +22,7 @@ use Rattle.kernel_top.specs.Drills.{SumsUp}
 use Rattle.kernel_top.specs.Checking.{OfCheck}
 use Rattle.kernel_top.specs.Sessions.{longest_session}
 use Rattle.kernel_top.specs.Replaying.{ReadAnd, SourceSettled}
-use Rattle.kernel_top.specs.Outcomes.{status_of, written_status, Seen, seen, IsQuiet, OnScript, OnRun, OnRecord, OnReplay, OnCheck, OnView, OnDrill, OnSession, OnOthers, IsUnread, Outcome, most_read, Came, CameSo, OfBytes, Ends, EndsOrOverflows, EndsOrFills, EndsOrRefuses, EndsOrJudges, UnlessFaults, OnScriptUnlessFaults, Completes}
+use Rattle.kernel_top.specs.Outcomes.{status_of, written_status, Seen, seen, IsQuiet, OnScript, OnRun, OnRecord, OnReplay, OnCheck, OnView, OnDrill, OnSession, IsUnread, Outcome, most_read, Came, CameSo, OfBytes, Ends, EndsOrOverflows, EndsOrFills, EndsOrRefuses, EndsOrJudges, UnlessFaults, OnScriptUnlessFaults, Completes}
 use Rattle.kernel_top.specs.declared.commands.Command.{Command}
 use Rattle.kernel_top.specs.declared.commands.Command.TheVariants as command
 use Rattle.kernel_top.specs.declared.status.Status.{Status}

@@ -1,5 +1,5 @@
 -- What the functions of a replay come to.
-use Rattle.std.proofs.Common.{◌≡◌, ℕ, ◌<◌, ◌≤◌, ◌+◌, ◌-◌, List, [], ◌∷◌, ◌++◌, length, take, drop, Result, Ok, Err, inl, inr, refl, sym, ap, subst, arith, length-append, codes}
+use Rattle.std.proofs.Common.{◌≡◌, ℕ, ◌<◌, ◌≤◌, ◌-◌, List, [], ◌∷◌, ◌++◌, length, take, drop, Result, Ok, Err, inl, inr, refl, ap, subst, arith, length-append, codes}
 use Rattle.std.proofs.lemmas.List.{take_all, length-drop}
 use Rattle.std.specs.Io.KnownBytes.{Appends}
 use Rattle.editor_model.specs.Values.{Script}
@@ -15,11 +15,11 @@ use Rattle.kernel_steps.specs.HostCalls.{CallsSince}
 use Rattle.kernel_steps.specs.Outcomes.{EndsAs}
 use Rattle.kernel_steps.specs.declared.stop.Stop.{Stop}
 use Rattle.kernel_steps.specs.declared.stop.Stop.TheVariants as stop
-use Rattle.kernel_top.specs.Reading.{HasEnded, IsAll, IsGivenUp}
+use Rattle.kernel_top.specs.Reading.{IsAll, IsGivenUp}
 use Rattle.kernel_top.specs.Scripts.{IsNoScript}
 use Rattle.kernel_top.specs.Sessions.{longest_session}
 use Rattle.kernel_top.specs.Unseen.{IsWhole}
-use Rattle.kernel_top.specs.Replaying.{Followed, IsUnwritten, IsUnread, ReplayedOn, Replayed, SourceSettled, HasNoSession}
+use Rattle.kernel_top.specs.Replaying.{Followed, IsUnread, ReplayedOn, Replayed, SourceSettled, HasNoSession}
 use Rattle.kernel_top.specs.Outcomes.{status_of}
 use Rattle.kernel_top.specs.declared.reading.Refused.{Refused}
 use Rattle.kernel_top.specs.declared.reading.Refused.TheVariants as refused

@@ -1,4 +1,5 @@
--- What the top call claims, by its words and its status: of the bytes read, of the bytes written, and of the exchanges made.
+-- What the top call claims, by its words and its status: of the bytes read, of the bytes written, and of the exchanges
+-- made.
 use Rattle.std.specs.Prelude.{◌≡◌, ℕ, ◌+◌, ◌<◌, ◌≤◌, ◌⊎◌, List, [], length, Option, Some, None, Result, Ok, Err}
 use Rattle.std.specs.Io.KnownBytes.{Consumes, Appends}
 use Rattle.editor_model.specs.Values.{Script}
@@ -61,7 +62,8 @@ pub record OfScript (read : List ℕ) (before now : Seen) (So : Script → Type 
   pub is : IsScript read script
   pub so : So script
 
--- these bytes are no script, though the source has ended or gave more than a script may have; nothing was written or asked
+-- these bytes are no script, though the source has ended or gave more than a script may have; nothing was written or
+-- asked
 abbrev pub RefusesScript :
     (line : ℕ) → (read written : List ℕ) → List Exchange → (before now : Seen) → Type 0
 RefusesScript line read written exchanges before now =

@@ -1,5 +1,5 @@
-//! The word `check`: a transcript is read, and its claimed lines compared with those of its script's run on its journal, by a
-//! second machine.
+//! The word `check`: a transcript is read, and its claimed lines compared with those of its script's run on its
+//! journal, by a second machine.
 ghost use Rattle.std.specs.Prelude.{◌≡◌, ◌<◌, ◌≤◌, ◌^◌, ℕ, List, length, IsTrue};
 ghost use Rattle.std.specs.Io.KnownBytes.{Appends};
 ghost use Rattle.ek_types.specs.Io.{HasCause};
@@ -63,7 +63,8 @@ fn check_bytes<N: Natives>(alloc: Global, bytes: &[u8], natives: &N) -> Status
     judge(alloc, &script, &journal, &bytes[from..to], natives)
 }
 
-/// Reads the transcript that some bytes are, judges its claimed lines, and writes one line where they are those of the run.
+/// Reads the transcript that some bytes are, judges its claimed lines, and writes one line where they are those of
+/// the run.
 fn answer_bytes<K: Sink, N: Natives>(
     alloc: Global,
     bytes: &[u8],

@@ -44,8 +44,8 @@ fn gather<K: Sink, H: Host, N: Natives>(
     }
 }
 
-/// Runs the program that is wanted, and restarts it as often as it may be while it ends otherwise than with code 0. Then
-/// it writes what was gathered. All memory is taken before that.
+/// Runs the program that is wanted, and restarts it as often as it may be while it ends otherwise than with code 0.
+/// Then it writes what was gathered. All memory is taken before that.
 pub(crate) fn run_session<K: Sink, H: Host>(
     alloc: Global,
     wanted: &Wanted<'_>,

@@ -114,26 +114,26 @@ fn run_drill<K: Sink, H: Host, N: Natives>(
 /// - `session` with a number, a program and its words: reads nothing, runs a line session, with the natives of that, and
 ///   writes the text that this gathered.
 ///
-/// The status says what was read and written, as `outcome` has it: for `Done` the lines are those of the plain machine's
-/// whole run on the script, whose handlers are its own and the natives. Filters are entered with just what was read,
-/// sentinels come last, and undoing back to a kept boundary gives its text back. The exchanges of the run are the calls
-/// on the host, each with what the host says of itself that it did, and a read has room for 4,096 bytes. A run whose
-/// write fails stops at that line; the children that live are asked to be killed then, each once.
+/// The status says what was read and written, as `outcome` has it: for `Done` the lines are those of the plain
+/// machine's whole run on the script, whose handlers are its own and the natives. Filters are entered with just what
+/// was read, sentinels come last, and undoing back to a kept boundary gives its text back. The exchanges of the run
+/// are the calls on the host, each with what the host says of itself that it did, and a read has room for 4,096
+/// bytes. A run whose write fails stops at that line; the children that live are asked to be killed then, each once.
 ///
 /// What `view` writes is what is seen in that run's last state; where memory is wanting, it is nothing. The line of a
 /// drill is the summary of the plain machine's whole run on the drill's script, over just the exchanges made. Of a
 /// session no more than 268,435,456 bytes are written, and none where it is longer. For `record` the host tells its
 /// exchanges, and has told none yet; each exchange of a recorded run has a line. A session is replayed only where the
-/// run of its script ends with all exchanges of its journal used up; else `Strayed` tells how many of the first ones the
-/// machine goes through. So it is of a check; where the run ends so, `Differs` tells the first line in which the claimed
-/// lines are others. The text of a line session is that of the buffer `*session*` in the machine's last state. It became
-/// full exactly where a process there isn't read any more.
+/// run of its script ends with all exchanges of its journal used up; else `Strayed` tells how many of the first ones
+/// the machine goes through. So it is of a check; where the run ends so, `Differs` tells the first line in which the
+/// claimed lines are others. The text of a line session is that of the buffer `*session*` in the machine's last
+/// state. It became full exactly where a process there isn't read any more.
 ///
-/// The source doesn't fail where it is known not to (`unfailing`), nor the sink where it has room for what the run says.
-/// No more than one byte behind the longest script, of 1,048,576 bytes, is asked of the source, or for `replay` and
-/// `check` one behind the longest session, of 268,435,456. Bytes that are no script, and no others, are answered by
-/// `Script` with the line of the fault; for `replay` and `check` bytes that are no session or transcript are answered by
-/// `Journal` first.
+/// The source doesn't fail where it is known not to (`unfailing`), nor the sink where it has room for what the run
+/// says. No more than one byte behind the longest script, of 1,048,576 bytes, is asked of the source, or for `replay`
+/// and `check` one behind the longest session, of 268,435,456. Bytes that are no script, and no others, are answered
+/// by `Script` with the line of the fault; for `replay` and `check` bytes that are no session or transcript are
+/// answered by `Journal` first.
 pub fn run<S: Source, K: Sink, H: Host, N: Natives>(
     alloc: Global,
     words: &[String],

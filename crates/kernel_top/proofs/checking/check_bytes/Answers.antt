@@ -1,4 +1,4 @@
-use Rattle.std.proofs.Common.{◌≡◌, ◌<◌, ◌^◌, refl, sym, ap, subst, drop, length, Err, arith}
+use Rattle.std.proofs.Common.{ap, subst, drop, Err, arith}
 use Rattle.plain_machine.specs.Grammar.{IsScript}
 use Rattle.ek_call.specs.Meaning.{script_of}
 use Rattle.host_link.specs.Meaning.{exchanges_of}

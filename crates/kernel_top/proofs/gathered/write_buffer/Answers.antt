@@ -1,4 +1,4 @@
-use Rattle.std.proofs.Common.{sym, subst, ap, ◌∙◌}
+use Rattle.std.proofs.Common.{sym, subst}
 use Rattle.ek_types.specs.Io.{Writes}
 use Rattle.buffer_table.specs.Kept.{editor_of}
 use Rattle.kernel_top.proofs.Gathering.{found_none, found_killed, found_live, named_find, nothing_written}

@@ -1,4 +1,4 @@
-use Rattle.std.proofs.Common.{sym, subst, ap, ◌∙◌}
+use Rattle.std.proofs.Common.{subst, ap, ◌∙◌}
 use Rattle.std.specs.List.{list_any}
 use Rattle.ek_types.specs.Io.{Writes}
 use Rattle.kernel_run.specs.Meaning.{state_of}

@@ -5,7 +5,6 @@ use Rattle.kernel_top.specs.Replaying.{Replayed}
 use Rattle.kernel_top.specs.Checking.{Told}
 use Rattle.kernel_top.specs.Outcomes.{OnDrill, OnSession, Came}
 use Rattle.kernel_top.specs.declared.commands.Command.TheVariants as command
-use Rattle.kernel_top.specs.declared.status.Status.TheVariants as status
 use Rattle.kernel_top.proofs.Outcomes.{came_aside, came_settled, came_unknown, completes, drill_reads_nothing, session_reads_nothing}
 use Rattle.kernel_top.proofs.top.run.Goals as goal
 
