@@ -1,5 +1,5 @@
 -- What the functions of a check come to.
-use Rattle.std.proofs.Common.{◌≡◌, ℕ, Bool, true, false, ◌<◌, ◌≤◌, ◌+◌, ◌-◌, List, [], ◌∷◌, ◌++◌, length, take, drop, Result, Ok, Err, inl, inr, refl, sym, ap, subst, ◌∙◌, arith, length-append, codes}
+use Rattle.std.proofs.Common.{◌≡◌, ℕ, Bool, true, false, ◌<◌, ◌≤◌, ◌-◌, List, [], ◌++◌, length, drop, Result, Ok, Err, refl, ap, subst, arith, length-append, codes}
 use Rattle.std.specs.Prelude.{nat_lt}
 use Rattle.std.proofs.lemmas.Bool.{ltb-true, ltb-false}
 use Rattle.std.proofs.lemmas.List.{length-take-le, length-drop}
@@ -8,17 +8,13 @@ use Rattle.editor_model.specs.Values.{Script}
 use Rattle.plain_machine.specs.Exchanges.{Exchange}
 use Rattle.plain_machine.specs.State.{Program}
 use Rattle.plain_machine.specs.Grammar.{IsScript}
-use Rattle.ek_types.specs.Io.{SourceState, SinkState, Writes}
+use Rattle.ek_types.specs.Io.{SinkState, Writes}
 use Rattle.journal_text.specs.Lines.{journal, claim}
 use Rattle.journal_text.specs.Transcripts.{between, IsTranscriptTo}
-use Rattle.kernel_steps.specs.Outcomes.{RanScript}
-use Rattle.kernel_top.specs.Reading.{HasEnded, IsAll, IsGivenUp}
 use Rattle.kernel_top.specs.Sessions.{longest_session}
-use Rattle.kernel_top.specs.Replaying.{Followed, Strays, HasNoScript, IsUnread}
+use Rattle.kernel_top.specs.Scripts.{IsNoScript}
 use Rattle.kernel_top.specs.Checking.{Judged, Checked, yes, Told}
 use Rattle.kernel_top.specs.Outcomes.{written_status}
-use Rattle.kernel_top.specs.declared.reading.Refused.{Refused}
-use Rattle.kernel_top.specs.declared.reading.Refused.TheVariants as refused
 use Rattle.kernel_top.specs.declared.status.Status.{Status}
 use Rattle.kernel_top.specs.declared.status.Status.TheVariants as status
 use Rattle.kernel_top.proofs.Replays.{few_lines}
@@ -49,8 +45,19 @@ checked_bytes program script (status.Journal line) read list from to at found is
 checked_bytes program script status.JournalFull read list from to at found is so = absurd so
 checked_bytes program script status.SessionFull read list from to at found is so = absurd so
 
-pub unscripted : (program : Script → Program) (line : ℕ) (read : List ℕ) (list : List Exchange) (from to at : ℕ) → IsTranscriptTo read list from to at → HasNoScript (drop at read) line → Checked program (status.Script line) read
-unscripted program line read list from to at found none = record { journal = list; claimed = between from to read; bytes = drop at read; lines = found.lines; is = found.whole; so = none }
+-- behind the claimed lines there is no script
+pub unscripted : (program : Script → Program) (answer : Status) (read : List ℕ) (list : List Exchange) (from to at : ℕ) → IsTranscriptTo read list from to at → IsNoScript answer (drop at read) → Checked program answer read
+unscripted program (status.Script line) read list from to at found none = record { journal = list; claimed = between from to read; bytes = drop at read; lines = found.lines; is = found.whole; so = none }
+unscripted program status.NoMemory read list from to at found none = tt
+unscripted program status.Done read list from to at found none = absurd none
+unscripted program status.Usage read list from to at found none = absurd none
+unscripted program status.ReadFault read list from to at found none = absurd none
+unscripted program status.WriteFault read list from to at found none = absurd none
+unscripted program (status.Journal line) read list from to at found none = absurd none
+unscripted program status.JournalFull read list from to at found none = absurd none
+unscripted program (status.Strayed most) read list from to at found none = absurd none
+unscripted program (status.Differs line) read list from to at found none = absurd none
+unscripted program status.SessionFull read list from to at found none = absurd none
 
 -- WHAT IS WRITTEN
 -- the line of a yes was written, or a front of it

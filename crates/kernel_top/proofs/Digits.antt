@@ -1,5 +1,5 @@
 -- The value of at most four digits.
-use Rattle.std.proofs.Common.{◌≡◌, ℕ, zero, suc, ◌≤◌, ◌<◌, ◌^◌, arith}
+use Rattle.std.proofs.Common.{ℕ, zero, suc, ◌≤◌, ◌<◌, ◌^◌, arith}
 
 pub below_4_digits : (i n : ℕ) → i ≤ 4 → n < 10 ^ i → n ≤ 9999
 below_4_digits zero n few below = omega arith

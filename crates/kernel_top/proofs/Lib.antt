@@ -14,7 +14,6 @@ pub mod Strayed
 pub mod Replays
 pub mod Checks
 pub mod Viewed
-pub mod SessionWords
 pub mod Gathering
 pub mod LinedRuns
 pub mod RecordedRuns

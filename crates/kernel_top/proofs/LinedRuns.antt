@@ -1,13 +1,13 @@
 -- What the calls of a host that says of each exchange that it has a line come to.
-use Rattle.std.proofs.Common.{◌≡◌, ℕ, ◌+◌, ◌≤◌, Bool, List, [], ◌∷◌, ◌++◌, length, refl, sym, ap, subst, ◌∙◌, arith}
+use Rattle.std.proofs.Common.{◌≡◌, ℕ, ◌+◌, ◌≤◌, Bool, List, [], ◌∷◌, length, ap, subst, ◌∙◌, arith}
 use Rattle.std.specs.Prelude.{Result, Ok, Err, OnOk}
 use Rattle.std.proofs.lemmas.List.{length-append, length-set}
 use Rattle.editor_model.specs.Values.{Script}
 use Rattle.plain_machine.specs.State.{Program}
-use Rattle.plain_machine.specs.Exchanges.{Ask, Answer, Exchange, Spawn, Read, AskEnd, Send, Close, Kill, Started, Refused, Bytes, Nothing, End, Code, Signal, Running, Sent, Broken, Closed, Killed, Failed, started_by}
+use Rattle.plain_machine.specs.Exchanges.{Ask, Answer, Exchange, Spawn, Read, AskEnd, Send, Close, Kill, Started, Refused, started_by}
 use Rattle.host_link.specs.Hosts.{HostState}
 use Rattle.host_link.specs.Played.{kills_after}
-use Rattle.journal_text.specs.Allowed.{IsAnswerTo, AreLines, next_after}
+use Rattle.journal_text.specs.Allowed.{IsAnswerTo, AreLines}
 use Rattle.journal_text.specs.Lined.{HandsLine}
 use Rattle.journal_text.specs.declared.lined.LinedHost.{LinedHost}
 use Rattle.kernel_steps.specs.Outside.{deepest}

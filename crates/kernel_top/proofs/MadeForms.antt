@@ -1,5 +1,5 @@
 -- Forms that are put one behind another, and what they stand for.
-use Rattle.std.proofs.Common.{◌≡◌, ℕ, zero, suc, ◌+◌, ◌≤◌, length, take, List, [], ◌∷◌, ◌++◌, map, refl, ap, sym, ◌∙◌, append-nil, append_assoc, arith}
+use Rattle.std.proofs.Common.{◌≡◌, ℕ, zero, suc, ◌+◌, ◌≤◌, length, take, List, [], ◌∷◌, ◌++◌, map, refl, ap, sym, ◌∙◌, append_assoc, arith}
 use Rattle.std.specs.Prelude.{replicate}
 use Rattle.std.proofs.lemmas.List.{map-append}
 use Rattle.text_model.specs.Characters.{Scalar}
@@ -18,7 +18,7 @@ use Rattle.ek_call.specs.declared.form.Form.TheVariants as form
 use Rattle.ek_call.specs.declared.value.Value.{fold-roll-Value}
 use Rattle.ek_call.specs.declared.value.Value.TheOpen.{Value-F}
 use Rattle.ek_call.specs.declared.value.Value.TheVariants as value
-use Rattle.kernel_top.specs.DrillForms.{forms_of}
+use Rattle.line_session.specs.Forms.{forms_of}
 
 -- WHAT THEY STAND FOR
 pub do_is : (c : Call) → form_of (form.Do c) ≡ model.Do (call_of c)

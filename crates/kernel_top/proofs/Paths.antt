@@ -1,10 +1,9 @@
 -- How a host that replays a journal goes through it.
-use Rattle.std.proofs.Common.{◌≡◌, ℕ, zero, suc, ◌+◌, ◌≤◌, Bool, true, false, List, [], ◌∷◌, ◌++◌, length, Some, None, refl, sym, ap, subst, ◌∙◌, arith, append_assoc, length-append}
-use Rattle.std.specs.Prelude.{slice_get, not}
-use Rattle.std.specs.declared.option.Option.{Option}
+use Rattle.std.proofs.Common.{◌≡◌, ℕ, ◌+◌, Bool, true, false, List, [], ◌∷◌, ◌++◌, length, Some, None, refl, sym, ap, subst, ◌∙◌, arith, append_assoc, length-append}
+use Rattle.std.specs.Prelude.{slice_get}
 use Rattle.plain_machine.specs.Exchanges.{Ask, Answer, Exchange, Spawn, Read, AskEnd, Send, Close, Kill, Started, Bytes, Code, Refused, Nothing, End, Signal, Running, Sent, Broken, Closed, Killed, Failed}
 use Rattle.journal_text.specs.Allowed.{IsAnswerTo, AreAnswered, next_after}
-use Rattle.journal_text.specs.Replayed.{ReplayState, host_state, new_replay, HasRoom, Agrees, IsReply, stray_answer, after_exchange, Replays}
+use Rattle.journal_text.specs.Replayed.{ReplayState, host_state, HasRoom, Agrees, IsReply, after_exchange, Replays}
 use Rattle.kernel_steps.specs.HostCalls.{room_of, CallsSince}
 
 -- the exchange that comes next in a journal isn't this ask's

@@ -1,7 +1,6 @@
 -- What the word `record` comes to.
-use Rattle.std.proofs.Common.{◌≡◌, ℕ, List, [], ◌++◌, length, Some, None, inl, inr, refl, sym, ap, subst, ◌∙◌, option_map}
+use Rattle.std.proofs.Common.{◌≡◌, ℕ, List, [], ◌++◌, length, Some, None, inl, inr, refl, ap, subst, ◌∙◌, option_map}
 use Rattle.std.specs.Prelude.{◌⊎◌}
-use Rattle.std.specs.declared.option.Option.{Option}
 use Rattle.editor_model.specs.Values.{Script}
 use Rattle.plain_machine.specs.Exchanges.{Ask, Answer, Exchange}
 use Rattle.plain_machine.specs.State.{Program}
@@ -31,12 +30,9 @@ module _ {H : Type 0} (hosted : H → HostState) (made : H → H → Ask → ℕ
       let no : None ≡ Some exchanges = is ∙ calls_told hosted made start now exchanges calls ∙ ap (option_map (λ l. l ++ exchanges)) fresh in
       absurd cc
 
--- a session that is written is no read, and its words are known
+-- a session that is written is no read
 pub no_read_fault : (answer : Status) (bytes written : List ℕ) (before now : SinkState) → Written answer bytes written before now → answer ≡ status.ReadFault → ⊥
 no_read_fault answer bytes written before now so e = subst (λ a. Written a bytes written before now) e so
-
-pub no_usage : (answer : Status) (bytes written : List ℕ) (before now : SinkState) → Written answer bytes written before now → answer ≡ status.Usage → ⊥
-no_usage answer bytes written before now so e = subst (λ a. Written a bytes written before now) e so
 
 module _ (program : Script → Program) (script : Script) where
   -- nothing was asked, or the run was broken off

@@ -13,7 +13,7 @@ use Rattle.journal_laws.proofs.Replaying.{one_session, one_text}
 use Rattle.kernel_steps.specs.Outside.{deepest}
 use Rattle.kernel_steps.specs.Outcomes.{RanScript}
 use Rattle.kernel_top.specs.Unseen.{IsWhole}
-use Rattle.kernel_top.specs.Replaying.{OfReplay, CutsLines, Strays, Replayed}
+use Rattle.kernel_top.specs.Replaying.{OfReplay, CutsLines, StopsBetweenLines, Strays, Replayed}
 use Rattle.kernel_top.specs.RecordedRuns.{IsReplayOf, RecordedRunsReplay}
 use Rattle.kernel_top.specs.declared.status.Status.{Status}
 use Rattle.kernel_top.specs.declared.status.Status.TheVariants as status
@@ -40,7 +40,7 @@ module _ (program : Script → Program) (script : Script) (exchanges : List Exch
   replayed_so status.Done written before now r = one_bytes written (read_back (λ list s. RanScript (program s) s list written before now) r).ran
   replayed_so status.WriteFault written before now r = cut written before now (read_back (λ list s. CutsLines (program s) s list written before now) r)
   replayed_so status.NoMemory written before now (inl none) = rw none.0 (said, refl)
-  replayed_so status.NoMemory written before now (inr r) = cut written before now (read_back (λ list s. CutsLines (program s) s list written before now) r)
+  replayed_so status.NoMemory written before now (inr r) = cut written before now (read_back (λ list s. StopsBetweenLines (program s) s list written before now) r).cut
   replayed_so (status.Journal line) written before now r = r.1.none exchanges bytes journal refl
   replayed_so (status.Script line) written before now r =
       let same = one_session exchanges r.1.journal bytes r.1.bytes journal r.1.lines r.1.is in

@@ -1,5 +1,5 @@
 -- What the functions of a replay come to.
-use Rattle.std.proofs.Common.{◌≡◌, ℕ, ◌<◌, ◌≤◌, ◌+◌, ◌-◌, List, [], ◌∷◌, ◌++◌, length, take, drop, Result, Ok, Err, inl, inr, refl, sym, ap, subst, arith, length-append, codes}
+use Rattle.std.proofs.Common.{◌≡◌, ℕ, ◌<◌, ◌≤◌, ◌-◌, List, [], ◌∷◌, ◌++◌, length, take, drop, Result, Ok, Err, inl, inr, refl, ap, subst, arith, length-append, codes}
 use Rattle.std.proofs.lemmas.List.{take_all, length-drop}
 use Rattle.std.specs.Io.KnownBytes.{Appends}
 use Rattle.editor_model.specs.Values.{Script}
@@ -15,16 +15,17 @@ use Rattle.kernel_steps.specs.HostCalls.{CallsSince}
 use Rattle.kernel_steps.specs.Outcomes.{EndsAs}
 use Rattle.kernel_steps.specs.declared.stop.Stop.{Stop}
 use Rattle.kernel_steps.specs.declared.stop.Stop.TheVariants as stop
-use Rattle.kernel_top.specs.Reading.{HasEnded, IsAll, IsGivenUp}
+use Rattle.kernel_top.specs.Reading.{IsAll, IsGivenUp}
+use Rattle.kernel_top.specs.Scripts.{IsNoScript}
 use Rattle.kernel_top.specs.Sessions.{longest_session}
 use Rattle.kernel_top.specs.Unseen.{IsWhole}
-use Rattle.kernel_top.specs.Replaying.{Followed, IsUnwritten, IsUnread, ReplayedOn, Replayed, SourceSettled, HasNoSession}
+use Rattle.kernel_top.specs.Replaying.{Followed, IsUnread, ReplayedOn, Replayed, SourceSettled, HasNoSession}
 use Rattle.kernel_top.specs.Outcomes.{status_of}
 use Rattle.kernel_top.specs.declared.reading.Refused.{Refused}
 use Rattle.kernel_top.specs.declared.reading.Refused.TheVariants as refused
 use Rattle.kernel_top.specs.declared.status.Status.{Status}
 use Rattle.kernel_top.specs.declared.status.Status.TheVariants as status
-use Rattle.kernel_top.proofs.Strayed.{ran_journal, cuts_journal}
+use Rattle.kernel_top.proofs.Strayed.{ran_journal, cuts_journal, breaks_journal}
 
 -- the calls of a host that was new
 pub calls_of_new : (old now : ReplayState) (exchanges : List Exchange) → old ≡ new_replay old.list → CallsSince host_state Replays old now exchanges → CallsSince host_state Replays (new_replay old.list) now exchanges
@@ -36,7 +37,7 @@ module _ (program : Program) (script : Script) (list : List Exchange) where
       CallsSince host_state Replays (new_replay list) now exchanges → IsWhole program script list → EndsAs r program script exchanges written before after left → ReplayedOn program (status_of r) script list written before after
   replayed_on (Ok x) now exchanges written before after left answered calls whole (ran, last) = ran_journal program script list now exchanges written before after answered calls whole ran
   replayed_on (Err stop.WriteFault) now exchanges written before after left answered calls whole stopped = cuts_journal program script list stop.WriteFault now exchanges written before after answered calls whole stopped
-  replayed_on (Err stop.NoMemory) now exchanges written before after left answered calls whole stopped = inr (cuts_journal program script list stop.NoMemory now exchanges written before after answered calls whole stopped)
+  replayed_on (Err stop.NoMemory) now exchanges written before after left answered calls whole stopped = inr (breaks_journal program script list now exchanges written before after answered calls whole stopped)
 
   -- the first run refused it
   pub refused_on : (answer : Status) (sink : SinkState) → Followed (Err answer) program script list → ReplayedOn program answer script list [] sink sink
@@ -89,6 +90,20 @@ replayed_bytes program script status.ReadFault read journal at written before no
 replayed_bytes program script (status.Journal line) read journal at written before now to is so = absurd so
 replayed_bytes program script status.JournalFull read journal at written before now to is so = absurd so
 replayed_bytes program script status.SessionFull read journal at written before now to is so = absurd so
+
+-- behind the journal there is no script
+pub unscripted : (program : Script → Program) (answer : Status) (read : List ℕ) (journal : List Exchange) (at : ℕ) (sink : SinkState) → IsReadTo read journal at → IsNoScript answer (drop at read) → Replayed program answer read [] sink sink
+unscripted program (status.Script line) read journal at sink to none = ((refl, refl), record { journal = journal; bytes = drop at read; lines = to.lines; is = to.whole; so = none })
+unscripted program status.NoMemory read journal at sink to none = inl (refl, refl)
+unscripted program status.Done read journal at sink to none = absurd none
+unscripted program status.Usage read journal at sink to none = absurd none
+unscripted program status.ReadFault read journal at sink to none = absurd none
+unscripted program status.WriteFault read journal at sink to none = absurd none
+unscripted program (status.Journal line) read journal at sink to none = absurd none
+unscripted program status.JournalFull read journal at sink to none = absurd none
+unscripted program (status.Strayed most) read journal at sink to none = absurd none
+unscripted program (status.Differs line) read journal at sink to none = absurd none
+unscripted program status.SessionFull read journal at sink to none = absurd none
 
 -- THE SOURCE
 module _ (So : Status → (read written : List ℕ) → (before now : SinkState) → Type 0) (answer : Status) (source source' : SourceState) where

@@ -1,6 +1,6 @@
 -- What the two runs of a replay come to.
-use Rattle.std.proofs.Common.{◌≡◌, ◌≢◌, ℕ, zero, suc, ◌+◌, ◌<◌, ◌≤◌, Bool, true, false, List, [], ◌∷◌, ◌++◌, length, take, Result, Ok, Err, inl, inr, refl, sym, ap, subst, ◌∙◌, arith, append_assoc, append-nil, length-append}
-use Rattle.std.specs.Prelude.{◌⊎◌, not, ◌&&◌, ◌==◌, nat_le}
+use Rattle.std.proofs.Common.{◌≡◌, ℕ, zero, suc, ◌<◌, ◌≤◌, Bool, true, false, List, [], ◌∷◌, ◌++◌, length, take, refl, sym, ap, subst, ◌∙◌, arith, append_assoc, append-nil, length-append}
+use Rattle.std.specs.Prelude.{not, ◌&&◌, ◌==◌, nat_le}
 use Rattle.std.proofs.lemmas.Bool.{leb-true, leb-false, eqb-true, eqb-false}
 use Rattle.std.proofs.lemmas.List.{take_at}
 use Rattle.std.proofs.lemmas.List.Concat.{flat_map-append}
@@ -16,8 +16,9 @@ use Rattle.kernel_steps.specs.HostCalls.{room_of, CallsSince}
 use Rattle.kernel_steps.specs.Outside.{deepest}
 use Rattle.kernel_steps.specs.Outcomes.{RanScript, StoppedScript}
 use Rattle.kernel_steps.specs.declared.stop.Stop.{Stop}
+use Rattle.kernel_steps.specs.declared.stop.Stop.TheVariants as stop
 use Rattle.kernel_top.specs.Unseen.{IsWhole}
-use Rattle.kernel_top.specs.Replaying.{GoesThrough, Strays, CutsLines}
+use Rattle.kernel_top.specs.Replaying.{GoesThrough, Strays, CutsLines, StopsBetweenLines}
 use Rattle.kernel_top.proofs.Paths.{Differs, Path, follows, strays, path, room_there, calls_front}
 use Rattle.kernel_top.proofs.Following.{front_through, same_ask, ended_there, said_front}
 
@@ -159,4 +160,21 @@ module _ (program : Program) (script : Script) (journal : List Exchange) where
         whole = whole;
         front = (cut ++ lines further, bytes ∙ ap (λ l. l ++ lines further) (sym front) ∙ append_assoc written cut (lines further));
         roomy = λ few. stopped.roomy (omega (arith, few, ap length bytes, length-append (lines broken.said) (lines further)));
+      }
+
+  -- for want of memory it stopped behind all that it had said
+  pub breaks_journal : (now : ReplayState) (exchanges : List Exchange) (written : List ℕ) (before after : SinkState) → AreAnswered 0 journal → CallsSince host_state Replays (new_replay journal) now exchanges → IsWhole program script journal →
+      StoppedScript stop.NoMemory program script exchanges written before after → StopsBetweenLines program script journal written before after
+  breaks_journal now exchanges written before after answered calls whole stopped =
+      let broken = stopped.broken in
+      let (mid, first) = calls_front (new_replay journal) now broken.made broken.kills (subst (CallsSince host_state Replays (new_replay journal) now) broken.exchanges_are calls) in
+      let goes : Goes broken.made = record { said = broken.said; last = broken.last; run = broken.run } in
+      let (others, in_order) = front_of mid broken.made answered first goes whole in
+      record {
+        made = broken.made;
+        others = others;
+        in_order = in_order;
+        goes = goes;
+        all_said = stopped.came;
+        cut = cuts_journal stop.NoMemory now exchanges written before after answered calls whole stopped;
       }

@@ -1,11 +1,10 @@
 -- What a run comes to that was counted.
-use Rattle.std.proofs.Common.{◌≡◌, ℕ, ◌%◌, ◌^◌, ◌≤◌, List, length, Result, Ok, Err, All, refl, sym, ap, ◌∙◌, subst, arith}
+use Rattle.std.proofs.Common.{◌≡◌, ℕ, ◌%◌, ◌^◌, List, length, All, refl, sym, ap, ◌∙◌, subst}
 use Rattle.editor_model.specs.Values.{Script}
 use Rattle.editor_model.specs.Editor.{Editor, characters_in}
 use Rattle.plain_machine.specs.Exchanges.{Exchange}
 use Rattle.plain_machine.specs.State.{State, Program}
 use Rattle.plain_machine.specs.Items.{Said}
-use Rattle.plain_machine.specs.Run.{lines}
 use Rattle.plain_machine.specs.WholeRuns.{Ran, BrokenOff}
 use Rattle.plain_machine.specs.Drill.{drill_script, summary}
 use Rattle.ek_types.specs.Io.{SinkState}
@@ -13,7 +12,7 @@ use Rattle.kernel_steps.specs.Outside.{deepest}
 use Rattle.kernel_steps.specs.Ending.{IsAnsweredKill}
 use Rattle.kernel_steps.specs.Outcomes.{RanScript, StoppedScript}
 use Rattle.kernel_steps.specs.declared.stop.Stop.{Stop}
-use Rattle.kernel_top.specs.Counting.{line_feeds}
+use Rattle.plain_machine.specs.Grammar.{line_feeds}
 use Rattle.kernel_top.specs.Drills.{SumsUp, BreaksOff, AreCounts, line_of}
 use Rattle.kernel_top.specs.declared.summing.Counts.{Counts}
 

@@ -1,8 +1,14 @@
 -- What is taken from a source.
-use Rattle.std.proofs.Common.{◌≡◌, ℕ, ◌≤◌, List, [], ◌∷◌, ◌++◌, length, get_or, Some, None, refl, sym, ap, ◌∙◌, append_assoc, append-nil, length-append, arith}
+use Rattle.std.proofs.Common.{◌≡◌, ℕ, ◌<◌, ◌≤◌, List, [], ◌++◌, length, Some, None, refl, sym, ap, ◌∙◌, append_assoc, append-nil, length-append, arith}
 use Rattle.std.specs.declared.option.Option.{Option}
 use Rattle.std.specs.Io.KnownBytes.{Consumes, Keeps, IsAtEnd}
-use Rattle.kernel_top.specs.Reading.{HasEnded}
+use Rattle.plain_machine.specs.Grammar.{longest_script}
+use Rattle.ek_types.specs.Io.{SourceState}
+use Rattle.kernel_top.specs.Reading.{HasEnded, IsGivenUp}
+use Rattle.kernel_top.specs.Scripts.{IsUnreadScript, IsLeftUnread}
+use Rattle.kernel_top.specs.declared.reading.Refused.{Refused}
+use Rattle.kernel_top.specs.declared.reading.Refused.TheVariants as refused
+use Rattle.kernel_top.specs.declared.status.Status.{Status}
 
 -- the end that a read met is the end still
 pub ended : (begun old new : Option (List ℕ)) (bytes : List ℕ) → Consumes begun old bytes → Keeps old new → IsAtEnd old → HasEnded begun new
@@ -36,7 +42,6 @@ pub front_only : (bytes read : List ℕ) (now : Option (List ℕ)) → Consumes 
 front_only bytes read None taken = absurd taken
 front_only bytes read (Some left) taken = omega (arith, ap length taken, length-append read left)
 
-pub the_only : {X : Type 0} (xs : List X) (d : X) → length xs ≡ 1 → xs ≡ get_or xs 0 d ∷ []
-the_only [] d e = absurd (omega arith)
-the_only (x ∷ []) d e = refl
-the_only (x ∷ y ∷ ys) d e = absurd (omega arith)
+-- reading was given up, so the bytes of a script weren't had
+pub left_unread : (answer : Status) (why : Refused) (source source' : SourceState) → IsGivenUp longest_script why source source' → ((bytes : List ℕ) → (why ≡ refused.TooLong → longest_script < length bytes) → IsUnreadScript answer bytes) → IsLeftUnread answer source source'
+left_unread answer why source source' given_up row = record { read = given_up.bytes; taken = given_up.taken; few = given_up.few; unread = row given_up.bytes given_up.long }

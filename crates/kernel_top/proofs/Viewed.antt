@@ -1,5 +1,5 @@
 -- What the word `view` comes to.
-use Rattle.std.proofs.Common.{◌≡◌, ℕ, ◌<◌, ◌≤◌, Bool, true, false, List, [], length, Result, Ok, Err, inl, inr, refl, sym, ap, subst, ◌∙◌, arith}
+use Rattle.std.proofs.Common.{◌≡◌, ℕ, ◌<◌, Bool, true, false, List, [], length, Result, Ok, Err, inl, inr, refl, sym, ap, subst, arith}
 use Rattle.std.specs.Prelude.{nat_lt}
 use Rattle.std.proofs.lemmas.Bool.{ltb-true, ltb-false}
 use Rattle.std.specs.Io.KnownBytes.{Appends}
@@ -33,9 +33,6 @@ cause (Err fault.NoMemory) old new bytes same = record {
 module _ (program : Program) (script : Script) where
   pub no_read_fault : (answer : Status) (written : List ℕ) (exchanges : List Exchange) (before now : SinkState) → Viewed answer program script written exchanges before now → answer ≡ status.ReadFault → ⊥
   no_read_fault answer written exchanges before now so e = subst (λ a. Viewed a program script written exchanges before now) e so
-
-  pub no_usage : (answer : Status) (written : List ℕ) (exchanges : List Exchange) (before now : SinkState) → Viewed answer program script written exchanges before now → answer ≡ status.Usage → ⊥
-  no_usage answer written exchanges before now so e = subst (λ a. Viewed a program script written exchanges before now) e so
 
   -- THE VIEW
   -- a script that was run to its end was viewed

@@ -1,19 +1,16 @@
 -- What a check comes to: claimed lines beside those of the machine's run of a script on the exchanges of a journal.
 pub use Rattle.trace_check.specs.Verdicts.{IsClaimed, DiffersIn}
-use Rattle.std.specs.Prelude.{◌≡◌, ℕ, ◌+◌, ◌≤◌, ◌<◌, ◌⊎◌, ◌==◌, nat_lt, ◌^◌, Bool, true, false, List, [], ◌∷◌, ◌++◌, length, codes, Some}
+use Rattle.std.specs.Prelude.{◌≡◌, ℕ, ◌≤◌, ◌<◌, List, length, codes}
 use Rattle.editor_model.specs.Values.{Script}
 use Rattle.plain_machine.specs.Exchanges.{Exchange}
 use Rattle.plain_machine.specs.State.{Program}
-use Rattle.plain_machine.specs.Grammar.{IsScript, line_feeds}
-use Rattle.std.specs.Io.KnownBytes.{Consumes, Appends}
-use Rattle.ek_types.specs.Io.{SourceState, SinkState, IsPrefixOf}
+use Rattle.plain_machine.specs.Grammar.{IsScript}
+use Rattle.ek_types.specs.Io.{SinkState, IsPrefixOf}
 use Rattle.journal_text.specs.Lines.{transcript}
 use Rattle.journal_text.specs.Allowed.{IsJournal}
 use Rattle.journal_text.specs.Transcripts.{HasNoTranscript, IsTranscriptFault}
-use Rattle.kernel_top.specs.Sessions.{longest_session}
-use Rattle.kernel_top.specs.Reading.{HasEnded}
-use Rattle.kernel_top.specs.Unseen.{IsWhole}
-use Rattle.kernel_top.specs.Replaying.{Strays, HasNoScript, IsUnwritten, IsUnread}
+use Rattle.kernel_top.specs.Scripts.{HasNoScript}
+use Rattle.kernel_top.specs.Replaying.{Strays, IsUnwritten}
 use Rattle.kernel_top.specs.declared.status.Status.{Status}
 use Rattle.kernel_top.specs.declared.status.Status.TheVariants as status
 
@@ -37,7 +34,8 @@ pub record OfTranscript (read : List ℕ) (So : List Exchange → (claimed bytes
 
 -- its bytes are a script, and this is so of the journal, the claimed lines and the script
 abbrev pub OfCheck : (read : List ℕ) → (So : List Exchange → (claimed : List ℕ) → Script → Type 0) → Type 0
-OfCheck read So = OfTranscript read (λ journal claimed bytes. (script : Script) × IsScript bytes script × So journal claimed script)
+OfCheck read So =
+    OfTranscript read (λ journal claimed bytes. (script : Script) × IsScript bytes script × So journal claimed script)
 
 -- the bytes are no transcript, and this is the line of the fault
 pub record IsNoTranscript (read : List ℕ) (line : ℕ) : Type 0 where
@@ -49,13 +47,16 @@ abbrev pub Checked : (Script → Program) → Status → (read : List ℕ) → T
 Checked program (status.Journal line) read = IsNoTranscript read line
 Checked program (status.Script line) read = OfTranscript read (λ journal claimed bytes. HasNoScript bytes line)
 Checked program status.NoMemory read = Unit {0}
-Checked program answer read = OfCheck read (λ journal claimed script. Judged answer (program script) script journal claimed)
+Checked program answer read =
+    OfCheck read (λ journal claimed script. Judged answer (program script) script journal claimed)
 
 -- WHAT IS WRITTEN: one line where the verdict is yes, and else nothing
 abbrev pub yes : List ℕ
 yes = codes "yes\n"
 
 abbrev pub Told : (Script → Program) → Status → (read written : List ℕ) → (before now : SinkState) → Type 0
-Told program status.Done read written before now = Checked program status.Done read × (written ≡ yes) × (length yes ≤ before.room → now.faults ≡ before.faults)
-Told program status.WriteFault read written before now = Checked program status.Done read × IsPrefixOf written yes × (before.room < length yes)
+Told program status.Done read written before now =
+    Checked program status.Done read × (written ≡ yes) × (length yes ≤ before.room → now.faults ≡ before.faults)
+Told program status.WriteFault read written before now =
+    Checked program status.Done read × IsPrefixOf written yes × (before.room < length yes)
 Told program answer read written before now = IsUnwritten written before now × Checked program answer read

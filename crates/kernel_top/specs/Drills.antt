@@ -7,10 +7,10 @@ use Rattle.plain_machine.specs.Items.{Said}
 use Rattle.plain_machine.specs.Run.{lines}
 use Rattle.plain_machine.specs.WholeRuns.{Ran, BrokenOff}
 use Rattle.plain_machine.specs.Drill.{drill_script, summary}
+use Rattle.plain_machine.specs.Grammar.{line_feeds}
 use Rattle.kernel_steps.specs.Outside.{deepest}
 use Rattle.kernel_steps.specs.Ending.{IsAnsweredKill}
 use Rattle.kernel_steps.specs.declared.stop.Stop.{Stop}
-use Rattle.kernel_top.specs.Counting.{line_feeds}
 use Rattle.kernel_top.specs.declared.summing.Counts.{Counts}
 
 -- A DRILL

@@ -1,20 +1,19 @@
--- What a line session comes to: its script is run with its two natives and its lines thrown away, and the text of the buffer
--- `*session*` is written.
-use Rattle.std.specs.Prelude.{◌≡◌, ℕ, ◌<◌, ◌≤◌, Bool, true, false, List, [], length, map, flat_map, codes, unwrap_or, option_map, if◌then◌else◌, Result, Ok, Err}
-use Rattle.text_model.specs.Characters.{Ch, Scalar, encoded}
+-- What a line session comes to: its script is run with its two natives and its lines thrown away, and the text of the
+-- buffer `*session*` is written.
+use Rattle.std.specs.Prelude.{◌≡◌, ℕ, ◌<◌, ◌≤◌, Bool, true, false, List, length, map, flat_map, if◌then◌else◌, Result, Ok, Err}
+use Rattle.text_model.specs.Characters.{Ch, encoded}
 use Rattle.text_model.specs.Properties.{Cell}
 use Rattle.editor_model.specs.Values.{Value, Script}
-use Rattle.editor_model.specs.Editor.{Editor, Name, find, buffer_at}
+use Rattle.editor_model.specs.Editor.{Editor}
 use Rattle.plain_machine.specs.Exchanges.{Exchange}
 use Rattle.plain_machine.specs.State.{State, Program}
 use Rattle.plain_machine.specs.Symbols.{program_of}
 use Rattle.ek_types.specs.Io.{SinkState, IsPrefixOf}
 use Rattle.line_session.specs.Handlers.{session_names, session_does}
 use Rattle.line_session.specs.Script.{command_of, session_script}
-use Rattle.session_laws.specs.Sessions.{is_full, TextBy}
-use Rattle.kernel_steps.specs.Worlds.{Stands}
+use Rattle.session_laws.specs.Sessions.{characters_gathered, is_full, TextBy}
 use Rattle.kernel_top.specs.SessionWords.{Wanted}
-use Rattle.kernel_top.specs.Unseen.{IsWhole, IsBrokenOff}
+use Rattle.kernel_top.specs.Unseen.{IsWhole}
 use Rattle.kernel_top.specs.declared.status.Status.{Status}
 use Rattle.kernel_top.specs.declared.status.Status.TheVariants as status
 
@@ -28,23 +27,16 @@ script_wanted wanted = session_script (command_wanted wanted)
 
 -- the script's run has the two natives of the session as handlers, and no others
 abbrev pub program_wanted : Wanted → Program
-program_wanted wanted = program_of (script_wanted wanted) session_names (session_does wanted.limit (command_wanted wanted))
-
--- the script was run on a kernel, which stands for the machine's last state then; or that run was broken off
-abbrev pub RanOn : {T E : Type 0} → Result T E → Program → Script → List Exchange → (left : State) → Type 0
-RanOn (Ok x) program script exchanges left = (whole : IsWhole program script exchanges) × Stands left whole.ran.last.state
-RanOn (Err e) program script exchanges left = IsBrokenOff program script exchanges
+program_wanted wanted =
+    program_of (script_wanted wanted) session_names (session_does wanted.limit (command_wanted wanted))
 
 -- THE TEXT
 abbrev pub text_bytes : List Cell → List ℕ
 text_bytes text = flat_map encoded (map (λ c. c.0) text)
 
-abbrev pub session_buffer : Name
-session_buffer = map Scalar (codes "*session*")
-
 -- the text of the live buffer `*session*`, and nothing where there is none
 abbrev pub gathered : Editor → List ℕ
-gathered e = unwrap_or (option_map (λ id. text_bytes (buffer_at e id).text) (find e session_buffer)) []
+gathered e = flat_map encoded (characters_gathered e)
 
 -- by whether the buffer became full
 abbrev pub gathered_status : {T E : Type 0} → (full : Bool) → Result T E → Status
@@ -64,8 +56,10 @@ pub record IsGatheredFront (bytes written : List ℕ) (before : SinkState) : Typ
 
 -- what became of the text of a session that has ended in this state
 abbrev pub Gathered : Status → (last : State) → (written : List ℕ) → (before now : SinkState) → Type 0
-Gathered status.Done last written before now = (is_full last ≡ false) × IsGathered (gathered last.editor) written before now
-Gathered status.SessionFull last written before now = (is_full last ≡ true) × IsGathered (gathered last.editor) written before now
+Gathered status.Done last written before now =
+    (is_full last ≡ false) × IsGathered (gathered last.editor) written before now
+Gathered status.SessionFull last written before now =
+    (is_full last ≡ true) × IsGathered (gathered last.editor) written before now
 Gathered status.WriteFault last written before now = IsGatheredFront (gathered last.editor) written before
 Gathered _ last written before now = ⊥
 
@@ -83,5 +77,6 @@ BytesBy full exchanges bytes = (text : List Ch) × TextBy full exchanges text ×
 abbrev pub Lined : Status → (written : List ℕ) → List Exchange → Type 0
 Lined status.Done written exchanges = BytesBy false exchanges written
 Lined status.SessionFull written exchanges = BytesBy true exchanges written
-Lined status.WriteFault written exchanges = (full : Bool) × (bytes : List ℕ) × BytesBy full exchanges bytes × IsPrefixOf written bytes
+Lined status.WriteFault written exchanges =
+    (full : Bool) × (bytes : List ℕ) × BytesBy full exchanges bytes × IsPrefixOf written bytes
 Lined _ written exchanges = Unit {0}

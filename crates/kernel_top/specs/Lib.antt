@@ -1,6 +1,8 @@
 pub mod SessionWords
 pub mod Words
+pub mod Commands
 pub mod Reading
+pub mod Scripts
 pub mod Counting
 pub mod HandingOn
 pub mod DrillForms

@@ -1,21 +1,20 @@
 -- What a replay comes to: the machine's run of a script on the exchanges of a journal.
 pub use Rattle.trace_check.specs.Runs.{GoesThrough, Strays}
-use Rattle.std.specs.Prelude.{◌≡◌, ℕ, ◌+◌, ◌≤◌, ◌<◌, ◌⊎◌, List, [], length, take, Result, Ok, Err}
+use Rattle.std.specs.Prelude.{◌≡◌, ℕ, ◌+◌, ◌≤◌, ◌<◌, ◌⊎◌, List, [], ◌++◌, length, Result, Ok, Err}
 use Rattle.editor_model.specs.Values.{Script}
 use Rattle.plain_machine.specs.Exchanges.{Exchange}
 use Rattle.plain_machine.specs.State.{Program}
-use Rattle.plain_machine.specs.Items.{Said, Config}
-use Rattle.plain_machine.specs.Run.{Reaches, start}
-use Rattle.plain_machine.specs.Grammar.{IsScript, IsFaultLine}
+use Rattle.plain_machine.specs.Run.{lines}
+use Rattle.plain_machine.specs.Grammar.{IsScript}
 use Rattle.std.specs.Io.KnownBytes.{Consumes, Appends}
 use Rattle.ek_types.specs.Io.{SourceState, SinkState, IsPrefixOf}
 use Rattle.journal_text.specs.Lines.{session}
 use Rattle.journal_text.specs.Allowed.{IsJournal}
 use Rattle.journal_text.specs.Journals as journals
-use Rattle.kernel_steps.specs.Outside.{deepest}
 use Rattle.kernel_steps.specs.Outcomes.{RanScript}
 use Rattle.kernel_top.specs.Sessions.{longest_session}
 use Rattle.kernel_top.specs.Reading.{HasEnded}
+use Rattle.kernel_top.specs.Scripts.{HasNoScript}
 use Rattle.kernel_top.specs.Unseen.{IsWhole}
 use Rattle.kernel_top.specs.declared.status.Status.{Status}
 use Rattle.kernel_top.specs.declared.status.Status.TheVariants as status
@@ -26,6 +25,15 @@ pub record CutsLines (program : Program) (script : Script) (journal : List Excha
   pub whole : IsWhole program script journal
   pub front : IsPrefixOf written whole.lines
   pub roomy : length whole.lines ≤ before.room → now.faults ≡ before.faults
+
+-- Memory was wanting in the run, behind a front of the journal. All that it had said was written, so whole lines.
+pub record StopsBetweenLines (program : Program) (script : Script) (journal : List Exchange) (written : List ℕ) (before now : SinkState) : Type 0 where
+  pub made : List Exchange
+  pub others : List Exchange
+  pub in_order : journal ≡ made ++ others
+  pub goes : GoesThrough program script made
+  pub all_said : written ≡ lines goes.said
+  pub cut : CutsLines program script journal written before now
 
 -- SESSIONS
 -- the bytes read are the session of a journal and some bytes, and this is so of them
@@ -45,33 +53,38 @@ pub record IsNoSession (read : List ℕ) (line : ℕ) : Type 0 where
   pub none : journals.HasNoJournal read
   pub at : journals.IsFaultLine read line
 
--- these bytes are no script, and this is the line of the fault
-pub record HasNoScript (bytes : List ℕ) (line : ℕ) : Type 0 where
-  pub none : (script : Script) → IsScript bytes script → ⊥
-  pub at : IsFaultLine bytes line
-
 -- nothing was written
 abbrev pub IsUnwritten : (written : List ℕ) → (before now : SinkState) → Type 0
 IsUnwritten written before now = (written ≡ []) × (now ≡ before)
 
 -- what a replay of these bytes came to, by its status
 abbrev pub Replayed : (Script → Program) → Status → (read written : List ℕ) → (before now : SinkState) → Type 0
-Replayed program status.Done read written before now = OfReplay read (λ journal script. RanScript (program script) script journal written before now)
-Replayed program status.WriteFault read written before now = OfReplay read (λ journal script. CutsLines (program script) script journal written before now)
+Replayed program status.Done read written before now =
+    OfReplay read (λ journal script. RanScript (program script) script journal written before now)
+Replayed program status.WriteFault read written before now =
+    OfReplay read (λ journal script. CutsLines (program script) script journal written before now)
 Replayed program status.NoMemory read written before now =
-    IsUnwritten written before now ⊎ OfReplay read (λ journal script. CutsLines (program script) script journal written before now)
-Replayed program (status.Journal line) read written before now = IsUnwritten written before now × IsNoSession read line
-Replayed program (status.Script line) read written before now = IsUnwritten written before now × OfSession read (λ journal bytes. HasNoScript bytes line)
+    IsUnwritten written before now ⊎
+    OfReplay read (λ journal script. StopsBetweenLines (program script) script journal written before now)
+Replayed program (status.Journal line) read written before now =
+    IsUnwritten written before now × IsNoSession read line
+Replayed program (status.Script line) read written before now =
+    IsUnwritten written before now × OfSession read (λ journal bytes. HasNoScript bytes line)
 Replayed program (status.Strayed most) read written before now =
     IsUnwritten written before now × OfReplay read (λ journal script. Strays (program script) script journal most)
 Replayed program _ read written before now = ⊥
 
 -- what a replay of a script over a journal came to, by its status
-abbrev pub ReplayedOn : Program → Status → Script → (journal : List Exchange) → (written : List ℕ) → (before now : SinkState) → Type 0
-ReplayedOn program status.Done script journal written before now = RanScript program script journal written before now
-ReplayedOn program status.WriteFault script journal written before now = CutsLines program script journal written before now
-ReplayedOn program status.NoMemory script journal written before now = IsUnwritten written before now ⊎ CutsLines program script journal written before now
-ReplayedOn program (status.Strayed most) script journal written before now = IsUnwritten written before now × Strays program script journal most
+abbrev pub ReplayedOn :
+    Program → Status → Script → (journal : List Exchange) → (written : List ℕ) → (before now : SinkState) → Type 0
+ReplayedOn program status.Done script journal written before now =
+    RanScript program script journal written before now
+ReplayedOn program status.WriteFault script journal written before now =
+    CutsLines program script journal written before now
+ReplayedOn program status.NoMemory script journal written before now =
+    IsUnwritten written before now ⊎ StopsBetweenLines program script journal written before now
+ReplayedOn program (status.Strayed most) script journal written before now =
+    IsUnwritten written before now × Strays program script journal most
 ReplayedOn program _ script journal written before now = ⊥
 
 -- the source wasn't read to its end: it failed, memory was wanting, or it has more bytes than a session may have
@@ -83,9 +96,12 @@ IsUnread _ read = ⊥
 
 -- SOURCES
 -- what became of the bytes read from a source, which has ended or was given up: this is so of them, or they weren't had
-abbrev pub ReadAnd : (So : Status → (read written : List ℕ) → (before now : SinkState) → Type 0) → Status → (read written : List ℕ) → (Ended : Type 0) → (before now : SinkState) → Type 0
+abbrev pub ReadAnd :
+    (So : Status → (read written : List ℕ) → (before now : SinkState) → Type 0) →
+    Status → (read written : List ℕ) → (Ended : Type 0) → (before now : SinkState) → Type 0
 ReadAnd So answer read written Ended before now =
-    (Ended × (length read ≤ longest_session) × So answer read written before now) ⊎ (IsUnwritten written before now × IsUnread answer read)
+    (Ended × (length read ≤ longest_session) × So answer read written before now) ⊎
+    (IsUnwritten written before now × IsUnread answer read)
 
 -- what the session or the transcript that a source holds came to
 pub record SourceSettled (So : Status → (read written : List ℕ) → (before now : SinkState) → Type 0) (answer : Status) (source source' : SourceState) (sink sink' : SinkState) : Type 0 where

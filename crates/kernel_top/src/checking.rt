@@ -1,5 +1,5 @@
-//! The word `check`: a transcript is read, and its claimed lines compared with those of its script's run on its journal, by a
-//! second machine.
+//! The word `check`: a transcript is read, and its claimed lines compared with those of its script's run on its
+//! journal, by a second machine.
 ghost use Rattle.std.specs.Prelude.{◌≡◌, ◌<◌, ◌≤◌, ◌^◌, ℕ, List, length, IsTrue};
 ghost use Rattle.std.specs.Io.KnownBytes.{Appends};
 ghost use Rattle.ek_types.specs.Io.{HasCause};
@@ -10,14 +10,13 @@ ghost use Rattle.kernel_top.specs.Sessions.{longest_session};
 ghost use Rattle.kernel_top.specs.Checking.{Judged, Checked, Told};
 ghost use Rattle.kernel_top.specs.Replaying.{SourceSettled};
 
-use crate::reading::read_session;
+use crate::reading::{read_session, script_in};
 use crate::status::{Status, written_status};
 use ek_call::Script;
 use ek_types::{Sink, Source, write_all};
 use handler_code::Natives;
 use host_link::Exchanges;
 use journal_text::{JournalFault, Transcript, read_transcript};
-use script_read::{ScriptFault, read};
 use std::alloc::Global;
 use trace_check::{Verdict, check};
 
@@ -57,15 +56,15 @@ fn check_bytes<N: Natives>(alloc: Global, bytes: &[u8], natives: &N) -> Status
         Err(JournalFault::Line(line)) => return Status::Journal(line),
         Err(JournalFault::NoMemory) => return Status::NoMemory,
     };
-    let script = match read(alloc, &bytes[at..]) {
+    let script = match script_in(alloc, &bytes[at..]) {
         Ok(script) => script,
-        Err(ScriptFault::Line(line)) => return Status::Script(line),
-        Err(ScriptFault::NoMemory) => return Status::NoMemory,
+        Err(status) => return status,
     };
     judge(alloc, &script, &journal, &bytes[from..to], natives)
 }
 
-/// Reads the transcript that some bytes are, judges its claimed lines, and writes one line where they are those of the run.
+/// Reads the transcript that some bytes are, judges its claimed lines, and writes one line where they are those of
+/// the run.
 fn answer_bytes<K: Sink, N: Natives>(
     alloc: Global,
     bytes: &[u8],

@@ -1,6 +1,7 @@
 //! A sink and a host that count what a run does.
 ghost use Rattle.std.specs.Prelude.{◌≡◌, ◌+◌, ◌-◌, ◌%◌, ◌^◌, min, length, [], ◌∷◌, ◌++◌};
-ghost use Rattle.kernel_top.specs.Counting.{counting_state, line_feeds};
+ghost use Rattle.plain_machine.specs.Grammar.{line_feeds};
+ghost use Rattle.kernel_top.specs.Counting.{counting_state};
 ghost use Rattle.kernel_top.specs.HandingOn.{HandsOn};
 
 use ek_types::{Mem, Sink, Wrote};
@@ -19,7 +20,8 @@ pub(crate) struct CountingSink {
 
 impl Model for CountingSink {
     ghost use Rattle.std.specs.Prelude.{◌≡◌, ◌-◌, ◌%◌, ◌^◌, ℕ, List, min, length};
-    ghost use Rattle.kernel_top.specs.Counting.{firsts, line_feeds};
+    ghost use Rattle.plain_machine.specs.Grammar.{line_feeds};
+    ghost use Rattle.trace_check.specs.Comparing.{firsts};
 
     ghost Value = { List ℕ };
 

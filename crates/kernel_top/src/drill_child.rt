@@ -35,12 +35,6 @@ fn byte_list(alloc: Global, bytes: &[u8]) -> Mem<ByteList>
     Ok(list)
 }
 
-fn lesser(a: usize, b: usize) -> usize
-    ensures { result ≡ min a b }
-{
-    if a < b { a } else { b }
-}
-
 /// What its reads give: pieces of 1, 2, 3, 4, 5, 6, 7, 1, 2 and so on bytes, the last as long as what remains.
 fn reads(alloc: Global, output: &[u8]) -> Mem<Answers>
     ensures { IfOk result (λ reads. map answer_of (items_of reads) ≡
@@ -50,7 +44,7 @@ fn reads(alloc: Global, output: &[u8]) -> Mem<Answers>
     let mut left = output;
     let mut size = 1;
     while !left.is_empty() {
-        let (piece, behind) = left.split_at(lesser(size, left.len()));
+        let (piece, behind) = left.split_at(size.min(left.len()));
         reads.push(Answer::Bytes(byte_list(alloc, piece)?))?;
         left = behind;
         size = size % 7 + 1;

@@ -8,7 +8,8 @@ ghost use Rattle.ek_types.specs.Listing.{items_of};
 ghost use Rattle.ek_types.specs.Property.{number_of};
 ghost use Rattle.ek_call.specs.Primitives.{prim_of};
 ghost use Rattle.ek_call.specs.Meaning.{arg_of, call_of, joined, handler_of, script_of};
-ghost use Rattle.kernel_top.specs.DrillForms.{word_of, forms_of, wait_form};
+ghost use Rattle.line_session.specs.Forms.{forms_of};
+ghost use Rattle.kernel_top.specs.DrillForms.{word_of, wait_form};
 
 use ek_call::{Arg, Call, Form, Forms, HandlerDef, HandlerDefs, Primitive, Script, Value};
 use ek_types::{Chars, ListOf, Mem, Piece, Sym, SymList, Symbols};

@@ -1,12 +1,14 @@
-//! The top call: from the words of the command line and the bytes of a source to the lines of a run. And the drill, by which
-//! the program measures itself.
+//! The top call: from the words of the command line and the bytes of a source to the lines of a run. And the drill, by
+//! which the program measures itself.
 #![tactic(auto)]
 
 mod checking;
+mod commands;
 mod counting;
 mod drill_child;
 mod drill_script;
 mod drilling;
+mod gathered;
 mod laws;
 mod reading;
 mod recording;

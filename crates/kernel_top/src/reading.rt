@@ -1,13 +1,18 @@
 //! The bytes of a source.
 ghost use Rattle.std.specs.Prelude.{◌≡◌, ◌<◌, ◌^◌, IfOk, IfErr, IsTrue, Err};
+ghost use Rattle.plain_machine.specs.Grammar.{longest_script, IsScript};
 ghost use Rattle.ek_types.specs.Io.{HasCause};
+ghost use Rattle.ek_call.specs.Meaning.{script_of};
 ghost use Rattle.kernel_top.specs.Reading.{IsAll, IsGivenUp};
+ghost use Rattle.kernel_top.specs.Scripts.{IsNoScript, IsLeftUnread};
 ghost use Rattle.kernel_top.specs.Replaying.{HasNoSession};
 ghost use Rattle.kernel_top.specs.Sessions.{longest_session};
 
 use crate::status::Status;
+use ek_call::Script;
 use ek_types::{Source, Took};
 use journal_text::LONGEST_SESSION;
+use script_read::{LONGEST_SCRIPT, ScriptFault, read};
 use std::alloc::{AllocError, Global};
 
 /// Why the bytes of a source weren't had.
@@ -17,6 +22,7 @@ pub enum Refused {
     Failed,
     /// They are more than were wanted.
     TooLong,
+    /// Memory was wanting for them.
     NoMemory,
 }
 
@@ -58,6 +64,35 @@ pub(crate) fn read_all<S: Source>(
         }
     }
     Err(Refused::TooLong)
+}
+
+/// All the bytes of a script, which has at most 1,048,576; or the status where they weren't had.
+pub(crate) fn read_script<S: Source>(alloc: Global, source: &mut S) -> Result<Vec<u8>, Status>
+    ensures all { IfOk result (λ all. IsAll longest_script all.items (S.state source.old) (S.state source.new)) }
+    ensures none { IfErr result (λ status. IsLeftUnread status (S.state source.old) (S.state source.new)) }
+    ensures cause { HasCause (S.state source.old).faults (S.state source.new).faults
+        (result ≡ Err Status.ReadFault) }
+    ensures unfailing { IsTrue (S.state source.old).unfailing →
+        (S.state source.new).faults ≡ (S.state source.old).faults }
+{
+    match read_all(alloc, source, LONGEST_SCRIPT) {
+        Ok(bytes) => Ok(bytes),
+        Err(Refused::Failed) => Err(Status::ReadFault),
+        Err(Refused::TooLong) => Err(Status::Script(0)),
+        Err(Refused::NoMemory) => Err(Status::NoMemory),
+    }
+}
+
+/// The script that some bytes are, or the status where they are none.
+pub(crate) fn script_in(alloc: Global, bytes: &[u8]) -> Result<Script, Status>
+    ensures script { IfOk result (λ script. IsScript bytes.now (script_of script)) }
+    ensures none { IfErr result (λ status. IsNoScript status bytes.now) }
+{
+    match read(alloc, bytes) {
+        Ok(script) => Ok(script),
+        Err(ScriptFault::Line(line)) => Err(Status::Script(line)),
+        Err(ScriptFault::NoMemory) => Err(Status::NoMemory),
+    }
 }
 
 /// All the bytes of a session or a transcript, which has at most 268,435,456; or the status where they weren't had.

@@ -10,12 +10,12 @@ ghost use Rattle.journal_text.specs.Allowed.{AreLines};
 ghost use Rattle.kernel_steps.specs.HostCalls.{CallsSince};
 ghost use Rattle.kernel_state.specs.Whole.{program_with};
 ghost use Rattle.kernel_top.specs.Unseen.{RanUnseen};
-ghost use Rattle.kernel_top.specs.Words.{IsRecord};
 ghost use Rattle.kernel_top.specs.Sessions.{fits, Written};
 ghost use Rattle.kernel_top.specs.Outcomes.{Came, CameSo, OfBytes, OnRecord};
 
+use crate::commands::Command;
 use crate::counting::CountingSink;
-use crate::reading::{Refused, read_all};
+use crate::reading::{read_script, script_in};
 use crate::status::{Status, written_status};
 use crate::unseen::run_unseen;
 use ek_call::Script;
@@ -23,7 +23,6 @@ use ek_types::{Mem, Sink, SinkFault, Source, put};
 use handler_code::Natives;
 use host_link::{Exchanges, Host};
 use journal_text::{LONGEST_SESSION, LinedHost, write_journal};
-use script_read::{LONGEST_SCRIPT, ScriptFault, read};
 use std::alloc::Global;
 
 /// Writes a journal, and behind it the line `script` and the script.
@@ -88,14 +87,12 @@ fn record_bytes<K: Sink, H: Host, N: Natives>(
     ensures outcome { CameSo H.state H.made host.old host.new (K.state sink.old) (K.state sink.new)
         (OfBytes (OnRecord (λ script. program_with N.names N.does script natives.now)) bytes.now result) }
     ensures no_read { result ≢ Status.ReadFault }
-    ensures known { result ≢ Status.Usage }
     ensures write_fault { HasCause (K.state sink.old).faults (K.state sink.new).faults
         (result ≡ Status.WriteFault) }
 {
-    let script = match read(alloc, bytes) {
+    let script = match script_in(alloc, bytes) {
         Ok(script) => script,
-        Err(ScriptFault::Line(line)) => return Status::Script(line),
-        Err(ScriptFault::NoMemory) => return Status::NoMemory,
+        Err(status) => return status,
     };
     let ran = run_lined(alloc, &script, host, natives);
     let Ok(()) = ran else {
@@ -117,10 +114,9 @@ pub(crate) fn record_source<S: Source, K: Sink, H: Host, N: Natives>(
 ) -> Status
     requires few { length (H.state host.old).kills ≤ 2 ^ 31 }
     requires told { (H.state host.old).told ≡ Some [] }
-    ensures outcome { (words : List (List ℕ)) → IsRecord words → Came H.state H.made
-        (λ script. program_with N.names N.does script natives.now) words result
+    ensures outcome { Came H.state H.made
+        (λ script. program_with N.names N.does script natives.now) (Some Command.Record) result
         host.old host.new (S.state source.old) (S.state source.new) (K.state sink.old) (K.state sink.new) }
-    ensures known { result ≢ Status.Usage }
     ensures read_fault { HasCause (S.state source.old).faults (S.state source.new).faults
         (result ≡ Status.ReadFault) }
     ensures write_fault { HasCause (K.state sink.old).faults (K.state sink.new).faults
@@ -128,10 +124,8 @@ pub(crate) fn record_source<S: Source, K: Sink, H: Host, N: Natives>(
     ensures unfailing { IsTrue (S.state source.old).unfailing →
         (S.state source.new).faults ≡ (S.state source.old).faults }
 {
-    match read_all(alloc, source, LONGEST_SCRIPT) {
+    match read_script(alloc, source) {
         Ok(bytes) => record_bytes(alloc, bytes.as_slice(), sink, host, natives),
-        Err(Refused::Failed) => Status::ReadFault,
-        Err(Refused::TooLong) => Status::Script(0),
-        Err(Refused::NoMemory) => Status::NoMemory,
+        Err(status) => status,
     }
 }

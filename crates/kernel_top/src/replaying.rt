@@ -12,7 +12,7 @@ ghost use Rattle.kernel_top.specs.Sessions.{longest_session};
 ghost use Rattle.kernel_top.specs.Unseen.{IsWhole};
 ghost use Rattle.kernel_top.specs.Replaying.{Followed, ReplayedOn, Replayed, SourceSettled};
 
-use crate::reading::read_session;
+use crate::reading::{read_session, script_in};
 use crate::status::{Status, status_of};
 use crate::unseen::run_unseen;
 use ek_call::Script;
@@ -21,7 +21,6 @@ use handler_code::Natives;
 use host_link::Exchanges;
 use journal_text::{JournalFault, Replay, read_journal};
 use kernel_run::Kernel;
-use script_read::{ScriptFault, read};
 use std::alloc::Global;
 
 /// Whether all of a journal of so many exchanges was followed.
@@ -130,10 +129,9 @@ fn replay_bytes<K: Sink, N: Natives>(
         Err(JournalFault::Line(line)) => return Status::Journal(line),
         Err(JournalFault::NoMemory) => return Status::NoMemory,
     };
-    let script = match read(alloc, &bytes[at..]) {
+    let script = match script_in(alloc, &bytes[at..]) {
         Ok(script) => script,
-        Err(ScriptFault::Line(line)) => return Status::Script(line),
-        Err(ScriptFault::NoMemory) => return Status::NoMemory,
+        Err(status) => return status,
     };
     replay_script(alloc, &script, journal, sink, natives)
 }

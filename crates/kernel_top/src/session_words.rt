@@ -1,5 +1,5 @@
 //! The words of a line session.
-ghost use Rattle.std.specs.Prelude.{◌≡◌, ◌∷◌, ◌==◌, not, map, string_bytes};
+ghost use Rattle.std.specs.Prelude.{◌≡◌, ◌∷◌, map, string_bytes};
 ghost use Rattle.std.specs.List.{list_all};
 ghost use Rattle.kernel_top.specs.SessionWords.{is_limit, is_given, is_command, session_of};
 
@@ -81,22 +81,12 @@ fn is_command(program: &[u8], args: &[String]) -> bool
 fn is_given(word: &[u8]) -> bool
     ensures { result ≡ is_given word.now }
 {
-    word.iter().all(|c| is_no_end(*c))
+    word.iter().all(|c| *c != 0)
 }
 
-fn is_no_end(c: u8) -> bool
-    ensures { result ≡ not (c == 0) }
-{
-    c != 0
-}
-
+/// Whether all words are such.
 fn are_given(words: &[String]) -> bool
     ensures { result ≡ list_all is_given (map string_bytes words.now) }
 {
-    for i in 0..words.len() {
-        if !is_given(words[i].as_bytes()) {
-            return false;
-        }
-    }
-    true
+    words.iter().all(|word| is_given(word.as_bytes()))
 }

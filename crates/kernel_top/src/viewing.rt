@@ -1,5 +1,5 @@
 //! The word `view`: a script is run with its lines thrown away, and its current buffer is written as it would be seen.
-ghost use Rattle.std.specs.Prelude.{◌≡◌, ◌≢◌, ◌^◌, ◌≤◌, ℕ, List, length, IsTrue};
+ghost use Rattle.std.specs.Prelude.{◌≡◌, ◌≢◌, ◌^◌, ◌≤◌, ℕ, List, length, Some, IsTrue};
 ghost use Rattle.std.specs.Io.KnownBytes.{Appends};
 ghost use Rattle.plain_machine.specs.Exchanges.{Exchange};
 ghost use Rattle.plain_machine.specs.State.{new_state};
@@ -10,11 +10,11 @@ ghost use Rattle.final_view.specs.Faults.{Views};
 ghost use Rattle.kernel_steps.specs.HostCalls.{CallsSince};
 ghost use Rattle.kernel_run.specs.Meaning.{state_of};
 ghost use Rattle.kernel_state.specs.Whole.{program_with};
-ghost use Rattle.kernel_top.specs.Words.{IsView};
 ghost use Rattle.kernel_top.specs.Viewing.{view_of, Viewed, viewed_status};
 ghost use Rattle.kernel_top.specs.Outcomes.{Came, CameSo, OfBytes, OnView};
 
-use crate::reading::{Refused, read_all};
+use crate::commands::Command;
+use crate::reading::{read_script, script_in};
 use crate::status::Status;
 use buffer_table::Editor;
 use ek_call::Script;
@@ -23,7 +23,6 @@ use final_view::{ViewFault, view};
 use handler_code::Natives;
 use host_link::Host;
 use kernel_run::Kernel;
-use script_read::{LONGEST_SCRIPT, ScriptFault, read};
 use std::alloc::Global;
 
 /// The status of a script that was run, by how the writing of its view ended.
@@ -44,7 +43,8 @@ fn view_current<K: Sink>(editor: &Editor, sink: &mut K) -> Result<(), ViewFault>
     view(editor, editor.current(), sink)
 }
 
-/// Runs the script on a kernel that is new, with its lines thrown away, and writes what its current buffer then looks like.
+/// Runs the script on a kernel that is new, with its lines thrown away, and writes what its current buffer then looks
+/// like.
 fn view_script<K: Sink, H: Host, N: Natives>(
     kernel: &mut Kernel,
     script: &Script,
@@ -81,14 +81,12 @@ fn view_bytes<K: Sink, H: Host, N: Natives>(
     ensures outcome { CameSo H.state H.made host.old host.new (K.state sink.old) (K.state sink.new)
         (OfBytes (OnView (λ script. program_with N.names N.does script natives.now)) bytes.now result) }
     ensures no_read { result ≢ Status.ReadFault }
-    ensures known { result ≢ Status.Usage }
     ensures write_fault { HasCause (K.state sink.old).faults (K.state sink.new).faults
         (result ≡ Status.WriteFault) }
 {
-    let script = match read(alloc, bytes) {
+    let script = match script_in(alloc, bytes) {
         Ok(script) => script,
-        Err(ScriptFault::Line(line)) => return Status::Script(line),
-        Err(ScriptFault::NoMemory) => return Status::NoMemory,
+        Err(status) => return status,
     };
     let Ok(mut kernel) = Kernel::new(alloc) else {
         return Status::NoMemory;
@@ -107,10 +105,9 @@ pub(crate) fn view_source<S: Source, K: Sink, H: Host, N: Natives>(
     natives: &N,
 ) -> Status
     requires { length (H.state host.old).kills ≤ 2 ^ 31 }
-    ensures outcome { (words : List (List ℕ)) → IsView words → Came H.state H.made
-        (λ script. program_with N.names N.does script natives.now) words result
+    ensures outcome { Came H.state H.made
+        (λ script. program_with N.names N.does script natives.now) (Some Command.View) result
         host.old host.new (S.state source.old) (S.state source.new) (K.state sink.old) (K.state sink.new) }
-    ensures known { result ≢ Status.Usage }
     ensures read_fault { HasCause (S.state source.old).faults (S.state source.new).faults
         (result ≡ Status.ReadFault) }
     ensures write_fault { HasCause (K.state sink.old).faults (K.state sink.new).faults
@@ -118,10 +115,8 @@ pub(crate) fn view_source<S: Source, K: Sink, H: Host, N: Natives>(
     ensures unfailing { IsTrue (S.state source.old).unfailing →
         (S.state source.new).faults ≡ (S.state source.old).faults }
 {
-    match read_all(alloc, source, LONGEST_SCRIPT) {
+    match read_script(alloc, source) {
         Ok(bytes) => view_bytes(alloc, bytes.as_slice(), sink, host, natives),
-        Err(Refused::Failed) => Status::ReadFault,
-        Err(Refused::TooLong) => Status::Script(0),
-        Err(Refused::NoMemory) => Status::NoMemory,
+        Err(status) => status,
     }
 }

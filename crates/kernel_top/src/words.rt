@@ -1,59 +1,9 @@
-//! The words of the command line.
-ghost use Rattle.std.specs.Prelude.{◌≡◌, ◌≤◌, true, [], ◌∷◌, codes, length, map, string_bytes};
+//! The words of a drill, and the digits of numbers.
+ghost use Rattle.std.specs.Prelude.{◌≡◌, ◌≤◌, true, [], ◌∷◌, length, map, string_bytes};
 ghost use Rattle.std.specs.List.{list_all};
 ghost use Rattle.plain_machine.specs.Words.{is_digit, digits_value};
-ghost use Rattle.plain_machine.specs.Drill.{is_run, drill_of};
-ghost use Rattle.kernel_top.specs.Words.{is_word, number_of};
-
-/// Whether the words behind the program's name are `run` alone.
-pub(crate) fn is_run(words: &[String]) -> bool
-    ensures { result ≡ is_run (map string_bytes words.now) }
-{
-    match words {
-        [word] => word.as_str() == "run",
-        _ => false,
-    }
-}
-
-/// Whether the words behind the program's name are `record` alone.
-pub(crate) fn is_record(words: &[String]) -> bool
-    ensures { result ≡ is_word (codes "record") (map string_bytes words.now) }
-{
-    match words {
-        [word] => word.as_str() == "record",
-        _ => false,
-    }
-}
-
-/// Whether the words behind the program's name are `replay` alone.
-pub(crate) fn is_replay(words: &[String]) -> bool
-    ensures { result ≡ is_word (codes "replay") (map string_bytes words.now) }
-{
-    match words {
-        [word] => word.as_str() == "replay",
-        _ => false,
-    }
-}
-
-/// Whether the words behind the program's name are `check` alone.
-pub(crate) fn is_check(words: &[String]) -> bool
-    ensures { result ≡ is_word (codes "check") (map string_bytes words.now) }
-{
-    match words {
-        [word] => word.as_str() == "check",
-        _ => false,
-    }
-}
-
-/// Whether the words behind the program's name are `view` alone.
-pub(crate) fn is_view(words: &[String]) -> bool
-    ensures { result ≡ is_word (codes "view") (map string_bytes words.now) }
-{
-    match words {
-        [word] => word.as_str() == "view",
-        _ => false,
-    }
-}
+ghost use Rattle.plain_machine.specs.Drill.{drill_of};
+ghost use Rattle.kernel_top.specs.Words.{number_of};
 
 /// The number of a drill, where the words behind the program's name are `drill` and a number of one to four digits.
 pub fn drill_of(words: &[String]) -> Option<u32>

@@ -7,6 +7,7 @@ use Rattle.plain_machine.specs.Symbols.{program_of}
 use Rattle.ek_types.specs.Io.{SourceState, SinkState}
 use Rattle.host_link.specs.Hosts.{HostState}
 use Rattle.kernel_state.specs.Whole.{Doing}
+use Rattle.kernel_top.specs.Commands.{command_of}
 use Rattle.kernel_top.specs.Outcomes.{Came}
 use Rattle.kernel_top.specs.declared.status.Status.{Status}
 
@@ -25,4 +26,4 @@ pub record CameShipped {H : Type 0} (hosted : H → HostState) (made : H → H �
   pub names : List (List ℕ)
   pub does : Doing
   pub shipped : AreShipped names does
-  pub came : Came hosted made (λ script. program_of script names does) words answer start now source source' sink sink'
+  pub came : Came hosted made (λ script. program_of script names does) (command_of words) answer start now source source' sink sink'

@@ -1,5 +1,6 @@
 use Rattle.std.proofs.Common.{sym, append-nil}
-use Rattle.kernel_top.specs.DrillForms.{forms_of, wait_form}
+use Rattle.line_session.specs.Forms.{forms_of}
+use Rattle.kernel_top.specs.DrillForms.{wait_form}
 use Rattle.kernel_top.proofs.MadeForms.{one_more_wait}
 use Rattle.kernel_top.proofs.drill_script.then_wait.Goals as goal
 

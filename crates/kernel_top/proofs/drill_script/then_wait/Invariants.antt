@@ -1,6 +1,7 @@
 use Rattle.std.proofs.Common.{◌≡◌, ◌++◌}
 use Rattle.std.specs.Prelude.{replicate}
-use Rattle.kernel_top.specs.DrillForms.{forms_of, wait_form}
+use Rattle.line_session.specs.Forms.{forms_of}
+use Rattle.kernel_top.specs.DrillForms.{wait_form}
 use Rattle.kernel_top.proofs.drill_script.then_wait.Given as goal
 
 abbrev pub invariant-waiting : goal.invariant-waiting

@@ -1,4 +1,4 @@
-use Rattle.std.proofs.Common.{◌∙◌, sym, ap}
+use Rattle.std.proofs.Common.{◌∙◌, ap}
 use Rattle.kernel_top.specs.Sessions.{fits}
 use Rattle.kernel_top.proofs.Sessions.{counted, fits_by}
 use Rattle.kernel_top.proofs.recording.fits.Goals as goal

@@ -1,32 +1,21 @@
-use Rattle.std.proofs.Common.{refl, ap, [], inl, Err}
+use Rattle.std.proofs.Common.{[], arith}
 use Rattle.std.proofs.KnownBytes.{Appends-nil}
 use Rattle.ek_call.specs.Meaning.{script_of}
 use Rattle.kernel_state.specs.Whole.{program_with}
-use Rattle.kernel_top.specs.Outcomes.{seen}
-use Rattle.kernel_top.proofs.Outcomes.{quiet}
-use Rattle.kernel_top.proofs.Recorded.{broke_off, recorded, told_all, tells_still, no_read_fault, no_usage}
+use Rattle.kernel_top.specs.Outcomes.{seen, RunsAndRecords}
+use Rattle.kernel_top.proofs.Outcomes.{came_refused, refused_no_read, refused_no_write}
+use Rattle.kernel_top.proofs.Recorded.{broke_off, recorded, told_all, tells_still, no_read_fault}
 use Rattle.kernel_top.proofs.recording.record_bytes.Goals as goal
 
-pub returns-in-Err-Line-clause-outcome : goal.returns-in-Err-Line-clause-outcome
-returns-in-Err-Line-clause-outcome g c =
-    let none = c.in-Err-Line.ensures.none c.in-Err-Line.line (ap Err c.in-Err-Line.field-0-is) in
-    let at = c.in-Err-Line.ensures.line c.in-Err-Line.line (ap Err c.in-Err-Line.field-0-is) in
-    record {
-      written = [];
-      exchanges = [];
-      put = Appends-nil _;
-      calls = refl;
-      so = λ source source' ended. rw c.in-Err-Line.line-is (inl ended, record { none = none; at = at }, quiet source source' _ _);
-    }
+pub returns-in-Err-clause-outcome : goal.returns-in-Err-clause-outcome
+returns-in-Err-clause-outcome g c =
+    came_refused (RunsAndRecords (λ script. program_with g.N.Natives.names g.N.Natives.does script c.args.natives.now)) g.H.Host.state g.H.Host.made c.in-Err.status c.args.bytes.now c.args.host.now (g.K.Sink.state c.args.sink.now) c.in-Err.ensures.none
 
-pub returns-in-Err-NoMemory-clause-outcome : goal.returns-in-Err-NoMemory-clause-outcome
-returns-in-Err-NoMemory-clause-outcome g c = record {
-  written = [];
-  exchanges = [];
-  put = Appends-nil _;
-  calls = refl;
-  so = λ source source' ended. inl (quiet source source' _ _);
-}
+pub returns-in-Err-clause-no_read : goal.returns-in-Err-clause-no_read
+returns-in-Err-clause-no_read g c = λ e. refused_no_read c.in-Err.status c.args.bytes.now c.in-Err.ensures.none e
+
+pub returns-in-Err-clause-write_fault : goal.returns-in-Err-clause-write_fault
+returns-in-Err-clause-write_fault g c = record { later = omega arith; rose = λ e. absurd (refused_no_write c.in-Err.status c.args.bytes.now c.in-Err.ensures.none e) }
 
 pub returns-in_default-clause-outcome : goal.returns-in_default-clause-outcome
 returns-in_default-clause-outcome g c =
@@ -65,8 +54,3 @@ pub returns-clause-no_read : goal.returns-clause-no_read
 returns-clause-no_read g c =
     let (written, put, row) = c.write_session.ensures.written in
     λ e. no_read_fault c.write_session.result _ written (g.K.Sink.state c.args.sink.now) (g.K.Sink.state c.write_session.new.sink) row e
-
-pub returns-clause-known : goal.returns-clause-known
-returns-clause-known g c =
-    let (written, put, row) = c.write_session.ensures.written in
-    λ e. no_usage c.write_session.result _ written (g.K.Sink.state c.args.sink.now) (g.K.Sink.state c.write_session.new.sink) row e

@@ -1,4 +1,4 @@
-use Rattle.std.proofs.Common.{[], refl, sym, ◌∙◌}
+use Rattle.std.proofs.Common.{[], sym, ◌∙◌}
 use Rattle.std.proofs.KnownBytes.{Appends-nil}
 use Rattle.kernel_top.proofs.Sessions.{written_whole, too_long}
 use Rattle.kernel_top.proofs.recording.write_session.Goals as goal

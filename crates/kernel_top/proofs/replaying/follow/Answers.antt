@@ -1,4 +1,4 @@
-use Rattle.std.proofs.Common.{refl, sym, ◌∙◌, ap, arith}
+use Rattle.std.proofs.Common.{sym, ◌∙◌, arith}
 use Rattle.ek_call.specs.Meaning.{script_of}
 use Rattle.kernel_state.specs.Whole.{program_with}
 use Rattle.kernel_top.proofs.Paths.{list_kept}

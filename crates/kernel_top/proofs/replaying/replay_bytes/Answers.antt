@@ -4,8 +4,9 @@ use Rattle.plain_machine.specs.Grammar.{IsScript}
 use Rattle.ek_call.specs.Meaning.{script_of}
 use Rattle.host_link.specs.Meaning.{exchanges_of}
 use Rattle.kernel_state.specs.Whole.{program_with}
-use Rattle.kernel_top.specs.Replaying.{HasNoScript}
-use Rattle.kernel_top.proofs.Replays.{few_exchanges, rest_is, replayed_bytes}
+use Rattle.kernel_top.specs.Scripts.{IsNoScript}
+use Rattle.kernel_top.proofs.Outcomes.{refused_no_write}
+use Rattle.kernel_top.proofs.Replays.{few_exchanges, rest_is, replayed_bytes, unscripted}
 use Rattle.kernel_top.proofs.replaying.replay_bytes.Goals as goal
 
 pub returns-in-Err-Line-clause-written : goal.returns-in-Err-Line-clause-written
@@ -17,17 +18,13 @@ returns-in-Err-Line-clause-written g c =
 pub returns-in-Err-NoMemory-clause-written : goal.returns-in-Err-NoMemory-clause-written
 returns-in-Err-NoMemory-clause-written g c = ([], Appends-nil _, inl (refl, refl))
 
-pub returns-in-Err-Line-read-clause-written : goal.returns-in-Err-Line-read-clause-written
-returns-in-Err-Line-read-clause-written g c =
-    let to = c.in-Ok.ensures.read in
-    let none = c.in-Err-Line-read.ensures.none c.in-Err-Line-read.line (ap Err c.in-Err-Line-read.field-0-is) in
-    let at = c.in-Err-Line-read.ensures.line c.in-Err-Line-read.line (ap Err c.in-Err-Line-read.field-0-is) in
-    let rest = rest_is c.args.bytes.now c.in-Ok.found.1 in
-    let so : HasNoScript (drop c.in-Ok.found.1 c.args.bytes.now) c.in-Err-Line-read.line = subst (λ l. HasNoScript l c.in-Err-Line-read.line) rest (record { none = none; at = at }) in
-    ([], Appends-nil _, rw c.in-Err-Line-read.line-is ((refl, refl), record { journal = exchanges_of c.in-Ok.found.0; bytes = drop c.in-Ok.found.1 c.args.bytes.now; lines = to.lines; is = to.whole; so = so }))
+pub returns-in-Err-clause-written : goal.returns-in-Err-clause-written
+returns-in-Err-clause-written g c =
+    let none : IsNoScript c.in-Err.status (drop c.in-Ok.found.1 c.args.bytes.now) = subst (IsNoScript c.in-Err.status) (rest_is c.args.bytes.now c.in-Ok.found.1) c.in-Err.ensures.none in
+    ([], Appends-nil _, unscripted (λ script. program_with g.N.Natives.names g.N.Natives.does script c.args.natives.now) c.in-Err.status c.args.bytes.now (exchanges_of c.in-Ok.found.0) c.in-Ok.found.1 (g.K.Sink.state c.args.sink.now) c.in-Ok.ensures.read none)
 
-pub returns-in-Err-NoMemory-read-clause-written : goal.returns-in-Err-NoMemory-read-clause-written
-returns-in-Err-NoMemory-read-clause-written g c = ([], Appends-nil _, inl (refl, refl))
+pub returns-in-Err-clause-write_fault : goal.returns-in-Err-clause-write_fault
+returns-in-Err-clause-write_fault g c = record { later = omega arith; rose = λ e. absurd (refused_no_write c.in-Err.status _ c.in-Err.ensures.none e) }
 
 pub replay_script-requires-clause-few : goal.replay_script-requires-clause-few
 replay_script-requires-clause-few g c =
@@ -37,4 +34,4 @@ replay_script-requires-clause-few g c =
 pub returns-clause-written : goal.returns-clause-written
 returns-clause-written g c =
     let (written, put, so) = c.replay_script.ensures.written in
-    (written, put, replayed_bytes (λ script. program_with g.N.Natives.names g.N.Natives.does script c.args.natives.now) (script_of c.in-Ok-read.script) c.replay_script.result c.args.bytes.now (exchanges_of c.in-Ok.found.0) c.in-Ok.found.1 written (g.K.Sink.state c.args.sink.now) (g.K.Sink.state c.replay_script.new.sink) c.in-Ok.ensures.read (subst (λ l. IsScript l (script_of c.in-Ok-read.script)) (rest_is c.args.bytes.now c.in-Ok.found.1) c.in-Ok-read.ensures.script) so)
+    (written, put, replayed_bytes (λ script. program_with g.N.Natives.names g.N.Natives.does script c.args.natives.now) (script_of c.in-Ok-script_in.script) c.replay_script.result c.args.bytes.now (exchanges_of c.in-Ok.found.0) c.in-Ok.found.1 written (g.K.Sink.state c.args.sink.now) (g.K.Sink.state c.replay_script.new.sink) c.in-Ok.ensures.read (subst (λ l. IsScript l (script_of c.in-Ok-script_in.script)) (rest_is c.args.bytes.now c.in-Ok.found.1) c.in-Ok-script_in.ensures.script) so)

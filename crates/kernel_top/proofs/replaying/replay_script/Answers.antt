@@ -1,11 +1,10 @@
-use Rattle.std.proofs.Common.{◌≡◌, [], refl, sym, ap, ◌∙◌, subst, length, arith}
+use Rattle.std.proofs.Common.{[], refl, sym, ◌∙◌, arith}
 use Rattle.std.proofs.KnownBytes.{Appends-nil}
 use Rattle.std.proofs.lemmas.List.{length-map}
 use Rattle.ek_call.specs.Meaning.{script_of}
 use Rattle.ek_types.specs.Listing.{items_of}
 use Rattle.host_link.specs.Meaning.{exchange_of, exchanges_of}
 use Rattle.kernel_state.specs.Whole.{program_with}
-use Rattle.kernel_top.specs.Unseen.{IsWhole}
 use Rattle.kernel_top.proofs.Replays.{refused_on, no_write_fault}
 use Rattle.kernel_top.proofs.replaying.replay_script.Goals as goal
 

@@ -18,7 +18,7 @@ returns-in-Ok-clause-outcome g c =
       calls = calls;
       so = λ source source'.
           gathers (program_with g.N.Natives.names g.N.Natives.does (script_of c.args.script.now) c.args.natives.now) (script_of c.args.script.now) exchanges
-          (seen source (g.K.Sink.state c.args.sink.now) (g.H.Host.state c.args.host.now)) (seen source' (g.K.Sink.state c.write_gathered.new.sink) (g.H.Host.state c.run_on.new.host)) c.write_gathered.result written whole row;
+          (seen source (g.K.Sink.state c.args.sink.now) (g.H.Host.state c.args.host.now)) (seen source' (g.K.Sink.state c.write_gathered.new.sink) (g.H.Host.state c.run_unseen_on.new.host)) c.write_gathered.result written whole row;
     }
 
 pub returns-in-Err-clause-outcome : goal.returns-in-Err-clause-outcome

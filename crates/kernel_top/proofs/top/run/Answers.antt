@@ -1,119 +1,114 @@
-use Rattle.std.proofs.Common.{sym, refl, ◌∙◌, map, string_bytes, arith}
+use Rattle.std.proofs.Common.{◌≡◌, Some, None, sym, refl, map, string_bytes, arith}
 use Rattle.kernel_state.specs.Whole.{program_with}
-use Rattle.kernel_top.proofs.Outcomes.{quiet, came_drilled, came_gathered, came_unknown, came_replayed, replay_is_known, came_checked, check_is_known, drill_reads_nothing, session_reads_nothing, unknown, completes}
+use Rattle.kernel_top.specs.Commands.{command_of}
+use Rattle.kernel_top.specs.Replaying.{Replayed}
+use Rattle.kernel_top.specs.Checking.{Told}
+use Rattle.kernel_top.specs.Outcomes.{OnDrill, OnSession, Came}
+use Rattle.kernel_top.specs.declared.commands.Command.TheVariants as command
+use Rattle.kernel_top.proofs.Outcomes.{came_aside, came_settled, came_unknown, completes, drill_reads_nothing, session_reads_nothing}
 use Rattle.kernel_top.proofs.top.run.Goals as goal
 
-pub returns-then-is_run-clause-outcome : goal.returns-then-is_run-clause-outcome
-returns-then-is_run-clause-outcome g c = c.run_source.ensures.outcome (map string_bytes c.args.words.now) (sym c.is_run.ensures ∙ c.if-is_run.true)
+pub returns-in-Some-Run-clause-outcome : goal.returns-in-Some-Run-clause-outcome
+returns-in-Some-Run-clause-outcome g c =
+    let asked : command_of (map string_bytes c.args.words.now) ≡ Some command.Run = sym (rw c.in-Some-Run.field-0-is at c.in-Some-Run.ensures) in
+    rw asked c.run_source.ensures.outcome
 
-pub returns-then-is_run-clause-untouched : goal.returns-then-is_run-clause-untouched
-returns-then-is_run-clause-untouched g c = λ e. absurd (c.run_source.ensures.known e)
-
-pub returns-then-is_run-clause-complete : goal.returns-then-is_run-clause-complete
-returns-then-is_run-clause-complete g c =
-    let so = returns-then-is_run-clause-outcome g c in
-    completes _ (map string_bytes c.args.words.now) so.read so.written so.exchanges (g.S.Source.state c.args.source.now) (g.S.Source.state c.run_source.new.source) (g.K.Sink.state c.args.sink.now) (g.K.Sink.state c.run_source.new.sink) _ _ so.taken c.run_source.result so.outcome
-    c.run_source.ensures.read_fault.rose c.run_source.ensures.write_fault.rose
+pub returns-in-Some-Run-clause-complete : goal.returns-in-Some-Run-clause-complete
+returns-in-Some-Run-clause-complete g c =
+    let asked : command_of (map string_bytes c.args.words.now) ≡ Some command.Run = sym (rw c.in-Some-Run.field-0-is at c.in-Some-Run.ensures) in
+    rw asked (completes c.run_source.ensures.outcome c.run_source.ensures.read_fault.rose c.run_source.ensures.write_fault.rose)
 
 pub record_source-requires-clause-told : goal.record_source-requires-clause-told
-record_source-requires-clause-told g c = c.requires.told (sym c.is_record.ensures ∙ c.if-is_record.true)
+record_source-requires-clause-told g c = c.requires.told (sym (rw c.in-Some-Record.field-0-is at c.in-Some-Record.ensures))
 
-pub returns-then-is_record-clause-outcome : goal.returns-then-is_record-clause-outcome
-returns-then-is_record-clause-outcome g c = c.record_source.ensures.outcome (map string_bytes c.args.words.now) (sym c.is_record.ensures ∙ c.if-is_record.true)
+pub returns-in-Some-Record-clause-outcome : goal.returns-in-Some-Record-clause-outcome
+returns-in-Some-Record-clause-outcome g c =
+    let asked : command_of (map string_bytes c.args.words.now) ≡ Some command.Record = sym (rw c.in-Some-Record.field-0-is at c.in-Some-Record.ensures) in
+    rw asked c.record_source.ensures.outcome
 
-pub returns-then-is_record-clause-untouched : goal.returns-then-is_record-clause-untouched
-returns-then-is_record-clause-untouched g c = λ e. absurd (c.record_source.ensures.known e)
+pub returns-in-Some-Record-clause-complete : goal.returns-in-Some-Record-clause-complete
+returns-in-Some-Record-clause-complete g c =
+    let asked : command_of (map string_bytes c.args.words.now) ≡ Some command.Record = sym (rw c.in-Some-Record.field-0-is at c.in-Some-Record.ensures) in
+    rw asked (completes c.record_source.ensures.outcome c.record_source.ensures.read_fault.rose c.record_source.ensures.write_fault.rose)
 
-pub returns-then-is_record-clause-complete : goal.returns-then-is_record-clause-complete
-returns-then-is_record-clause-complete g c =
-    let so = returns-then-is_record-clause-outcome g c in
-    completes _ (map string_bytes c.args.words.now) so.read so.written so.exchanges (g.S.Source.state c.args.source.now) (g.S.Source.state c.record_source.new.source) (g.K.Sink.state c.args.sink.now) (g.K.Sink.state c.record_source.new.sink) _ _ so.taken c.record_source.result so.outcome
-    c.record_source.ensures.read_fault.rose c.record_source.ensures.write_fault.rose
+pub returns-in-Some-View-clause-outcome : goal.returns-in-Some-View-clause-outcome
+returns-in-Some-View-clause-outcome g c =
+    let asked : command_of (map string_bytes c.args.words.now) ≡ Some command.View = sym (rw c.in-Some-View.field-0-is at c.in-Some-View.ensures) in
+    rw asked c.view_source.ensures.outcome
 
-pub returns-then-is_replay-clause-outcome : goal.returns-then-is_replay-clause-outcome
-returns-then-is_replay-clause-outcome g c =
-    came_replayed g.H.Host.state g.H.Host.made (λ script. program_with g.N.Natives.names g.N.Natives.does script c.args.natives.now) (map string_bytes c.args.words.now) c.replay_source.result c.args.host.now c.args.host.now
-    (g.S.Source.state c.args.source.now) (g.S.Source.state c.replay_source.new.source) (g.K.Sink.state c.args.sink.now) (g.K.Sink.state c.replay_source.new.sink) (sym c.is_replay.ensures ∙ c.if-is_replay.true) c.replay_source.ensures.outcome
+pub returns-in-Some-View-clause-complete : goal.returns-in-Some-View-clause-complete
+returns-in-Some-View-clause-complete g c =
+    let asked : command_of (map string_bytes c.args.words.now) ≡ Some command.View = sym (rw c.in-Some-View.field-0-is at c.in-Some-View.ensures) in
+    rw asked (completes c.view_source.ensures.outcome c.view_source.ensures.read_fault.rose c.view_source.ensures.write_fault.rose)
 
-pub returns-then-is_replay-clause-untouched : goal.returns-then-is_replay-clause-untouched
-returns-then-is_replay-clause-untouched g c = λ e. absurd (replay_is_known (λ script. program_with g.N.Natives.names g.N.Natives.does script c.args.natives.now) c.replay_source.result _ _ _ _ c.replay_source.ensures.outcome e)
+pub returns-in-Some-Replay-clause-outcome : goal.returns-in-Some-Replay-clause-outcome
+returns-in-Some-Replay-clause-outcome g c =
+    let asked : command_of (map string_bytes c.args.words.now) ≡ Some command.Replay = sym (rw c.in-Some-Replay.field-0-is at c.in-Some-Replay.ensures) in
+    rw asked (came_settled g.H.Host.state g.H.Host.made (λ script. program_with g.N.Natives.names g.N.Natives.does script c.args.natives.now) (Some command.Replay) c.replay_source.result c.args.host.now c.args.host.now (g.S.Source.state c.args.source.now) (g.S.Source.state c.replay_source.new.source) (g.K.Sink.state c.args.sink.now) (g.K.Sink.state c.replay_source.new.sink)
+    (Replayed (λ script. program_with g.N.Natives.names g.N.Natives.does script c.args.natives.now)) refl (λ read written so. (refl, refl, so)) c.replay_source.ensures.outcome)
 
-pub returns-then-is_replay-clause-complete : goal.returns-then-is_replay-clause-complete
-returns-then-is_replay-clause-complete g c =
-    let so = returns-then-is_replay-clause-outcome g c in
-    completes _ (map string_bytes c.args.words.now) so.read so.written so.exchanges (g.S.Source.state c.args.source.now) (g.S.Source.state c.replay_source.new.source) (g.K.Sink.state c.args.sink.now) (g.K.Sink.state c.replay_source.new.sink) _ _ so.taken c.replay_source.result so.outcome
-    c.replay_source.ensures.read_fault.rose c.replay_source.ensures.write_fault.rose
+pub returns-in-Some-Replay-clause-complete : goal.returns-in-Some-Replay-clause-complete
+returns-in-Some-Replay-clause-complete g c =
+    let asked : command_of (map string_bytes c.args.words.now) ≡ Some command.Replay = sym (rw c.in-Some-Replay.field-0-is at c.in-Some-Replay.ensures) in
+    let so : Came g.H.Host.state g.H.Host.made (λ script. program_with g.N.Natives.names g.N.Natives.does script c.args.natives.now) (Some command.Replay) c.replay_source.result c.args.host.now c.args.host.now (g.S.Source.state c.args.source.now) (g.S.Source.state c.replay_source.new.source) (g.K.Sink.state c.args.sink.now) (g.K.Sink.state c.replay_source.new.sink) =
+    came_settled g.H.Host.state g.H.Host.made (λ script. program_with g.N.Natives.names g.N.Natives.does script c.args.natives.now) (Some command.Replay) c.replay_source.result c.args.host.now c.args.host.now (g.S.Source.state c.args.source.now) (g.S.Source.state c.replay_source.new.source) (g.K.Sink.state c.args.sink.now) (g.K.Sink.state c.replay_source.new.sink)
+    (Replayed (λ script. program_with g.N.Natives.names g.N.Natives.does script c.args.natives.now)) refl (λ read written so. (refl, refl, so)) c.replay_source.ensures.outcome in
+    rw asked (completes so c.replay_source.ensures.read_fault.rose c.replay_source.ensures.write_fault.rose)
 
-pub returns-then-is_check-clause-outcome : goal.returns-then-is_check-clause-outcome
-returns-then-is_check-clause-outcome g c =
-    came_checked g.H.Host.state g.H.Host.made (λ script. program_with g.N.Natives.names g.N.Natives.does script c.args.natives.now) (map string_bytes c.args.words.now) c.check_source.result c.args.host.now c.args.host.now
-    (g.S.Source.state c.args.source.now) (g.S.Source.state c.check_source.new.source) (g.K.Sink.state c.args.sink.now) (g.K.Sink.state c.check_source.new.sink) (sym c.is_check.ensures ∙ c.if-is_check.true) c.check_source.ensures.outcome
+pub returns-in-Some-Check-clause-outcome : goal.returns-in-Some-Check-clause-outcome
+returns-in-Some-Check-clause-outcome g c =
+    let asked : command_of (map string_bytes c.args.words.now) ≡ Some command.Check = sym (rw c.in-Some-Check.field-0-is at c.in-Some-Check.ensures) in
+    rw asked (came_settled g.H.Host.state g.H.Host.made (λ script. program_with g.N.Natives.names g.N.Natives.does script c.args.natives.now) (Some command.Check) c.check_source.result c.args.host.now c.args.host.now (g.S.Source.state c.args.source.now) (g.S.Source.state c.check_source.new.source) (g.K.Sink.state c.args.sink.now) (g.K.Sink.state c.check_source.new.sink)
+    (Told (λ script. program_with g.N.Natives.names g.N.Natives.does script c.args.natives.now)) refl (λ read written so. (refl, refl, so)) c.check_source.ensures.outcome)
 
-pub returns-then-is_check-clause-untouched : goal.returns-then-is_check-clause-untouched
-returns-then-is_check-clause-untouched g c = λ e. absurd (check_is_known (λ script. program_with g.N.Natives.names g.N.Natives.does script c.args.natives.now) c.check_source.result _ _ _ _ c.check_source.ensures.outcome e)
+pub returns-in-Some-Check-clause-complete : goal.returns-in-Some-Check-clause-complete
+returns-in-Some-Check-clause-complete g c =
+    let asked : command_of (map string_bytes c.args.words.now) ≡ Some command.Check = sym (rw c.in-Some-Check.field-0-is at c.in-Some-Check.ensures) in
+    let so : Came g.H.Host.state g.H.Host.made (λ script. program_with g.N.Natives.names g.N.Natives.does script c.args.natives.now) (Some command.Check) c.check_source.result c.args.host.now c.args.host.now (g.S.Source.state c.args.source.now) (g.S.Source.state c.check_source.new.source) (g.K.Sink.state c.args.sink.now) (g.K.Sink.state c.check_source.new.sink) =
+    came_settled g.H.Host.state g.H.Host.made (λ script. program_with g.N.Natives.names g.N.Natives.does script c.args.natives.now) (Some command.Check) c.check_source.result c.args.host.now c.args.host.now (g.S.Source.state c.args.source.now) (g.S.Source.state c.check_source.new.source) (g.K.Sink.state c.args.sink.now) (g.K.Sink.state c.check_source.new.sink)
+    (Told (λ script. program_with g.N.Natives.names g.N.Natives.does script c.args.natives.now)) refl (λ read written so. (refl, refl, so)) c.check_source.ensures.outcome in
+    rw asked (completes so c.check_source.ensures.read_fault.rose c.check_source.ensures.write_fault.rose)
 
-pub returns-then-is_check-clause-complete : goal.returns-then-is_check-clause-complete
-returns-then-is_check-clause-complete g c =
-    let so = returns-then-is_check-clause-outcome g c in
-    completes _ (map string_bytes c.args.words.now) so.read so.written so.exchanges (g.S.Source.state c.args.source.now) (g.S.Source.state c.check_source.new.source) (g.K.Sink.state c.args.sink.now) (g.K.Sink.state c.check_source.new.sink) _ _ so.taken c.check_source.result so.outcome
-    c.check_source.ensures.read_fault.rose c.check_source.ensures.write_fault.rose
+pub returns-in-Some-Drill-clause-outcome : goal.returns-in-Some-Drill-clause-outcome
+returns-in-Some-Drill-clause-outcome g c =
+    let asked : command_of (map string_bytes c.args.words.now) ≡ Some (command.Drill c.in-Some-Drill.count) = sym (rw c.in-Some-Drill.field-0-is at c.in-Some-Drill.ensures) in
+    rw asked (came_aside g.H.Host.state g.H.Host.made (λ script. program_with g.N.Natives.names g.N.Natives.does script c.args.natives.now) (Some (command.Drill c.in-Some-Drill.count)) c.run_drill.result c.args.host.now c.run_drill.new.host (g.S.Source.state c.args.source.now) (g.S.Source.state c.args.source.now) (g.K.Sink.state c.args.sink.now) (g.K.Sink.state c.run_drill.new.sink)
+    (OnDrill (λ script. program_with g.N.Natives.names g.N.Natives.does script c.args.natives.now) c.in-Some-Drill.count c.run_drill.result) (λ written exchanges before now unread row. (unread, row)) c.run_drill.ensures.outcome)
 
-pub returns-then-is_view-clause-outcome : goal.returns-then-is_view-clause-outcome
-returns-then-is_view-clause-outcome g c = c.view_source.ensures.outcome (map string_bytes c.args.words.now) (sym c.is_view.ensures ∙ c.if-is_view.true)
+pub returns-in-Some-Drill-clause-read_fault : goal.returns-in-Some-Drill-clause-read_fault
+returns-in-Some-Drill-clause-read_fault g c = record { later = omega arith; rose = λ e. absurd (drill_reads_nothing g.H.Host.state g.H.Host.made (λ script. program_with g.N.Natives.names g.N.Natives.does script c.args.natives.now) c.in-Some-Drill.count c.run_drill.result c.args.host.now c.run_drill.new.host (g.K.Sink.state c.args.sink.now) (g.K.Sink.state c.run_drill.new.sink) (g.S.Source.state c.args.source.now) c.run_drill.ensures.outcome e) }
 
-pub returns-then-is_view-clause-untouched : goal.returns-then-is_view-clause-untouched
-returns-then-is_view-clause-untouched g c = λ e. absurd (c.view_source.ensures.known e)
+pub returns-in-Some-Drill-clause-complete : goal.returns-in-Some-Drill-clause-complete
+returns-in-Some-Drill-clause-complete g c =
+    let asked : command_of (map string_bytes c.args.words.now) ≡ Some (command.Drill c.in-Some-Drill.count) = sym (rw c.in-Some-Drill.field-0-is at c.in-Some-Drill.ensures) in
+    let so : Came g.H.Host.state g.H.Host.made (λ script. program_with g.N.Natives.names g.N.Natives.does script c.args.natives.now) (Some (command.Drill c.in-Some-Drill.count)) c.run_drill.result c.args.host.now c.run_drill.new.host (g.S.Source.state c.args.source.now) (g.S.Source.state c.args.source.now) (g.K.Sink.state c.args.sink.now) (g.K.Sink.state c.run_drill.new.sink) =
+    came_aside g.H.Host.state g.H.Host.made (λ script. program_with g.N.Natives.names g.N.Natives.does script c.args.natives.now) (Some (command.Drill c.in-Some-Drill.count)) c.run_drill.result c.args.host.now c.run_drill.new.host (g.S.Source.state c.args.source.now) (g.S.Source.state c.args.source.now) (g.K.Sink.state c.args.sink.now) (g.K.Sink.state c.run_drill.new.sink)
+    (OnDrill (λ script. program_with g.N.Natives.names g.N.Natives.does script c.args.natives.now) c.in-Some-Drill.count c.run_drill.result) (λ written exchanges before now unread row. (unread, row)) c.run_drill.ensures.outcome in
+    rw asked (completes so (returns-in-Some-Drill-clause-read_fault g c).rose c.run_drill.ensures.write_fault.rose)
 
-pub returns-then-is_view-clause-complete : goal.returns-then-is_view-clause-complete
-returns-then-is_view-clause-complete g c =
-    let so = returns-then-is_view-clause-outcome g c in
-    completes _ (map string_bytes c.args.words.now) so.read so.written so.exchanges (g.S.Source.state c.args.source.now) (g.S.Source.state c.view_source.new.source) (g.K.Sink.state c.args.sink.now) (g.K.Sink.state c.view_source.new.sink) _ _ so.taken c.view_source.result so.outcome
-    c.view_source.ensures.read_fault.rose c.view_source.ensures.write_fault.rose
+pub returns-in-Some-Session-clause-outcome : goal.returns-in-Some-Session-clause-outcome
+returns-in-Some-Session-clause-outcome g c =
+    let asked : command_of (map string_bytes c.args.words.now) ≡ Some (command.Session c.in-Some-Session.wanted) = sym (rw c.in-Some-Session.field-0-is at c.in-Some-Session.ensures) in
+    rw asked (came_aside g.H.Host.state g.H.Host.made (λ script. program_with g.N.Natives.names g.N.Natives.does script c.args.natives.now) (Some (command.Session c.in-Some-Session.wanted)) c.run_session.result c.args.host.now c.run_session.new.host (g.S.Source.state c.args.source.now) (g.S.Source.state c.args.source.now) (g.K.Sink.state c.args.sink.now) (g.K.Sink.state c.run_session.new.sink)
+    (OnSession c.in-Some-Session.wanted c.run_session.result) (λ written exchanges before now unread row. (unread, row)) c.run_session.ensures.outcome)
 
-pub returns-in-Some-clause-outcome : goal.returns-in-Some-clause-outcome
-returns-in-Some-clause-outcome g c =
-    came_gathered g.H.Host.state g.H.Host.made (λ script. program_with g.N.Natives.names g.N.Natives.does script c.args.natives.now) (map string_bytes c.args.words.now) c.run_session.result c.args.host.now c.run_session.new.host
-    (g.S.Source.state c.args.source.now) (g.S.Source.state c.args.source.now) (g.K.Sink.state c.args.sink.now) (g.K.Sink.state c.run_session.new.sink) c.in-Some.wanted (sym c.in-Some.ensures) c.run_session.ensures.outcome
+pub returns-in-Some-Session-clause-read_fault : goal.returns-in-Some-Session-clause-read_fault
+returns-in-Some-Session-clause-read_fault g c = record { later = omega arith; rose = λ e. absurd (session_reads_nothing g.H.Host.state g.H.Host.made c.in-Some-Session.wanted c.run_session.result c.args.host.now c.run_session.new.host (g.K.Sink.state c.args.sink.now) (g.K.Sink.state c.run_session.new.sink) (g.S.Source.state c.args.source.now) c.run_session.ensures.outcome e) }
 
-pub returns-in-Some-clause-read_fault : goal.returns-in-Some-clause-read_fault
-returns-in-Some-clause-read_fault g c = record {
-  later = omega arith;
-  rose = λ e. absurd (session_reads_nothing g.H.Host.state g.H.Host.made c.in-Some.wanted c.run_session.result c.args.host.now c.run_session.new.host
-      (g.K.Sink.state c.args.sink.now) (g.K.Sink.state c.run_session.new.sink) (g.S.Source.state c.args.source.now) c.run_session.ensures.outcome e);
-}
-
-pub returns-in-Some-clause-complete : goal.returns-in-Some-clause-complete
-returns-in-Some-clause-complete g c =
-    let so = returns-in-Some-clause-outcome g c in
-    completes _ (map string_bytes c.args.words.now) so.read so.written so.exchanges (g.S.Source.state c.args.source.now) (g.S.Source.state c.args.source.now) (g.K.Sink.state c.args.sink.now) (g.K.Sink.state c.run_session.new.sink) _ _ so.taken c.run_session.result so.outcome
-    (returns-in-Some-clause-read_fault g c).rose c.run_session.ensures.write_fault.rose
-
-pub returns-in-Some-drill_of-clause-outcome : goal.returns-in-Some-drill_of-clause-outcome
-returns-in-Some-drill_of-clause-outcome g c =
-    came_drilled g.H.Host.state g.H.Host.made (λ script. program_with g.N.Natives.names g.N.Natives.does script c.args.natives.now) (map string_bytes c.args.words.now) c.run_drill.result c.args.host.now c.run_drill.new.host
-    (g.S.Source.state c.args.source.now) (g.S.Source.state c.args.source.now) (g.K.Sink.state c.args.sink.now) (g.K.Sink.state c.run_drill.new.sink) c.in-Some-drill_of.count (sym c.in-Some-drill_of.ensures) c.run_drill.ensures.outcome
-
-pub returns-in-Some-drill_of-clause-read_fault : goal.returns-in-Some-drill_of-clause-read_fault
-returns-in-Some-drill_of-clause-read_fault g c = record {
-  later = omega arith;
-  rose = λ e. absurd (drill_reads_nothing g.H.Host.state g.H.Host.made (λ script. program_with g.N.Natives.names g.N.Natives.does script c.args.natives.now) c.in-Some-drill_of.count c.run_drill.result c.args.host.now c.run_drill.new.host
-      (g.K.Sink.state c.args.sink.now) (g.K.Sink.state c.run_drill.new.sink) (g.S.Source.state c.args.source.now) c.run_drill.ensures.outcome e);
-}
-
-pub returns-in-Some-drill_of-clause-complete : goal.returns-in-Some-drill_of-clause-complete
-returns-in-Some-drill_of-clause-complete g c =
-    let so = returns-in-Some-drill_of-clause-outcome g c in
-    completes _ (map string_bytes c.args.words.now) so.read so.written so.exchanges (g.S.Source.state c.args.source.now) (g.S.Source.state c.args.source.now) (g.K.Sink.state c.args.sink.now) (g.K.Sink.state c.run_drill.new.sink) _ _ so.taken c.run_drill.result so.outcome
-    (returns-in-Some-drill_of-clause-read_fault g c).rose c.run_drill.ensures.write_fault.rose
+pub returns-in-Some-Session-clause-complete : goal.returns-in-Some-Session-clause-complete
+returns-in-Some-Session-clause-complete g c =
+    let asked : command_of (map string_bytes c.args.words.now) ≡ Some (command.Session c.in-Some-Session.wanted) = sym (rw c.in-Some-Session.field-0-is at c.in-Some-Session.ensures) in
+    let so : Came g.H.Host.state g.H.Host.made (λ script. program_with g.N.Natives.names g.N.Natives.does script c.args.natives.now) (Some (command.Session c.in-Some-Session.wanted)) c.run_session.result c.args.host.now c.run_session.new.host (g.S.Source.state c.args.source.now) (g.S.Source.state c.args.source.now) (g.K.Sink.state c.args.sink.now) (g.K.Sink.state c.run_session.new.sink) =
+    came_aside g.H.Host.state g.H.Host.made (λ script. program_with g.N.Natives.names g.N.Natives.does script c.args.natives.now) (Some (command.Session c.in-Some-Session.wanted)) c.run_session.result c.args.host.now c.run_session.new.host (g.S.Source.state c.args.source.now) (g.S.Source.state c.args.source.now) (g.K.Sink.state c.args.sink.now) (g.K.Sink.state c.run_session.new.sink)
+    (OnSession c.in-Some-Session.wanted c.run_session.result) (λ written exchanges before now unread row. (unread, row)) c.run_session.ensures.outcome in
+    rw asked (completes so (returns-in-Some-Session-clause-read_fault g c).rose c.run_session.ensures.write_fault.rose)
 
 pub returns-in-None-clause-outcome : goal.returns-in-None-clause-outcome
 returns-in-None-clause-outcome g c =
-    came_unknown g.H.Host.state g.H.Host.made (λ script. program_with g.N.Natives.names g.N.Natives.does script c.args.natives.now) (map string_bytes c.args.words.now) _ c.args.host.now c.args.host.now
-    (g.S.Source.state c.args.source.now) (g.S.Source.state c.args.source.now) (g.K.Sink.state c.args.sink.now) (g.K.Sink.state c.args.sink.now)
-    (unknown (map string_bytes c.args.words.now) (sym c.is_run.ensures ∙ c.if-is_run.false) (sym c.is_record.ensures ∙ c.if-is_record.false) (sym c.is_replay.ensures ∙ c.if-is_replay.false) (sym c.is_check.ensures ∙ c.if-is_check.false) (sym c.is_view.ensures ∙ c.if-is_view.false) c.in_default.ensures c.in-None.ensures) (quiet _ _ _ _)
+    let asked : command_of (map string_bytes c.args.words.now) ≡ None = sym c.in-None.ensures in
+    rw asked (came_unknown g.H.Host.state g.H.Host.made (λ script. program_with g.N.Natives.names g.N.Natives.does script c.args.natives.now) c.args.host.now (g.S.Source.state c.args.source.now) (g.K.Sink.state c.args.sink.now))
 
 pub returns-in-None-clause-complete : goal.returns-in-None-clause-complete
 returns-in-None-clause-complete g c =
-    let so = returns-in-None-clause-outcome g c in
-    completes _ (map string_bytes c.args.words.now) so.read so.written so.exchanges (g.S.Source.state c.args.source.now) (g.S.Source.state c.args.source.now) (g.K.Sink.state c.args.sink.now) (g.K.Sink.state c.args.sink.now) _ _ so.taken _ so.outcome
-    (λ e. cc) (λ e. cc)
+    let asked : command_of (map string_bytes c.args.words.now) ≡ None = sym c.in-None.ensures in
+    rw asked tt

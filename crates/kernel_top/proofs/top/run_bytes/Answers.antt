@@ -1,31 +1,20 @@
-use Rattle.std.proofs.Common.{refl, ap, sym, ◌∙◌, [], inl, Err}
+use Rattle.std.proofs.Common.{refl, sym, ◌∙◌, [], inl, arith}
 use Rattle.std.proofs.KnownBytes.{Appends-nil}
 use Rattle.ek_call.specs.Meaning.{script_of}
 use Rattle.kernel_state.specs.Whole.{program_with}
-use Rattle.kernel_top.specs.Outcomes.{seen}
-use Rattle.kernel_top.proofs.Outcomes.{quiet, came, is_write_fault, is_no_read_fault, is_known}
+use Rattle.kernel_top.specs.Outcomes.{seen, Runs}
+use Rattle.kernel_top.proofs.Outcomes.{quiet, came, came_refused, refused_no_read, refused_no_write, is_write_fault, is_no_read_fault}
 use Rattle.kernel_top.proofs.top.run_bytes.Goals as goal
 
-pub returns-in-Err-Line-clause-outcome : goal.returns-in-Err-Line-clause-outcome
-returns-in-Err-Line-clause-outcome g c =
-    let none = c.in-Err-Line.ensures.none c.in-Err-Line.line (ap Err c.in-Err-Line.field-0-is) in
-    let at = c.in-Err-Line.ensures.line c.in-Err-Line.line (ap Err c.in-Err-Line.field-0-is) in
-    record {
-      written = [];
-      exchanges = [];
-      put = Appends-nil _;
-      calls = refl;
-      so = λ source source' ended. rw c.in-Err-Line.line-is (inl ended, record { none = none; at = at }, quiet source source' _ _);
-    }
+pub returns-in-Err-clause-outcome : goal.returns-in-Err-clause-outcome
+returns-in-Err-clause-outcome g c =
+    came_refused (Runs (λ script. program_with g.N.Natives.names g.N.Natives.does script c.args.natives.now)) g.H.Host.state g.H.Host.made c.in-Err.status c.args.bytes.now c.args.host.now (g.K.Sink.state c.args.sink.now) c.in-Err.ensures.none
 
-pub returns-in-Err-NoMemory-clause-outcome : goal.returns-in-Err-NoMemory-clause-outcome
-returns-in-Err-NoMemory-clause-outcome g c = record {
-  written = [];
-  exchanges = [];
-  put = Appends-nil _;
-  calls = refl;
-  so = λ source source' ended. inl (quiet source source' _ _);
-}
+pub returns-in-Err-clause-no_read : goal.returns-in-Err-clause-no_read
+returns-in-Err-clause-no_read g c = λ e. refused_no_read c.in-Err.status c.args.bytes.now c.in-Err.ensures.none e
+
+pub returns-in-Err-clause-write_fault : goal.returns-in-Err-clause-write_fault
+returns-in-Err-clause-write_fault g c = record { later = omega arith; rose = λ e. absurd (refused_no_write c.in-Err.status c.args.bytes.now c.in-Err.ensures.none e) }
 
 pub returns-in_default-clause-outcome : goal.returns-in_default-clause-outcome
 returns-in_default-clause-outcome g c = record {
@@ -55,6 +44,3 @@ returns-clause-no_read g c = λ e. is_no_read_fault c.run_script-ended.result (s
 pub returns-clause-write_fault : goal.returns-clause-write_fault
 returns-clause-write_fault g c =
     record { later = c.run_script-ended.ensures.cause.later; rose = λ e. c.run_script-ended.ensures.cause.rose (is_write_fault c.run_script-ended.result (sym c.status_of.ensures ∙ e)) }
-
-pub returns-clause-known : goal.returns-clause-known
-returns-clause-known g c = λ e. is_known c.run_script-ended.result (sym c.status_of.ensures ∙ e)

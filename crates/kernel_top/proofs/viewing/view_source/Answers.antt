@@ -1,33 +1,25 @@
-use Rattle.std.proofs.Common.{sym, subst, inl, inr, refl}
+use Rattle.std.proofs.Common.{Some, arith, sym, subst}
 use Rattle.kernel_state.specs.Whole.{program_with}
 use Rattle.plain_machine.specs.Grammar.{longest_script}
 use Rattle.kernel_top.specs.Reading.{IsAll}
-use Rattle.kernel_top.specs.Outcomes.{OnView, of_view}
-use Rattle.kernel_top.proofs.Outcomes.{quiet, came_from, came_given_up, too_long}
+use Rattle.kernel_top.specs.Outcomes.{OnView, RunsAndViews}
+use Rattle.kernel_top.specs.declared.commands.Command.TheVariants as command
+use Rattle.kernel_top.proofs.Outcomes.{on_unread, unread_no_write, came_from, came_left}
 use Rattle.kernel_top.proofs.viewing.view_source.Goals as goal
 
 pub returns-in-Ok-clause-outcome : goal.returns-in-Ok-clause-outcome
-returns-in-Ok-clause-outcome g c = λ words viewing.
-    let all : IsAll longest_script c.as_slice.result.now (g.S.Source.state c.args.source.now) (g.S.Source.state c.read_all.new.source) =
-    subst (λ l. IsAll longest_script l (g.S.Source.state c.args.source.now) (g.S.Source.state c.read_all.new.source)) (sym c.as_slice.ensures.value) c.in-Ok.ensures.all in
-    came_from g.H.Host.state g.H.Host.made (λ script. program_with g.N.Natives.names g.N.Natives.does script c.args.natives.now) words c.view_bytes.result c.args.host.now c.view_bytes.new.host
-    (g.S.Source.state c.args.source.now) (g.S.Source.state c.read_all.new.source) (g.K.Sink.state c.args.sink.now) (g.K.Sink.state c.view_bytes.new.sink)
-    (OnView (λ script. program_with g.N.Natives.names g.N.Natives.does script c.args.natives.now)) c.as_slice.result.now (λ written exchanges before now row. of_view viewing row) all c.view_bytes.ensures.outcome
+returns-in-Ok-clause-outcome g c =
+    let all : IsAll longest_script c.as_slice.result.now (g.S.Source.state c.args.source.now) (g.S.Source.state c.read_script.new.source) =
+    subst (λ l. IsAll longest_script l (g.S.Source.state c.args.source.now) (g.S.Source.state c.read_script.new.source)) (sym c.as_slice.ensures.value) c.in-Ok.ensures.all in
+    came_from g.H.Host.state g.H.Host.made (λ script. program_with g.N.Natives.names g.N.Natives.does script c.args.natives.now) (Some command.View) c.view_bytes.result c.args.host.now c.view_bytes.new.host
+    (g.S.Source.state c.args.source.now) (g.S.Source.state c.read_script.new.source) (g.K.Sink.state c.args.sink.now) (g.K.Sink.state c.view_bytes.new.sink)
+    (OnView (λ script. program_with g.N.Natives.names g.N.Natives.does script c.args.natives.now)) c.as_slice.result.now (λ written exchanges before now row. row) all c.view_bytes.ensures.outcome
 
-pub returns-in-Err-Failed-clause-outcome : goal.returns-in-Err-Failed-clause-outcome
-returns-in-Err-Failed-clause-outcome g c = λ words viewing.
-    came_given_up g.H.Host.state g.H.Host.made (λ script. program_with g.N.Natives.names g.N.Natives.does script c.args.natives.now) words _ c.args.host.now c.args.host.now
-    (g.S.Source.state c.args.source.now) (g.S.Source.state c.read_all.new.source) (g.K.Sink.state c.args.sink.now) (g.K.Sink.state c.args.sink.now) _ c.in-Err-Failed.ensures.some
-    (λ bytes long. of_view viewing (quiet _ _ _ _))
+pub returns-in-Err-clause-outcome : goal.returns-in-Err-clause-outcome
+returns-in-Err-clause-outcome g c =
+    came_left g.H.Host.state g.H.Host.made (λ script. program_with g.N.Natives.names g.N.Natives.does script c.args.natives.now) (Some command.View) c.in-Err.status c.args.host.now c.args.host.now
+    (g.S.Source.state c.args.source.now) (g.S.Source.state c.read_script.new.source) (g.K.Sink.state c.args.sink.now) (g.K.Sink.state c.args.sink.now)
+    (λ bytes unread. on_unread (RunsAndViews (λ script. program_with g.N.Natives.names g.N.Natives.does script c.args.natives.now)) c.in-Err.status bytes unread _ _ _ _) c.in-Err.ensures.none
 
-pub returns-in-Err-TooLong-clause-outcome : goal.returns-in-Err-TooLong-clause-outcome
-returns-in-Err-TooLong-clause-outcome g c = λ words viewing.
-    came_given_up g.H.Host.state g.H.Host.made (λ script. program_with g.N.Natives.names g.N.Natives.does script c.args.natives.now) words _ c.args.host.now c.args.host.now
-    (g.S.Source.state c.args.source.now) (g.S.Source.state c.read_all.new.source) (g.K.Sink.state c.args.sink.now) (g.K.Sink.state c.args.sink.now) _ c.in-Err-TooLong.ensures.some
-    (λ bytes long. of_view viewing (inr (long c.in-Err-TooLong.field-0-is), too_long bytes (long c.in-Err-TooLong.field-0-is), quiet _ _ _ _))
-
-pub returns-in-Err-NoMemory-clause-outcome : goal.returns-in-Err-NoMemory-clause-outcome
-returns-in-Err-NoMemory-clause-outcome g c = λ words viewing.
-    came_given_up g.H.Host.state g.H.Host.made (λ script. program_with g.N.Natives.names g.N.Natives.does script c.args.natives.now) words _ c.args.host.now c.args.host.now
-    (g.S.Source.state c.args.source.now) (g.S.Source.state c.read_all.new.source) (g.K.Sink.state c.args.sink.now) (g.K.Sink.state c.args.sink.now) _ c.in-Err-NoMemory.ensures.some
-    (λ bytes long. of_view viewing (inl (quiet _ _ _ _)))
+pub returns-in-Err-clause-write_fault : goal.returns-in-Err-clause-write_fault
+returns-in-Err-clause-write_fault g c = record { later = omega arith; rose = λ e. absurd (unread_no_write c.in-Err.status _ c.in-Err.ensures.none.unread e) }

@@ -1,4 +1,4 @@
-use Rattle.kernel_top.proofs.session.run_on.Goals as goal
+use Rattle.kernel_top.proofs.unseen.run_unseen_on.Goals as goal
 
 pub returns-in-Ok : goal.returns-in-Ok
 returns-in-Ok g c =

@@ -1,7 +1,7 @@
 use Rattle.ek_types.specs.Seen.{ch_of}
 use Rattle.sink_printer.proofs.Printing.{prints_then, prints_same}
 use Rattle.kernel_top.proofs.Gathering.{text_more}
-use Rattle.kernel_top.proofs.session.put_text.Goals as goal
+use Rattle.kernel_top.proofs.gathered.put_text.Goals as goal
 
 pub loop-i-preserved : goal.loop-i-preserved
 loop-i-preserved g c =

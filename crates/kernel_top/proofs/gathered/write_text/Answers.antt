@@ -1,6 +1,6 @@
 use Rattle.std.proofs.Common.{sym, arith, ◌∙◌}
 use Rattle.sink_printer.proofs.Printing.{written}
-use Rattle.kernel_top.proofs.session.write_text.Goals as goal
+use Rattle.kernel_top.proofs.gathered.write_text.Goals as goal
 
 pub returns : goal.returns
 returns g c =

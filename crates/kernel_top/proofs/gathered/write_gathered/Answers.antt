@@ -1,11 +1,11 @@
-use Rattle.std.proofs.Common.{sym, subst, ap, ◌∙◌}
+use Rattle.std.proofs.Common.{subst, ap, ◌∙◌}
 use Rattle.std.specs.List.{list_any}
 use Rattle.ek_types.specs.Io.{Writes}
 use Rattle.kernel_run.specs.Meaning.{state_of}
 use Rattle.session_laws.specs.Sessions.{is_stopped}
 use Rattle.kernel_top.specs.Gathering.{gathered}
 use Rattle.kernel_top.proofs.Gathering.{text_written, fault_cause}
-use Rattle.kernel_top.proofs.session.write_gathered.Goals as goal
+use Rattle.kernel_top.proofs.gathered.write_gathered.Goals as goal
 
 pub returns-clause-written : goal.returns-clause-written
 returns-clause-written g c = λ last stands.

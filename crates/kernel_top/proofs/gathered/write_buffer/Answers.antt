@@ -1,8 +1,8 @@
-use Rattle.std.proofs.Common.{sym, subst, ap, ◌∙◌}
+use Rattle.std.proofs.Common.{sym, subst}
 use Rattle.ek_types.specs.Io.{Writes}
 use Rattle.buffer_table.specs.Kept.{editor_of}
 use Rattle.kernel_top.proofs.Gathering.{found_none, found_killed, found_live, named_find, nothing_written}
-use Rattle.kernel_top.proofs.session.write_buffer.Goals as goal
+use Rattle.kernel_top.proofs.gathered.write_buffer.Goals as goal
 
 pub returns-in_default : goal.returns-in_default
 returns-in_default g c = nothing_written (g.K.Sink.state c.args.sink.now) (found_none (editor_of c.args.editor.now) (named_find (editor_of c.args.editor.now) _ _ c.requires c.in_default.ensures))
