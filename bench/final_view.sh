@@ -19,6 +19,7 @@ use buffer_table::Editor;
 use ek_types::{Ch, Chars, Mem, Piece, PropVal, Sink, Sym, Wrote};
 use final_view::view;
 use std::alloc::Global;
+use std::rc::Rc;
 use std::{env, io};
 
 const INVISIBLE: Sym = Sym(11);
@@ -103,8 +104,8 @@ fn lay(editor: &mut Editor, alloc: Global, from: usize, to: usize, hides: bool) 
     let size = editor.size(0);
     if editor.overlay_count() < 65_536 && editor.is_live(0) && from <= to && to <= size {
         let k = editor.make_overlay(0, from, to, false, false)?;
-        put(editor, k, BEFORE_STRING, &PropVal::Text(letters(alloc, '[', 1)?))?;
-        put(editor, k, AFTER_STRING, &PropVal::Text(letters(alloc, ']', 1)?))?;
+        put(editor, k, BEFORE_STRING, &PropVal::Text(Rc::new(alloc, letters(alloc, '[', 1)?)?))?;
+        put(editor, k, AFTER_STRING, &PropVal::Text(Rc::new(alloc, letters(alloc, ']', 1)?)?))?;
         if hides {
             put(editor, k, INVISIBLE, &PropVal::Truth)?;
         }

@@ -25,6 +25,7 @@ use narrow_region::Saved;
 use prop_intervals::PropEdit;
 use std::alloc::Global;
 use std::io::{self, Read, Write};
+use std::rc::Rc;
 use std::slice;
 use std::test::Fail;
 use undo_list::Rec;
@@ -88,7 +89,7 @@ impl Sum {
             PropVal::Int(i) => self.add_signed(*i),
             PropVal::Sym(name) => self.add(u64::from(name.0)),
             PropVal::Syms(names) => self.add_place(names.len()),
-            PropVal::Text(text) => self.add_chars(text),
+            PropVal::Text(text) => self.add_chars(text.as_ref()),
         }
     }
 
@@ -214,7 +215,7 @@ fn chars(alloc: Global, n: usize) -> Mem<Chars> {
 fn given(alloc: Global) -> Mem<Given> {
     let mut styled = Piece::plain(alloc, chars(alloc, 300)?);
     let one = PropSet::empty(alloc).with(FACE, &PropVal::Int(1))?;
-    let two = one.with(Sym(3), &PropVal::Text(chars(alloc, 3)?))?;
+    let two = one.with(Sym(3), &PropVal::Text(Rc::new(alloc, chars(alloc, 3)?)?))?;
     styled.put(10, 200, &one)?;
     styled.put(50, 60, &two)?;
     let mut names = SymList::new(alloc);

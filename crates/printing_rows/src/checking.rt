@@ -10,6 +10,7 @@ use journal_text::{JournalFault, LONGEST_SESSION, read_journal, write_journal};
 use std::alloc::Global;
 use std::fmt::Debug;
 use std::process::Abort;
+use std::rc::Rc;
 use std::slice;
 
 pub const EVAPORATE: Sym = Sym(2);
@@ -39,6 +40,11 @@ pub fn chars(rt: &impl Abort, alloc: Global, text: &str) -> Chars {
         chars.push(Ch::Scalar(c)).expect(rt, "a character");
     }
     chars
+}
+
+/// A string as the value of a property.
+pub fn string(rt: &impl Abort, alloc: Global, text: Chars) -> PropVal {
+    PropVal::Text(Rc::new(alloc, text).expect(rt, "a string"))
 }
 
 /// A text without properties.

@@ -2,7 +2,7 @@
 
 use crate::checking::{
     EVAPORATE, PRIORITY, chars, fill, kill_buffer, make_buffer, mark, narrow, new_sink, paint,
-    plain, put, with, wrote,
+    plain, put, string, with, wrote,
 };
 use buffer_table::Editor;
 use ek_types::{Ch, Piece, PropSet, PropVal, Sym, SymList, Symbols};
@@ -32,7 +32,7 @@ fn of_names(rt: &impl Abort, alloc: Global) -> PropSet {
 fn of_string(rt: &impl Abort, alloc: Global) -> PropSet {
     let mut text = chars(rt, alloc, "x\"");
     text.push(Ch::Raw(0x80)).expect(rt, "a character");
-    with(rt, &PropSet::empty(alloc), RUN, &PropVal::Text(text))
+    with(rt, &PropSet::empty(alloc), RUN, &string(rt, alloc, text))
 }
 
 /// A set of a name and a number.

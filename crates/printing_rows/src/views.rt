@@ -1,7 +1,7 @@
 //! Views: buffers with overlays, worked out by hand, and a sink that fails.
 
 use crate::checking::{
-    PRIORITY, chars, fill, is, narrow, new_sink, paint, plain, put, with, wrote,
+    PRIORITY, chars, fill, is, narrow, new_sink, paint, plain, put, string, with, wrote,
 };
 use buffer_table::Editor;
 use ek_types::{Ch, MemorySink, Piece, PropSet, PropVal, Sym};
@@ -39,7 +39,8 @@ struct Row {
 
 fn put_string(rt: &impl Abort, alloc: Global, editor: &mut Editor, k: u32, name: Sym, text: &str) {
     if !text.is_empty() {
-        put(rt, editor, k, name, &PropVal::Text(chars(rt, alloc, text)));
+        let value = string(rt, alloc, chars(rt, alloc, text));
+        put(rt, editor, k, name, &value);
     }
 }
 

@@ -47,7 +47,7 @@ fn put_property(text: &mut String, value: &PropVal) -> Mem<()> {
         PropVal::Int(i) => put_number(text, i128::from(*i))?,
         PropVal::Sym(name) => put_symbol(text, *name)?,
         PropVal::Syms(names) => put_symbols(text, names)?,
-        PropVal::Text(chars) => put_quoted(text, chars)?,
+        PropVal::Text(chars) => put_quoted(text, chars.as_ref())?,
     }
     Ok(())
 }

@@ -3,6 +3,7 @@
 use ek_call::{Value, Values};
 use ek_types::{Ch, Chars, Mem, Piece, PropSet, PropVal, Sym, SymList};
 use std::alloc::Global;
+use std::rc::Rc;
 
 pub const EVAPORATE: Word = Word::Sym(2);
 
@@ -99,7 +100,7 @@ fn property(alloc: Global, word: &Word) -> Mem<PropVal> {
     Ok(match word {
         Word::Int(i) => PropVal::Int(*i),
         Word::Sym(number) => PropVal::Sym(Sym(*number)),
-        Word::Str(text) => PropVal::Text(chars(alloc, text)?),
+        Word::Str(text) => PropVal::Text(Rc::new(alloc, chars(alloc, text)?)?),
         Word::List(words) => PropVal::Syms(symbols(alloc, words)?),
         _ => PropVal::Truth,
     })
