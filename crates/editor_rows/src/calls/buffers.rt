@@ -1,10 +1,10 @@
 //! Buffers.
 
-use super::playing::Row;
+use super::playing::{Row, check_rows};
 use super::words::Word::*;
 use ek_call::Prim::*;
 
-pub const ROWS: [Row; 5] = [
+const ROWS: [Row; 5] = [
     Row {
         shows: "buffers are found, made, and made current",
         calls: &[
@@ -122,3 +122,8 @@ pub const ROWS: [Row; 5] = [
         ],
     },
 ];
+
+#[test]
+fn the_rows_of_buffers_give_their_replies(rt: HostRuntime) {
+    check_rows(&rt, rt.alloc(), &ROWS);
+}

@@ -1,10 +1,10 @@
 //! Markers.
 
-use super::playing::Row;
+use super::playing::{Row, check_rows};
 use super::words::Word::*;
 use ek_call::Prim::*;
 
-pub const ROWS: [Row; 7] = [
+const ROWS: [Row; 7] = [
     Row {
         shows: "markers at a tie",
         calls: &[
@@ -164,3 +164,8 @@ pub const ROWS: [Row; 7] = [
         ],
     },
 ];
+
+#[test]
+fn the_rows_of_markers_give_their_replies(rt: HostRuntime) {
+    check_rows(&rt, rt.alloc(), &ROWS);
+}

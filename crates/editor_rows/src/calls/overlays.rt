@@ -1,11 +1,11 @@
 //! Overlays.
 
-use super::playing::Row;
+use super::playing::{Row, check_rows};
 use super::words::Word::*;
 use super::words::{BOLD, EVAPORATE, FACE, ITALIC, PRIORITY};
 use ek_call::Prim::*;
 
-pub const ROWS: [Row; 12] = [
+const ROWS: [Row; 12] = [
     Row {
         shows: "overlays at an insertion before markers",
         calls: &[
@@ -389,3 +389,8 @@ pub const ROWS: [Row; 12] = [
         ],
     },
 ];
+
+#[test]
+fn the_rows_of_overlays_give_their_replies(rt: HostRuntime) {
+    check_rows(&rt, rt.alloc(), &ROWS);
+}

@@ -6,6 +6,7 @@ use buffer_table::Editor;
 use editor_prims::{Committed, Prepared, apply, commit, prepare, query};
 use ek_call::{Fault, Prim, Reply, Value, Values};
 use ek_types::Mem;
+use std::alloc::Global;
 use std::process::Abort;
 
 /// A call, its arguments and its reply.
@@ -103,5 +104,18 @@ pub fn is_said(rt: &impl Abort, shows: &str, prim: Prim, found: &str, expected: 
 pub fn check_calls(rt: &impl Abort, editor: &mut Editor, shows: &str, calls: &[Call]) {
     for call in calls {
         check_call(rt, editor, shows, call);
+    }
+}
+
+fn check_row(rt: &impl Abort, alloc: Global, row: &Row) {
+    let mut editor = Editor::new(alloc).expect(rt, "an editor");
+    check_calls(rt, &mut editor, row.shows, row.calls);
+    editor.close();
+}
+
+/// Makes the calls of each row on an editor of its own.
+pub fn check_rows(rt: &impl Abort, alloc: Global, rows: &[Row]) {
+    for row in rows {
+        check_row(rt, alloc, row);
     }
 }

@@ -1,11 +1,11 @@
 //! Text properties, and what insertions inherit.
 
-use super::playing::Row;
+use super::playing::{Row, check_rows};
 use super::words::Word::*;
 use super::words::{BOLD, FACE, FRONT_STICKY, ITALIC, PRIORITY, REAR_NONSTICKY};
 use ek_call::Prim::*;
 
-pub const ROWS: [Row; 12] = [
+const ROWS: [Row; 12] = [
     Row {
         shows: "where properties change",
         calls: &[
@@ -336,3 +336,8 @@ pub const ROWS: [Row; 12] = [
         ],
     },
 ];
+
+#[test]
+fn the_rows_of_properties_give_their_replies(rt: HostRuntime) {
+    check_rows(&rt, rt.alloc(), &ROWS);
+}

@@ -1,11 +1,11 @@
 //! Buffers and texts that are read-only.
 
-use super::playing::Row;
+use super::playing::{Row, check_rows};
 use super::words::Word::*;
 use super::words::{FACE, FRONT_STICKY, READ_ONLY, REAR_NONSTICKY};
 use ek_call::Prim::*;
 
-pub const ROWS: [Row; 5] = [
+const ROWS: [Row; 5] = [
     Row {
         shows: "a read-only buffer refuses what would change it",
         calls: &[
@@ -134,3 +134,8 @@ pub const ROWS: [Row; 5] = [
         ],
     },
 ];
+
+#[test]
+fn the_rows_of_read_only_texts_give_their_replies(rt: HostRuntime) {
+    check_rows(&rt, rt.alloc(), &ROWS);
+}

@@ -1,11 +1,11 @@
 //! Texts and narrowing.
 
-use super::playing::Row;
+use super::playing::{Row, check_rows};
 use super::words::Word::*;
 use super::words::{BOLD, FACE, ITALIC};
 use ek_call::Prim::*;
 
-pub const ROWS: [Row; 10] = [
+const ROWS: [Row; 10] = [
     Row {
         shows: "a deletion, as on the first path",
         calls: &[
@@ -237,3 +237,8 @@ pub const ROWS: [Row; 10] = [
         ],
     },
 ];
+
+#[test]
+fn the_rows_of_texts_give_their_replies(rt: HostRuntime) {
+    check_rows(&rt, rt.alloc(), &ROWS);
+}

@@ -1,11 +1,11 @@
 //! Undo.
 
-use super::playing::Row;
+use super::playing::{Row, check_rows};
 use super::words::Word::*;
 use super::words::{BOLD, FACE, ITALIC, PRIORITY};
 use ek_call::Prim::*;
 
-pub const LISTS: [Row; 8] = [
+const LISTS: [Row; 8] = [
     Row {
         shows: "the undo list as it is printed",
         calls: &[
@@ -153,7 +153,7 @@ pub const LISTS: [Row; 8] = [
     },
 ];
 
-pub const GROUPS: [Row; 7] = [
+const GROUPS: [Row; 7] = [
     Row {
         shows: "undo in groups, and undo of that undo",
         calls: &[
@@ -295,3 +295,9 @@ pub const GROUPS: [Row; 7] = [
         ],
     },
 ];
+
+#[test]
+fn the_rows_of_undoing_give_their_replies(rt: HostRuntime) {
+    check_rows(&rt, rt.alloc(), &LISTS);
+    check_rows(&rt, rt.alloc(), &GROUPS);
+}
