@@ -28,7 +28,7 @@ fn letters(alloc: Global, count: usize, runs: bool) -> Mem<Piece> {
     for _ in 0..count {
         chars.push(Ch::Scalar('x'))?;
     }
-    let mut piece = Piece::plain(alloc, chars);
+    let mut piece = Piece::plain(alloc, chars)?;
     if runs {
         let face = PropSet::empty(alloc).with(Sym(14), &PropVal::Truth)?;
         for i in 0..count {

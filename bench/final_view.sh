@@ -82,7 +82,7 @@ fn letters(alloc: Global, c: char, count: usize) -> Mem<Chars> {
 }
 
 fn fill(editor: &mut Editor, alloc: Global, count: usize) -> Mem<()> {
-    let piece = Piece::plain(alloc, letters(alloc, 'x', 1024)?);
+    let piece = Piece::plain(alloc, letters(alloc, 'x', 1024)?)?;
     for _ in 0..count / 64 {
         let end = editor.size(0);
         if editor.is_live(0) {

@@ -33,7 +33,7 @@ fn bare_text(alloc: Global, size: usize) -> Mem<Piece>
     for _ in 0..size {
         text.push(Ch::Scalar('x'))?;
     }
-    Ok(Piece::plain(alloc, text))
+    Piece::plain(alloc, text)
 }
 
 /// A text of as many characters, each with a face of its own, counted from 1.

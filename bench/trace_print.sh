@@ -48,7 +48,7 @@ fn chunk(alloc: Global, face: Sym) -> Mem<Piece> {
     for i in 0..1024u32 {
         text.push(Ch::Scalar(if i % 64 == 63 { '\n' } else { 'x' }))?;
     }
-    let mut piece = Piece::plain(alloc, text);
+    let mut piece = Piece::plain(alloc, text)?;
     for run in 0..32u32 {
         let set = PropSet::empty(alloc).with(face, &PropVal::Int(i64::from(run)))?;
         let from = run as usize * 32;

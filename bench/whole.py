@@ -1,8 +1,8 @@
 #!/usr/bin/env python3
 """Longer work of the whole program, beside the same work in Emacs where that is installed: 200,000 insertions that a hook
 function makes, 65,536 records undone in one call, output of a child of 64 MiB through a filter that inserts and marks, and the
-pieces of a drill from a real child. Of each, the processor's seconds of the program alone (not of its children), its peak of
-memory, and how many times as long Emacs takes; of a few runs, the least.
+pieces of a drill from a real child. Of each, the processor's seconds of the program alone (not of its children), those of half the
+work, its peak of memory, and how many times as long Emacs takes; of a few runs, the least.
 
 Emacs evaluates the same forms, its handlers byte-compiled, and prints a line for each answer at each depth, as the kernel does.
 
@@ -67,13 +67,16 @@ def wandering(count):
     return places
 
 
-def undone():
-    """Each insertion at another place is a record; behind 65,535 of them all are undone."""
+def anywhere(count):
+    return [random.randint(1, 8192) for _ in range(count)]
+
+
+def undone(times):
+    """Each insertion at another place is a record; behind 65,535 of them, which 522 times make, all are undone."""
     places = at_places([1 + 2 * n for n in range(125)])
-    return by_hook(places, 522) + "(remove-hook 'after-change-functions 'h)\n(undo-start)\n(undo-more 1)\n"
+    return by_hook(places, times) + "(remove-hook 'after-change-functions 'h)\n(undo-start)\n(undo-more 1)\n"
 
 
-LOUD = "yes aaaaaaa | head -c 67108864"
 # What it inserts and marks stays small, as a log view keeps its last lines.
 HEARD = """(defhandler f (process text)
 (goto-char 1)
@@ -86,9 +89,10 @@ HEARD = """(defhandler f (process text)
 """
 
 
-def loud():
-    start = f'(setq p (start-process "c" "*scratch*" "sh" "-c" "{LOUD}"))\n'
-    return HEARD + start + "(set-process-filter p 'f)\n" + "(accept-process-output p)\n" * 17000
+def loud(waits):
+    """Output of as many reads of 4,096 bytes, but for some waits more than they need."""
+    start = f'(setq p (start-process "c" "*scratch*" "sh" "-c" "yes aaaaaaa | head -c {waits * 16384 // 17000 * 4096}"))\n'
+    return HEARD + start + "(set-process-filter p 'f)\n" + "(accept-process-output p)\n" * waits
 
 
 # A child that writes a drill's output in its pieces, each when it is asked.
@@ -112,9 +116,9 @@ DRILL = """(defhandler f (process text)
 """
 
 
-def drill(pieces):
+def drill(pieces, count):
     start = f'(setq p (start-process "drill" "out" "python3" "{pieces}"))\n'
-    waits = '(process-send-string p "x")\n(accept-process-output p)\n' * 18724
+    waits = '(process-send-string p "x")\n(accept-process-output p)\n' * count
     return DRILL + start + "(set-process-filter p 'f)\n" + waits
 
 
@@ -128,17 +132,20 @@ def seconds(words, script, environment):
 def own_time(started):
     """Waits for its end, and reads what it took by itself while it can still be asked."""
     os.waitid(os.P_PID, started.pid, os.WEXITED | os.WNOWAIT)
-    with open(f"/proc/{started.pid}/stat") as stat:
-        fields = stat.read().rsplit(")", 1)[1].split()
+    with open(f"/proc/{started.pid}/schedstat") as stat:
+        worked = int(stat.read().split()[0])
     _, status, usage = os.wait4(started.pid, 0)
     if status:
         sys.exit(f"it ended with {status}")
-    ticks = os.sysconf("SC_CLK_TCK")
-    return (int(fields[11]) + int(fields[12])) / ticks, usage.ru_maxrss // 1024
+    return worked / 1e9, usage.ru_maxrss // 1024
 
 
-def least(words, script, environment={}):
-    return min(seconds(words, script, environment) for _ in range(RUNS))
+def least(words, text, environment={}):
+    """The least of some runs on a script of this text."""
+    with tempfile.NamedTemporaryFile("w", suffix=".el") as script:
+        script.write(text)
+        script.flush()
+        return min(seconds(words, script.name, {**environment, "SCRIPT": script.name}) for _ in range(RUNS))
 
 
 def main():
@@ -151,25 +158,24 @@ def main():
             it.write(EMACS)
         markers = "".join(f"(copy-marker {1 + 8 * n})\n" for n in range(1000))
         runs = "".join(f"(put-text-property {1 + 2 * n} {2 + 2 * n} 'face 'bold)\n" for n in range(4096))
-        scripts = {
-            "insertions at the end": by_hook(['(insert "a")'] * 250, 800),
-            "wandering": by_hook(at_places(wandering(125)), 1600),
-            "at random places": by_hook(at_places([random.randint(1, 8192) for _ in range(125)]), 1600),
-            "with 1,000 markers": by_hook(at_places(wandering(125)), 1600, markers),
-            "with 4,096 runs": by_hook(at_places(wandering(125)), 1600, runs),
-            "65,536 records undone": undone(),
-            "64 MiB of a child": loud(),
-            "a drill of a child": drill(f"{work}/pieces.py"),
+        works = {
+            "insertions at the end": lambda part: by_hook(['(insert "a")'] * 250, 800 // part),
+            "wandering": lambda part: by_hook(at_places(wandering(125)), 1600 // part),
+            "at random places": lambda part: by_hook(at_places(anywhere(125)), 1600 // part),
+            "with 1,000 markers": lambda part: by_hook(at_places(wandering(125)), 1600 // part, markers),
+            "with 4,096 runs": lambda part: by_hook(at_places(wandering(125)), 1600 // part, runs),
+            "65,536 records undone": lambda part: undone(522 // part),
+            "64 MiB of a child": lambda part: loud(17000 // part),
+            "a drill of a child": lambda part: drill(f"{work}/pieces.py", 18724 // part),
         }
-        for name, text in scripts.items():
-            script = f"{work}/script"
-            with open(script, "w") as it:
-                it.write(text)
-            ours, memory = least([PROGRAM, "run"], script)
-            told = f"{name:24} kernel {ours:6.2f} s, {memory:4} MiB"
+        for name, script in works.items():
+            half, _ = least([PROGRAM, "run"], script(2))
+            whole = script(1)
+            ours, memory = least([PROGRAM, "run"], whole)
+            told = f"{name:24} half {half:7.3f} s; kernel {ours:7.3f} s, {memory:4} MiB"
             if shutil.which("emacs"):
-                theirs, memory = least(["emacs", "-Q", "--batch", "-l", f"{work}/script.el"], script, {"SCRIPT": script})
-                told += f"; emacs {theirs:6.2f} s, {memory:4} MiB; {theirs / max(ours, 0.01):.1f} times as long"
+                theirs, memory = least(["emacs", "-Q", "--batch", "-l", f"{work}/script.el"], whole)
+                told += f"; emacs {theirs:6.2f} s, {memory:4} MiB; {theirs / max(ours, 0.001):.1f} times as long"
             print(told, flush=True)
     finally:
         shutil.rmtree(work)

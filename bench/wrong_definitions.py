@@ -118,7 +118,7 @@ CHANGES = [
     (
         "buffer made although no child was started",
         "plain_machine/specs/Calls.antt",
-        "spawned s target rest name b Answer.Refused = Some (silent (record s { asked = s.asked + 1 })",
+        "spawned s target rest name b Answer.Refused =\n    Some (silent (record s { asked = s.asked + 1 })",
         "spawned s target rest name b Answer.Refused = Some (silent (record s { editor = with_process_buffer b s.editor; asked = s.asked + 1 })",
         ["refusals_leave_the_state"],
     ),

@@ -126,7 +126,7 @@ COMMIT_RULES = [
     (
         "insertion inherits from its neighbours the wrong way round",
         TEXT_CALLS,
-        "(if p == 0 then None else char_at b (p - 1))) (option_map (λ c. c.1) (char_at b p))",
+        "(if p == 0 then None else char_at b (p - 1)))\n    (option_map (λ c. c.1) (char_at b p))",
         "(char_at b p)) (option_map (λ c. c.1) (if p == 0 then None else char_at b (p - 1)))",
         ["PropertyRows.inherited_from_the_front_holds"],
     ),
@@ -136,14 +136,14 @@ HOOK_RULES = [
     (
         "fault of a hook function leaves those behind it",
         HANDLING,
-        "(set_hook_list b before_change_functions [] s); work = without_hooks_item rest }",
-        "(set_hook_list b before_change_functions [] s); work = rest }",
+        "(set_hook_list b before_change_functions [] s);\n      work = without_hooks_item rest;",
+        "(set_hook_list b before_change_functions [] s);\n      work = rest;",
         ["HookRows.functions_in_a_list_holds"],
     ),
     (
         "hook function stands on its list twice",
         HOOKS,
-        "if list_any (λ n. n == symbol_of fn) (hook_here s hook) then hook_here s hook else symbol_of fn ∷ hook_here s hook",
+        "if list_any (λ n. n == symbol_of fn) (hook_here s hook) then hook_here s hook\n    else symbol_of fn ∷ hook_here s hook",
         "symbol_of fn ∷ hook_here s hook",
         ["HookRows.functions_in_a_list_holds"],
     ),
@@ -220,7 +220,7 @@ HOOK_RULES = [
     (
         "fault before a change leaves the list of before-change functions",
         HANDLING,
-        "ended_handler (OfBefore b) true s rest =\n    record { state = if_live s b (set_hook_list b before_change_functions [] s); work",
+        "ended_handler (OfBefore b) true s rest =\n    record {\n      state = if_live s b (set_hook_list b before_change_functions [] s);\n      work",
         "ended_handler (OfBefore b) true s rest =\n    record { state = s; work",
         ["HookRows.hook_ended_by_a_fault_holds"],
     ),
@@ -265,7 +265,7 @@ HANDLER_RULES = [
     (
         "native hides a script's handler of its name",
         HANDLING,
-        "body_of program s kind (Some name) args rest = named_body program s (handler_def program.handlers name)",
+        "body_of program s kind (Some name) args rest =\n    named_body program s (handler_def program.handlers name)",
         "body_of program s kind (Some name) args rest = named_body program s (elim (native_from 0 program.natives name) [ None ↦ handler_def program.handlers name | Some i ↦ None ])",
         ["NativeRows.handler_hides_a_native_holds"],
     ),
@@ -335,7 +335,7 @@ HANDLER_RULES = [
     (
         "native called without end",
         HANDLING,
-        "native program s i args past rest = native_next (nat_lt (length past) 256)",
+        "native program s i args past rest =\n    native_next (nat_lt (length past) 256)",
         "native program s i args past rest = native_next (nat_lt (length past) 257)",
         ["NativeRows.native_that_never_ends_holds"],
     ),
@@ -436,7 +436,7 @@ WAIT_RULES = [
     (
         "end that fails leaves the process running",
         WAITS,
-        "end_answer s w target rest p x Answer.Failed = Some (ends (asked_more s) p x Lost",
+        "end_answer s w target rest p x Answer.Failed =\n    Some (ends (asked_more s) p x Lost",
         "end_answer s w target rest p x Answer.Failed = Some (ends (asked_more s) p x Runs",
         ["ProcessRows.read_and_end_fail_holds"],
     ),
@@ -554,8 +554,8 @@ EDITOR_RULES = [
     (
         "overlays of a killed buffer stay",
         MARKS,
-        "markers = map (marker_left buffer) marks.markers; overlays = map (overlay_left buffer) marks.overlays }",
-        "markers = map (marker_left buffer) marks.markers }",
+        "overlays = map (overlay_left buffer) marks.overlays;",
+        "overlays = marks.overlays;",
         ["HookRows.hook_kills_the_buffer_holds"],
     ),
 ]

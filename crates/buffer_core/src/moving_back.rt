@@ -43,8 +43,8 @@ fn add_standing(
     Ok(())
 }
 
-/// The moves of the records from `i` to before `end`, up to the first that moves no marker, of those markers that stand at
-/// a place of a buffer.
+/// The moves of the records from `i` to before `end`, up to the first that moves no marker, of those markers that
+/// stand at a place of a buffer.
 pub fn standing_moves(
     alloc: Global,
     undo: &Undo,

@@ -41,10 +41,10 @@ pub fn piece_of(alloc: Global, text: Chars, props: &Props, from: usize, to: usiz
     requires range { to ≤ length props.now }
     ensures { IfOk result (λ piece. piece ≡ zip text.items (drop from (take to props.now))) }
 {
+    let mut piece = Piece::plain(alloc, text)?;
     if is_plain(props, from, to) {
-        return Ok(Piece::plain(alloc, text));
+        return Ok(piece);
     }
-    let mut piece = Piece::plain(alloc, text);
     let mut place = from;
     while place < to {
         let end = props.run_end(place).min(to);

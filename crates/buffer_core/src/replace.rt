@@ -47,8 +47,8 @@ fn put_characters(text: &mut Text, pool: &mut Pool, at: usize, pieces: &[Piece])
 }
 
 impl Buffer {
-    /// Puts pieces in before character `at`, or behind all, one behind the other. `all` markers and overlays there advance; point there does
-    /// where it `advances`. A refusal leaves all as it was, but for spare room.
+    /// Puts pieces in before character `at`, or behind all, one behind the other. `all` markers and overlays there
+    /// advance; point there does where it `advances`. A refusal leaves all as it was, but for spare room.
     pub(crate) fn insert(
         &mut self,
         id: u32,
@@ -153,9 +153,9 @@ impl Buffer {
         Ok(())
     }
 
-    /// Takes the part from `from` to before `to` out, or puts pieces in there: only one of the two can be something. `all`
-    /// markers and overlays at the place of an insertion advance, and point there does. The pending records are dropped where
-    /// something changes. A refusal leaves all as it was, but for spare room.
+    /// Takes the part from `from` to before `to` out, or puts pieces in there: only one of the two can be something.
+    /// `all` markers and overlays at the place of an insertion advance, and point there does. The pending records are
+    /// dropped where something changes. A refusal leaves all as it was, but for spare room.
     ///
     /// Undoing all that is newer than a boundary that still stands gives the same text as before.
     pub fn replace(

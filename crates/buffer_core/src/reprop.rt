@@ -194,8 +194,8 @@ impl Buffer {
         has_record(self.alloc, edit, &self.props, from, to)
     }
 
-    /// Changes the properties of the characters from `from` to before `to`, and says whether something is to be recorded of
-    /// it: else nothing changes. A refusal leaves the buffer as it was.
+    /// Changes the properties of the characters from `from` to before `to`, and says whether something is to be
+    /// recorded of it: else nothing changes. A refusal leaves the buffer as it was.
     pub(crate) fn change_properties(&mut self, from: usize, to: usize, edit: &PropEdit) -> Mem<bool>
         requires order { from ≤ to }
         requires range { to ≤ length self.old.sets }

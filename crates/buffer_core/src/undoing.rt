@@ -192,8 +192,8 @@ impl Buffer {
         }
     }
 
-    /// Undoes records one after the other: those from place `first` to before `end` of a list, the places of which lie in the
-    /// accessible portion as it then stands.
+    /// Undoes records one after the other: those from place `first` to before `end` of a list, the places of which
+    /// lie in the accessible portion as it then stands.
     fn undo_each(
         &mut self,
         id: u32,
@@ -223,9 +223,9 @@ impl Buffer {
         Ok(())
     }
 
-    /// Undoes the records of a plan that the undo records of this buffer give for its accessible portion: passes them, then
-    /// undoes the newest first. It works on copies: a refusal leaves all as it was, but for spare room in the pool. It takes
-    /// time in proportion to the records, the text and the marks.
+    /// Undoes the records of a plan that the undo records of this buffer give for its accessible portion: passes
+    /// them, then undoes the newest first. It works on copies: a refusal leaves all as it was, but for spare room in
+    /// the pool. It takes time in proportion to the records, the text and the marks.
     ///
     /// Undoing all that is newer than a boundary that still stands gives the same text as before.
     pub fn apply_plan(

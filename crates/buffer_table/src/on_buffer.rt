@@ -47,8 +47,9 @@ impl Editor {
         }
     }
 
-    /// Takes the part from `from` to before `to` out, or puts pieces in there: only one of the two can be something. `all`
-    /// markers and overlays at the place of an insertion advance. A refusal leaves the editor as it was.
+    /// Takes the part from `from` to before `to` out, or puts pieces in there: only one of the two can be something.
+    /// `all` markers and overlays at the place of an insertion advance. A refusal leaves the editor as it was.
+    #[inline(always)]
     pub fn replace(&mut self, id: u32, from: usize, to: usize, with: &[Piece], all: bool) -> Mem<()>
         requires live { is_live (editor_of self.old) id ≡ true }
         requires order { from ≤ to }
@@ -184,14 +185,16 @@ impl Editor {
         }
     }
 
-    /// Undoes the groups of a plan, which `undo_plan` gave of the buffer as it stands. A refusal leaves the editor as it was.
+    /// Undoes the groups of a plan, which `undo_plan` gave of the buffer as it stands. A refusal leaves the editor as
+    /// it was.
     pub fn apply_plan(&mut self, id: u32, plan: &Plan) -> Mem<()>
         requires live { is_live (editor_of self.old) id ≡ true }
         requires plan { let b = buffer_at (editor_of self.old) id in
             (groups : ℕ) × (1 ≤ groups) × (planned groups b.begin b.end b.undo ≡ Ok plan.now) }
         ensures ok { let b = buffer_at (editor_of self.old) id in
             (groups : ℕ) → 1 ≤ groups → planned groups b.begin b.end b.undo ≡ Ok plan.now
-            → OnOk result (editor_of self.new ≡ change_site id (undone_groups id (passed groups b.undo)) (editor_of self.old)) }
+            → OnOk result (editor_of self.new ≡
+            change_site id (undone_groups id (passed groups b.undo)) (editor_of self.old)) }
         ensures err { OnErr result (editor_of self.new ≡ editor_of self.old) }
     {
         match &mut self.buffers[id as usize] {

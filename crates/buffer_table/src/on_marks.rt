@@ -39,7 +39,8 @@ impl Editor {
         &self.marks
     }
 
-    /// Makes a marker that points nowhere and doesn't advance, and gives its number. A refusal leaves the editor as it was.
+    /// Makes a marker that points nowhere and doesn't advance, and gives its number. A refusal leaves the editor as
+    /// it was.
     pub fn make_marker(&mut self) -> Mem<u32>
         requires { length (editor_of self.old).marks.markers < 2 ^ 32 - 1 }
         ensures number { IfOk result (λ k. k ≡ length (editor_of self.old).marks.markers) }
@@ -57,8 +58,8 @@ impl Editor {
         self.marks.markers.reserve()
     }
 
-    /// Makes a marker that points nowhere and doesn't advance, in the room that was reserved for it, and gives its number. It
-    /// takes no memory.
+    /// Makes a marker that points nowhere and doesn't advance, in the room that was reserved for it, and gives its
+    /// number. It takes no memory.
     pub fn make_marker_reserved(&mut self, room: Room) -> u32
         requires few { length (editor_of self.old).marks.markers < 2 ^ 32 - 1 }
         requires fits { length (editor_of self.old).marks.markers < room }
@@ -112,8 +113,9 @@ impl Editor {
         marks.markers.set_kind(k, after);
     }
 
-    /// Makes an overlay without properties from place `from` to place `to` of a live buffer, and gives its number. `front` and
-    /// `rear` say whether its start and its end go behind text put in just there. A refusal leaves the editor as it was.
+    /// Makes an overlay without properties from place `from` to place `to` of a live buffer, and gives its number.
+    /// `front` and `rear` say whether its start and its end go behind text put in just there. A refusal leaves the
+    /// editor as it was.
     pub fn make_overlay(
         &mut self,
         id: u32,
@@ -218,8 +220,9 @@ impl Editor {
         self.marks.saved.last()
     }
 
-    /// Takes away what was kept last, and gives it; `None` where nothing is kept. Its places lie in their text, unless the
-    /// buffer was killed meanwhile; its ends stand in order in any case.
+    /// Takes away what was kept last, and gives it; `None` where nothing is kept. Its places lie in their text,
+    /// unless the buffer was killed meanwhile; its ends stand in order in any case.
+    #[inline(always)]
     pub fn pop_saved(&mut self) -> Option<Saved>
         ensures none { IsNone result ↔ ((editor_of self.old).marks.saved ≡ []) }
         ensures newest { IfSome result (λ s. editor_of self.old ≡

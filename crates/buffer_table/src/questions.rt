@@ -69,6 +69,7 @@ impl Editor {
     }
 
     /// The accessible portion with point in it.
+    #[inline(always)]
     pub fn bounds(&self, id: u32) -> Bounds
         ensures start { result.start ≡ (buffer_at (editor_of self.now) id).begin }
         ensures end { result.end ≡ (buffer_at (editor_of self.now) id).end }

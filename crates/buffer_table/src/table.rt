@@ -74,8 +74,8 @@ impl Editor {
         Ok(BufferRoom { name, buffers })
     }
 
-    /// Makes an empty buffer of a name that no live buffer has, in the room that was reserved for it, and gives its number.
-    /// It takes no memory.
+    /// Makes an empty buffer of a name that no live buffer has, in the room that was reserved for it, and gives its
+    /// number. It takes no memory.
     pub fn make_reserved(&mut self, room: BufferRoom) -> u32
         requires few { length (editor_of self.old).buffers < 256 }
         requires fits { length (editor_of self.old).buffers < room.buffers }
@@ -95,7 +95,8 @@ impl Editor {
         number
     }
 
-    /// Makes an empty buffer of a name that no live buffer has, and gives its number. A refusal leaves the editor as it was.
+    /// Makes an empty buffer of a name that no live buffer has, and gives its number. A refusal leaves the editor as
+    /// it was.
     pub fn make(&mut self, name: &Chars) -> Mem<u32>
         requires room { length (editor_of self.old).buffers < 256 }
         requires free { find (editor_of self.old) name.now.items ≡ None }

@@ -129,8 +129,8 @@ impl Editor {
         Ok(())
     }
 
-    /// Kills a live buffer. Where it was the current one, the first of the others becomes current, and where it was the only
-    /// one a new `*scratch*`; fewer than 256 buffers were made then. A refusal leaves the editor as it was.
+    /// Kills a live buffer. Where it was the current one, the first of the others becomes current, and where it was
+    /// the only one a new `*scratch*`; fewer than 256 buffers were made then. A refusal leaves the editor as it was.
     pub fn kill(&mut self, id: u32) -> Mem<()>
         requires live { is_live (editor_of self.old) id ≡ true }
         requires room { None ≡ first (live_from 0 (slice_set (editor_of self.old).buffers id None))

@@ -4,7 +4,8 @@ use Rattle.editor_model.specs.Editor.{new_editor}
 use Rattle.plain_machine.specs.State.{State, HookLists, new_state}
 use Rattle.plain_machine.specs.Hooks.{before_change_functions, after_change_functions, set_hook_list}
 
--- the two components of a state that concern hooks: the lists of each buffer, and whether no function is entered
+-- the two components of a state that concern hooks: the lists of each buffer, and whether no function is
+-- entered
 pub record Hooked : Type 0 where
   pub lists : List (ℕ × HookLists)
   pub inhibited : Bool
@@ -14,7 +15,8 @@ hooks_in s = record { lists = s.hooks; inhibited = s.inhibited }
 
 -- a state with these hooks, in which this buffer is current
 abbrev pub state_with : Hooked → (current : ℕ) → State
-state_with h b = record new_state { editor = record new_editor { current = b }; hooks = h.lists; inhibited = h.inhibited }
+state_with h b =
+    record new_state { editor = record new_editor { current = b }; hooks = h.lists; inhibited = h.inhibited }
 
 -- the symbol of the list before a change, or of the one behind it
 abbrev pub hook : (before : Bool) → ℕ

@@ -21,4 +21,5 @@ is_of b h = h.0 == b
 -- buffers that may be made, each once, with lists that aren't longer than they may be
 abbrev pub AreKept : List (ℕ × HookLists) → Type 0
 AreKept [] = Unit {0}
-AreKept (h ∷ rest) = (h.0 < most_buffers) × (length h.1.before ≤ most_hooks) × (length h.1.after ≤ most_hooks) × (list_any (is_of h.0) rest ≡ false) × AreKept rest
+AreKept (h ∷ rest) = (h.0 < most_buffers) × (length h.1.before ≤ most_hooks) ×
+    (length h.1.after ≤ most_hooks) × (list_any (is_of h.0) rest ≡ false) × AreKept rest

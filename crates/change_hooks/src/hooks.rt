@@ -22,10 +22,12 @@ use std::marker::Model;
 pub const MOST_HOOKS: usize = 8;
 
 /// Which functions hear of the changes of each buffer (GNU Emacs Lisp Reference Manual, Change Hooks), and whether they
-/// are inhibited. It is seen as what the machine's state has of these. A buffer is given by its number, which is below 256.
+/// are inhibited. It is seen as what the machine's state has of these. A buffer is given by its number, which is
+/// below 256.
 #[derive(Drop)]
 pub struct Hooks {
-    /// The lists of each buffer that was given to a call that sets one, in this order. There is room for those of all buffers.
+    /// The lists of each buffer that was given to a call that sets one, in this order. There is room for those of all
+    /// buffers.
     buffers: Vec<BufferHooks>,
     /// The list of each other buffer.
     nothing: SymList,
@@ -60,8 +62,8 @@ impl Hooks {
         })
     }
 
-    /// The functions of a buffer that are called before a change, or those that are called after it. The one that was added
-    /// last comes first.
+    /// The functions of a buffer that are called before a change, or those that are called after it. The one that was
+    /// added last comes first.
     pub fn list(&self, buffer: u32, before: bool) -> &SymList
         ensures few { length (items_of result.now) ≤ most_hooks }
         ensures names { map number_of (items_of result.now) ≡
@@ -74,6 +76,7 @@ impl Hooks {
     }
 
     /// The same functions as a list of their own, since their calls may change the list.
+    #[inline(always)]
     pub fn names(&self, buffer: u32, before: bool) -> Mem<SymList>
         ensures { IfOk result (λ names. map number_of (items_of names) ≡
             hook_here (state_with self.now buffer) (symbol (hook before))) }
@@ -81,8 +84,8 @@ impl Hooks {
         self.list(buffer, before).copy()
     }
 
-    /// Puts a function in front of a list of a buffer, unless it stands there. It answers false exactly where 8 others stand
-    /// there, and then nothing changes. Want of memory leaves all as it was.
+    /// Puts a function in front of a list of a buffer, unless it stands there. It answers false exactly where 8
+    /// others stand there, and then nothing changes. Want of memory leaves all as it was.
     pub fn add(&mut self, buffer: u32, before: bool, name: Sym) -> Mem<bool>
         requires { buffer < most_buffers }
         ensures fits { IfOk result (λ fits. fits ≡

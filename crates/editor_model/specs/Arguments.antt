@@ -1,10 +1,15 @@
 -- What the arguments of a call are, and the tests on them.
--- Positions count from 1 in arguments and answers, and places from 0 inside a text; `place` goes from the one to the other.
-use Rattle.std.specs.Prelude.{ℕ, ◌+◌, ◌-◌, ℤ, pos, Bool, true, false, ◌&&◌, ◌||◌, not, ◌==◌, nat_le, nat_lt, min, max, List, [], map, length, slice_get, Option, Some, None, is_some, unwrap_or}
+-- Positions count from 1 in arguments and answers, and places from 0 inside a text; `place` goes from the
+-- one to the other.
+use Rattle.std.specs.Prelude.{ℕ, ◌+◌, ◌-◌, ℤ, pos, Bool, true, false, ◌&&◌, ◌||◌, not, ◌==◌, nat_le}
+use Rattle.std.specs.Prelude.{nat_lt, min, max, List, [], map, length, slice_get, Option, Some, None}
+use Rattle.std.specs.Prelude.{is_some, unwrap_or}
 use Rattle.text_model.specs.Properties.{Cell, PropVal}
 use Rattle.text_model.specs.Marks.{Spot}
 use Rattle.text_model.specs.Commit.{Buffer}
-use Rattle.editor_model.specs.Values.{Value, Nil, Int, Sym, Str, TheBuffer, TheMarker, TheOverlay, is_nil, as_prop, as_pairs, Pairs, ArgsOutOfRange, WrongType, NoSuchBuffer, BufferKilled, TooMany, BufferFull}
+use Rattle.editor_model.specs.Values.{Value, Nil, Int, Sym, Str, TheBuffer, TheMarker, TheOverlay}
+use Rattle.editor_model.specs.Values.{is_nil, as_prop, as_pairs, Pairs, ArgsOutOfRange, WrongType}
+use Rattle.editor_model.specs.Values.{NoSuchBuffer, BufferKilled, TooMany, BufferFull}
 use Rattle.editor_model.specs.Editor.{Editor, Name, buffer_at, is_live, find, marker_of, characters_in}
 use Rattle.editor_model.specs.Answers.{Test, refuse}
 use Rattle.editor_model.specs.Limits.{longest_text, longest_texts, longest_string, longest_name}
@@ -205,7 +210,8 @@ must_fit_a_string n = refuse TooMany (nat_le n longest_string)
 -- whether n more characters fit in a buffer
 abbrev pub has_room : Editor → (id n : ℕ) → Bool
 has_room e id n =
-    (n == 0) || (nat_le (length (buffer_at e id).text + n) longest_text && nat_le (characters_in e.buffers + n) longest_texts)
+    (n == 0) || (nat_le (length (buffer_at e id).text + n) longest_text &&
+    nat_le (characters_in e.buffers + n) longest_texts)
 
 abbrev pub must_have_room : Editor → (id n : ℕ) → Test
 must_have_room e id n = refuse BufferFull (has_room e id n)

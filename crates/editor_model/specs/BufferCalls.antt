@@ -1,10 +1,15 @@
 -- The calls on buffers. GNU Emacs Lisp Reference Manual, sections "Current Buffer", "Buffer Names",
 -- "Buffer Modification", "Read Only Buffers", "Buffer List", "Creating Buffers".
 use Rattle.std.specs.Prelude.{ℕ, [], ◌∷◌, map, length, Option, Some, None}
-use Rattle.editor_model.specs.Values.{Value, Nil, Str, TheBuffer, list, plain, truth, WrongType, Reply, Answered, Refused}
-use Rattle.editor_model.specs.Editor.{Editor, Name, Live, live, is_live, find, live_from, buffer_at, is_read_only, change_buffer, with_buffer, renamed, protected, free_name, others}
+use Rattle.editor_model.specs.Values.{Value, Nil, Str, TheBuffer, list, plain, truth, WrongType, Reply}
+use Rattle.editor_model.specs.Values.{Answered, Refused}
+use Rattle.editor_model.specs.Editor.{Editor, Name, Live, live, is_live, find, live_from, buffer_at}
+use Rattle.editor_model.specs.Editor.{is_read_only, change_buffer, with_buffer, renamed, protected}
+use Rattle.editor_model.specs.Editor.{free_name, others}
 use Rattle.editor_model.specs.Answers.{Applied, applied, answer}
-use Rattle.editor_model.specs.Arguments.{flag, name_of, buffer_of, must_be_buffer, must_be_buffer_or_nil, must_be_name, must_be_short, must_be_fewer, buffer_there}
+use Rattle.editor_model.specs.Arguments.{flag, name_of, buffer_of, must_be_buffer}
+use Rattle.editor_model.specs.Arguments.{must_be_buffer_or_nil, must_be_name, must_be_short}
+use Rattle.editor_model.specs.Arguments.{must_be_fewer, buffer_there}
 use Rattle.editor_model.specs.Limits.{most_buffers}
 
 -- ASKING

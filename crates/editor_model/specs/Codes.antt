@@ -1,12 +1,13 @@
--- How the logic stores values: what a model that holds values is asked for. Nothing here is about editors; a reader may
--- pass over it.
+-- How the logic stores values: what a model that holds values is asked for. Nothing here is about editors;
+-- a reader may pass over it.
 use Rattle.std.specs.Prelude.{◌≡◌, ◌⊎◌, ℕ, zero, suc, ℤ, pos, List, [], ◌∷◌, refl}
 use Rattle.std.proofs.Common.{ap, inl, inr}
 use Rattle.std.specs.Coded.{Coded, code_by, coded_ℕ, coded_ℤ, coded_list, coded×, coded⊎}
 use base.Stored.{Gv, gnil, gnum, gcons, num}
 use Rattle.text_model.specs.Characters.{Ch, Scalar, Raw}
 use Rattle.text_model.specs.Properties.{Cell, PropVal, Truth, Number, Symbol, Symbols, Text}
-use Rattle.editor_model.specs.Values.{Value, Values, Nil, T, Int, Sym, Str, Items, Dotted, TheBuffer, TheMarker, TheOverlay, TheProcess, End, More}
+use Rattle.editor_model.specs.Values.{Value, Values, Nil, T, Int, Sym, Str, Items, Dotted, TheBuffer}
+use Rattle.editor_model.specs.Values.{TheMarker, TheOverlay, TheProcess, End, More}
 
 -- CHARACTERS AND PROPERTIES
 abbrev ch_to : Ch → ℕ ⊎ ℕ
@@ -57,7 +58,8 @@ prop_back (Text text) = refl
 
 abbrev pub coded_prop : Coded PropVal
 coded_prop = code_by PropParts
-    (coded× coded_ℕ (coded× coded_ℤ (coded× (coded_list coded_ℕ) (coded_list coded_ch)))) prop_to prop_from prop_back
+    (coded× coded_ℕ (coded× coded_ℤ (coded× (coded_list coded_ℕ) (coded_list coded_ch)))) prop_to
+    prop_from prop_back
 
 abbrev pub coded_cell : Coded Cell
 coded_cell = coded× coded_ch (coded_list (coded× coded_ℕ coded_prop))

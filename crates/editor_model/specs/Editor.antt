@@ -1,6 +1,8 @@
--- The editor: all buffers, the current one, what moves with them, and the registers; and the small changes of them
--- that calls are made of. GNU Emacs Lisp Reference Manual, chapters "Buffers" and "Markers".
-use Rattle.std.specs.Prelude.{ℕ, zero, suc, ◌+◌, Bool, true, false, ◌==◌, List, [], ◌∷◌, ◌++◌, map, length, codes, decimal, slice_get, slice_set, if◌then◌else◌, Option, Some, None, is_some, unwrap_or}
+-- The editor: all buffers, the current one, what moves with them, and the registers; and the small changes
+-- of them that calls are made of. GNU Emacs Lisp Reference Manual, chapters "Buffers" and "Markers".
+use Rattle.std.specs.Prelude.{ℕ, zero, suc, ◌+◌, Bool, true, false, ◌==◌, List, [], ◌∷◌, ◌++◌, map}
+use Rattle.std.specs.Prelude.{length, codes, decimal, slice_get, slice_set, if◌then◌else◌, Option, Some}
+use Rattle.std.specs.Prelude.{None, is_some, unwrap_or}
 use Rattle.text_model.specs.Characters.{Ch, Scalar}
 use Rattle.text_model.specs.Properties.{same_list, same_ch}
 use Rattle.text_model.specs.Undo.{Undo}
@@ -68,7 +70,8 @@ is_read_only e id = elim (live e id) [ Some l ↦ l.read_only | None ↦ false ]
 abbrev pub find_from : ℕ → List (Option Live) → Name → Option ℕ
 find_from id [] name = None
 find_from id (None ∷ rest) name = find_from (id + 1) rest name
-find_from id (Some l ∷ rest) name = elim (same_name l.name name) [ true ↦ Some id | false ↦ find_from (id + 1) rest name ]
+find_from id (Some l ∷ rest) name =
+    elim (same_name l.name name) [ true ↦ Some id | false ↦ find_from (id + 1) rest name ]
 
 -- the live buffer of a name
 abbrev pub find : Editor → Name → Option ℕ
@@ -86,7 +89,10 @@ change_site id change e = elim (live e id) [
   | None ↦ e
   | Some l ↦
       let site : Site = change (record { buffer = l.buffer; marks = e.marks }) in
-      record e { buffers = slice_set e.buffers id (Some (record l { buffer = site.buffer })); marks = site.marks }
+      record e {
+        buffers = slice_set e.buffers id (Some (record l { buffer = site.buffer }));
+        marks = site.marks;
+      }
 ]
 
 abbrev pub change_buffer : (id : ℕ) → (Buffer → Buffer) → Editor → Editor
@@ -144,14 +150,16 @@ abbrev pub with_marker : Marker → Editor → Editor
 with_marker m e = record e { marks = record e.marks { markers = e.marks.markers ++ m ∷ [] } }
 
 abbrev pub change_marker : (k : ℕ) → (Marker → Marker) → Editor → Editor
-change_marker k change e = record e { marks = record e.marks { markers = slice_set e.marks.markers k (change (marker_of e k)) } }
+change_marker k change e =
+    record e { marks = record e.marks { markers = slice_set e.marks.markers k (change (marker_of e k)) } }
 
 abbrev pub set_marker_spot : (k : ℕ) → Option Spot → Editor → Editor
 set_marker_spot k spot e = change_marker k (λ m. record m { spot = spot }) e
 
 abbrev pub overlay_of : Editor → (k : ℕ) → Overlay
 overlay_of e k =
-    unwrap_or (slice_get e.marks.overlays k) (record { span = None; front_advance = false; rear_advance = false; props = [] })
+    unwrap_or (slice_get e.marks.overlays k)
+    (record { span = None; front_advance = false; rear_advance = false; props = [] })
 
 abbrev pub with_overlay : Overlay → Editor → Editor
 with_overlay o e = record e { marks = record e.marks { overlays = e.marks.overlays ++ o ∷ [] } }
@@ -169,7 +177,8 @@ after_kill was_current e = elim (live_from 0 e.buffers) [
 ]
 
 abbrev pub killed : (id : ℕ) → Editor → Editor
-killed id e = after_kill (e.current == id) (record e { buffers = slice_set e.buffers id None; marks = leave_buffer id e.marks })
+killed id e = after_kill (e.current == id)
+    (record e { buffers = slice_set e.buffers id None; marks = leave_buffer id e.marks })
 
 -- REGISTERS
 abbrev pub register : List (ℕ × Value) → ℕ → Option Value

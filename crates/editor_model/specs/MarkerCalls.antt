@@ -2,10 +2,14 @@
 use Rattle.std.specs.Prelude.{ℕ, Bool, false, [], ◌∷◌, length, Option, Some, None, option_map}
 use Rattle.text_model.specs.Marks.{Spot}
 use Rattle.text_model.specs.Places.{clip}
-use Rattle.editor_model.specs.Values.{Value, Nil, Int, TheMarker, TheBuffer, truth, at_place, WrongType, Reply, Refused}
-use Rattle.editor_model.specs.Editor.{Editor, buffer_at, here, marker_of, with_marker, change_marker, set_marker_spot}
+use Rattle.editor_model.specs.Values.{Value, Nil, Int, TheMarker, TheBuffer, truth, at_place, WrongType}
+use Rattle.editor_model.specs.Values.{Reply, Refused}
+use Rattle.editor_model.specs.Editor.{Editor, buffer_at, here, marker_of, with_marker, change_marker}
+use Rattle.editor_model.specs.Editor.{set_marker_spot}
 use Rattle.editor_model.specs.Answers.{Applied, applied, answer}
-use Rattle.editor_model.specs.Arguments.{flag, buffer_of, marker_number, number, place, must_be_position_or_nil, must_be_buffer_or_nil, must_be_marker, must_be_fewer, buffer_there}
+use Rattle.editor_model.specs.Arguments.{flag, buffer_of, marker_number, number, place}
+use Rattle.editor_model.specs.Arguments.{must_be_position_or_nil, must_be_buffer_or_nil, must_be_marker}
+use Rattle.editor_model.specs.Arguments.{must_be_fewer, buffer_there}
 use Rattle.editor_model.specs.Limits.{most_markers}
 
 -- ASKING
@@ -52,7 +56,8 @@ copy_marker e _ kind = record { editor = e; reply = Refused WrongType }
 abbrev pub set_marker : Editor → (m x b : Value) → Applied
 set_marker e m x b =
     applied e (must_be_marker m ∷ must_be_position_or_nil x ∷ must_be_buffer_or_nil b ∷ buffer_there e b ∷ [])
-    (set_marker_spot (marker_number m) (option_map (λ n. spot_in e (buffer_of e b) (place e x)) (number e x)) e) m
+    (set_marker_spot (marker_number m) (option_map (λ n. spot_in e (buffer_of e b) (place e x))
+    (number e x)) e) m
 
 abbrev pub set_marker_insertion_type : Editor → (m kind : Value) → Applied
 set_marker_insertion_type e m kind =

@@ -4,11 +4,17 @@ use Rattle.std.specs.Prelude.{ℕ, ◌+◌, pos, min, max, List, [], ◌∷◌, 
 use Rattle.text_model.specs.Properties.{PropSet, PropVal, get, put}
 use Rattle.text_model.specs.Places.{clip}
 use Rattle.text_model.specs.Marks.{Span, Overlay, evaporated}
-use Rattle.text_model.specs.OverlayQuestions.{overlays_where, covers, lies_within, winner, next_end, previous_end}
-use Rattle.editor_model.specs.Values.{Value, Nil, Int, TheOverlay, TheBuffer, list, at_place, of_prop, of_set, Reply}
+use Rattle.text_model.specs.OverlayQuestions.{overlays_where, covers, lies_within, winner, next_end}
+use Rattle.text_model.specs.OverlayQuestions.{previous_end}
+use Rattle.editor_model.specs.Values.{Value, Nil, Int, TheOverlay, TheBuffer, list, at_place, of_prop}
+use Rattle.editor_model.specs.Values.{of_set, Reply}
 use Rattle.editor_model.specs.Editor.{Editor, buffer_at, here, overlay_of, with_overlay, change_overlay}
 use Rattle.editor_model.specs.Answers.{Applied, applied, answer}
-use Rattle.editor_model.specs.Arguments.{flag, buffer_of, overlay_number, symbol_of, value_of, position, place, from_of, to_of, must_be_position, must_be_buffer_or_nil, must_be_overlay, must_be_symbol, must_be_property_value, buffer_there, must_point_somewhere, must_be_accessible, must_be_fewer}
+use Rattle.editor_model.specs.Arguments.{flag, buffer_of, overlay_number, symbol_of, value_of, position}
+use Rattle.editor_model.specs.Arguments.{place, from_of, to_of, must_be_position, must_be_buffer_or_nil}
+use Rattle.editor_model.specs.Arguments.{must_be_overlay, must_be_symbol, must_be_property_value}
+use Rattle.editor_model.specs.Arguments.{buffer_there, must_point_somewhere, must_be_accessible}
+use Rattle.editor_model.specs.Arguments.{must_be_fewer}
 use Rattle.editor_model.specs.PropertyCalls.{set_at}
 use Rattle.editor_model.specs.Limits.{most_overlays}
 
@@ -103,7 +109,8 @@ span_in e id a b =
 abbrev pub make_overlay : Editor → (a b buffer front rear : Value) → Applied
 make_overlay e a b buffer front rear =
     applied e (must_be_position a ∷ must_be_position b ∷ must_be_buffer_or_nil buffer ∷ buffer_there e buffer ∷
-    must_point_somewhere e a ∷ must_point_somewhere e b ∷ must_be_fewer most_overlays (length e.marks.overlays) ∷ [])
+    must_point_somewhere e a ∷ must_point_somewhere e b ∷
+    must_be_fewer most_overlays (length e.marks.overlays) ∷ [])
     (with_overlay (record {
       span = Some (span_in e (buffer_of e buffer) a b);
       front_advance = flag front;
@@ -123,7 +130,8 @@ kept o = kept_in o.span o
 abbrev pub overlay_put : Editor → (o name v : Value) → Applied
 overlay_put e o name v =
     applied e (must_be_overlay o ∷ must_be_symbol name ∷ must_be_property_value v ∷ [])
-    (change_overlay (overlay_number o) (λ old. kept (record old { props = put old.props (symbol_of name) (value_of v) })) e) v
+    (change_overlay (overlay_number o) (λ old. kept
+    (record old { props = put old.props (symbol_of name) (value_of v) })) e) v
 
 -- nil is the overlay's own buffer, where it has one
 abbrev pub overlay_home : Editor → Option Span → Value → ℕ
@@ -136,7 +144,8 @@ move_overlay e o a b buffer =
     applied e (must_be_overlay o ∷ must_be_position a ∷ must_be_position b ∷ must_be_buffer_or_nil buffer ∷
     buffer_there e buffer ∷
     must_point_somewhere e a ∷ must_point_somewhere e b ∷ [])
-    (change_overlay k (λ old. kept (record old { span = Some (span_in e (overlay_home e old.span buffer) a b) })) e) o
+    (change_overlay k (λ old. kept (record old
+    { span = Some (span_in e (overlay_home e old.span buffer) a b) })) e) o
 
 abbrev pub delete_overlay : Editor → Value → Applied
 delete_overlay e o =

@@ -1,5 +1,5 @@
--- Buffers and texts that are read-only, and the changes that this bars. GNU Emacs Lisp Reference Manual, sections
--- "Read Only Buffers" and "Special Properties".
+-- Buffers and texts that are read-only, and the changes that this bars. GNU Emacs Lisp Reference Manual,
+-- sections "Read Only Buffers" and "Special Properties".
 use Rattle.std.specs.Prelude.{ℕ, Bool, true, false, ◌&&◌, not, List, None, Some, is_some}
 use Rattle.std.specs.List.{list_any}
 use Rattle.text_model.specs.Properties.{Cell, PropSet, get}

@@ -1,17 +1,59 @@
--- The table of the calls on buffers, texts, markers, properties, overlays and undo: the editor without handlers and
--- processes. The calls that concern those stand in the machine.
+-- The table of the calls on buffers, texts, markers, properties, overlays and undo: the editor without
+-- handlers and processes. The calls that concern those stand in the machine.
 use Rattle.std.specs.Prelude.{true, false, List}
-use Rattle.editor_model.specs.Values.{Value, TheBuffer, at_place, truth, WrongType, Reply, Answered, Refused, Prim, CurrentBuffer, SetBuffer, GetBuffer, GetBufferCreate, GenerateNewBuffer, RenameBuffer, BufferLiveP, BufferName, BufferList, BufferModifiedP, SetBufferModifiedP, BufferReadOnlyP, SetBufferReadOnly, PointAt, PointMin, PointMax, BufferSize, BufferNarrowedP, GotoChar, CharAfter, BufferString, BufferSubstring, BufferSubstringNoProperties, Insert, InsertAndInherit, InsertBeforeMarkers, InsertBeforeMarkersAndInherit, InsertBufferSubstring, DeleteRegion, DeleteAndExtractRegion, EraseBuffer, NarrowToRegion, Widen, MakeMarker, PointMarker, CopyMarker, SetMarker, MarkerPosition, MarkerBuffer, MarkerInsertionType, SetMarkerInsertionType, GetTextProperty, TextPropertiesAt, PutTextProperty, AddTextProperties, RemoveTextProperties, SetTextProperties, NextPropertyChange, NextSinglePropertyChange, PreviousPropertyChange, PreviousSinglePropertyChange, TextPropertyAny, TextPropertyNotAll, MakeOverlay, OverlayStart, OverlayEnd, OverlayBuffer, OverlayPut, OverlayGet, OverlayProperties, MoveOverlay, DeleteOverlay, OverlaysAt, OverlaysIn, GetCharProperty, NextOverlayChange, PreviousOverlayChange, UndoBoundary, UndoStart, UndoMore, BufferUndoList, BufferDisableUndo, BufferEnableUndo}
+use Rattle.editor_model.specs.Values.{Value, TheBuffer, at_place, truth, WrongType, Reply, Answered}
+use Rattle.editor_model.specs.Values.{Refused, Prim, CurrentBuffer, SetBuffer, GetBuffer}
+use Rattle.editor_model.specs.Values.{GetBufferCreate, GenerateNewBuffer, RenameBuffer, BufferLiveP}
+use Rattle.editor_model.specs.Values.{BufferName, BufferList, BufferModifiedP, SetBufferModifiedP}
+use Rattle.editor_model.specs.Values.{BufferReadOnlyP, SetBufferReadOnly, PointAt, PointMin, PointMax}
+use Rattle.editor_model.specs.Values.{BufferSize, BufferNarrowedP, GotoChar, CharAfter, BufferString}
+use Rattle.editor_model.specs.Values.{BufferSubstring, BufferSubstringNoProperties, Insert}
+use Rattle.editor_model.specs.Values.{InsertAndInherit, InsertBeforeMarkers}
+use Rattle.editor_model.specs.Values.{InsertBeforeMarkersAndInherit, InsertBufferSubstring}
+use Rattle.editor_model.specs.Values.{DeleteRegion, DeleteAndExtractRegion, EraseBuffer, NarrowToRegion}
+use Rattle.editor_model.specs.Values.{Widen, MakeMarker, PointMarker, CopyMarker, SetMarker}
+use Rattle.editor_model.specs.Values.{MarkerPosition, MarkerBuffer, MarkerInsertionType}
+use Rattle.editor_model.specs.Values.{SetMarkerInsertionType, GetTextProperty, TextPropertiesAt}
+use Rattle.editor_model.specs.Values.{PutTextProperty, AddTextProperties, RemoveTextProperties}
+use Rattle.editor_model.specs.Values.{SetTextProperties, NextPropertyChange, NextSinglePropertyChange}
+use Rattle.editor_model.specs.Values.{PreviousPropertyChange, PreviousSinglePropertyChange}
+use Rattle.editor_model.specs.Values.{TextPropertyAny, TextPropertyNotAll, MakeOverlay, OverlayStart}
+use Rattle.editor_model.specs.Values.{OverlayEnd, OverlayBuffer, OverlayPut, OverlayGet}
+use Rattle.editor_model.specs.Values.{OverlayProperties, MoveOverlay, DeleteOverlay, OverlaysAt}
+use Rattle.editor_model.specs.Values.{OverlaysIn, GetCharProperty, NextOverlayChange}
+use Rattle.editor_model.specs.Values.{PreviousOverlayChange, UndoBoundary, UndoStart, UndoMore}
+use Rattle.editor_model.specs.Values.{BufferUndoList, BufferDisableUndo, BufferEnableUndo}
 use Rattle.editor_model.specs.Editor.{Editor, here}
 use Rattle.editor_model.specs.Answers.{Applied, Prepared, Barred}
 use Rattle.editor_model.specs.Arguments.{arg}
-use Rattle.editor_model.specs.BufferCalls.{set_buffer, get_buffer, get_buffer_create, generate_new_buffer, rename_buffer, buffer_live_p, buffer_name, buffer_list, buffer_modified_p, set_buffer_modified_p, buffer_read_only_p, set_buffer_read_only}
-use Rattle.editor_model.specs.TextCalls.{buffer_size, is_narrowed, goto_char, char_after, buffer_string, buffer_substring, buffer_substring_no_properties, insert, insert_buffer_substring, delete_region, delete_and_extract_region, erase_buffer, narrow_to_region, widen}
-use Rattle.editor_model.specs.MarkerCalls.{make_marker, point_marker, copy_marker, set_marker, marker_position, marker_buffer, marker_insertion_type, set_marker_insertion_type}
-use Rattle.editor_model.specs.PropertyCalls.{get_text_property, text_properties_at, put_text_property, add_text_properties, remove_text_properties, set_text_properties, next_property_change, next_single_property_change, previous_property_change, previous_single_property_change, text_property_any, text_property_not_all}
-use Rattle.editor_model.specs.OverlayCalls.{make_overlay, overlay_start, overlay_end, overlay_buffer, overlay_put, overlay_get, overlay_properties, move_overlay, delete_overlay, overlays_at, overlays_in, get_char_property, next_overlay_change, previous_overlay_change}
-use Rattle.editor_model.specs.UndoCalls.{undo_boundary, undo_start, undo_more, buffer_undo_list, buffer_disable_undo, buffer_enable_undo}
-pub use Rattle.editor_model.specs.Answers.{Applied, What, Put, Props, UndoGroups, Change, Prepared, Changes, Quiet, Nothing, Barred, Committed, Done, Failed, Commit}
+use Rattle.editor_model.specs.BufferCalls.{set_buffer, get_buffer, get_buffer_create}
+use Rattle.editor_model.specs.BufferCalls.{generate_new_buffer, rename_buffer, buffer_live_p}
+use Rattle.editor_model.specs.BufferCalls.{buffer_name, buffer_list, buffer_modified_p}
+use Rattle.editor_model.specs.BufferCalls.{set_buffer_modified_p, buffer_read_only_p}
+use Rattle.editor_model.specs.BufferCalls.{set_buffer_read_only}
+use Rattle.editor_model.specs.TextCalls.{buffer_size, is_narrowed, goto_char, char_after, buffer_string}
+use Rattle.editor_model.specs.TextCalls.{buffer_substring, buffer_substring_no_properties, insert}
+use Rattle.editor_model.specs.TextCalls.{insert_buffer_substring, delete_region}
+use Rattle.editor_model.specs.TextCalls.{delete_and_extract_region, erase_buffer, narrow_to_region}
+use Rattle.editor_model.specs.TextCalls.{widen}
+use Rattle.editor_model.specs.MarkerCalls.{make_marker, point_marker, copy_marker, set_marker}
+use Rattle.editor_model.specs.MarkerCalls.{marker_position, marker_buffer, marker_insertion_type}
+use Rattle.editor_model.specs.MarkerCalls.{set_marker_insertion_type}
+use Rattle.editor_model.specs.PropertyCalls.{get_text_property, text_properties_at, put_text_property}
+use Rattle.editor_model.specs.PropertyCalls.{add_text_properties, remove_text_properties}
+use Rattle.editor_model.specs.PropertyCalls.{set_text_properties, next_property_change}
+use Rattle.editor_model.specs.PropertyCalls.{next_single_property_change, previous_property_change}
+use Rattle.editor_model.specs.PropertyCalls.{previous_single_property_change, text_property_any}
+use Rattle.editor_model.specs.PropertyCalls.{text_property_not_all}
+use Rattle.editor_model.specs.OverlayCalls.{make_overlay, overlay_start, overlay_end, overlay_buffer}
+use Rattle.editor_model.specs.OverlayCalls.{overlay_put, overlay_get, overlay_properties, move_overlay}
+use Rattle.editor_model.specs.OverlayCalls.{delete_overlay, overlays_at, overlays_in, get_char_property}
+use Rattle.editor_model.specs.OverlayCalls.{next_overlay_change, previous_overlay_change}
+use Rattle.editor_model.specs.UndoCalls.{undo_boundary, undo_start, undo_more, buffer_undo_list}
+use Rattle.editor_model.specs.UndoCalls.{buffer_disable_undo, buffer_enable_undo}
+pub use Rattle.editor_model.specs.Answers.{Applied, What, Put, Props, UndoGroups, Change, Prepared}
+pub use Rattle.editor_model.specs.Answers.{Changes, Quiet, Nothing, Barred, Committed, Done, Failed}
+pub use Rattle.editor_model.specs.Answers.{Commit}
 pub use Rattle.editor_model.specs.Arguments.{has_room}
 pub use Rattle.editor_model.specs.Commits.{commit}
 
@@ -45,7 +87,8 @@ query e TextPropertiesAt args = text_properties_at e (arg args 0)
 query e NextPropertyChange args = next_property_change e (arg args 0) (arg args 1)
 query e NextSinglePropertyChange args = next_single_property_change e (arg args 0) (arg args 1) (arg args 2)
 query e PreviousPropertyChange args = previous_property_change e (arg args 0) (arg args 1)
-query e PreviousSinglePropertyChange args = previous_single_property_change e (arg args 0) (arg args 1) (arg args 2)
+query e PreviousSinglePropertyChange args =
+    previous_single_property_change e (arg args 0) (arg args 1) (arg args 2)
 query e TextPropertyAny args = text_property_any e (arg args 0) (arg args 1) (arg args 2) (arg args 3)
 query e TextPropertyNotAll args = text_property_not_all e (arg args 0) (arg args 1) (arg args 2) (arg args 3)
 -- overlays

@@ -1,7 +1,9 @@
--- The calls on point, on the text and on the accessible portion of a buffer. GNU Emacs Lisp Reference Manual, sections
--- "Point", "Narrowing", "Near Point", "Buffer Contents", "Insertion", "Deletion"; for what an insertion inherits
--- "Sticky Properties"; for a process's output "Filter Functions".
-use Rattle.std.specs.Prelude.{ℕ, ◌-◌, pos, Bool, true, false, ◌&&◌, not, ◌==◌, nat_lt, nat_le, min, max, List, [], ◌∷◌, ◌++◌, map, length, slice_get, if◌then◌else◌, Option, Some, None, option_map}
+-- The calls on point, on the text and on the accessible portion of a buffer. GNU Emacs Lisp Reference
+-- Manual, sections "Point", "Narrowing", "Near Point", "Buffer Contents", "Insertion", "Deletion"; for what
+-- an insertion inherits "Sticky Properties"; for a process's output "Filter Functions".
+use Rattle.std.specs.Prelude.{ℕ, ◌-◌, pos, Bool, true, false, ◌&&◌, not, ◌==◌, nat_lt, nat_le, min, max}
+use Rattle.std.specs.Prelude.{List, [], ◌∷◌, ◌++◌, map, length, slice_get, if◌then◌else◌, Option, Some}
+use Rattle.std.specs.Prelude.{None, option_map}
 use Rattle.text_model.specs.Characters.{code}
 use Rattle.text_model.specs.Properties.{Cell, PropSet, part, put_all}
 use Rattle.text_model.specs.Places.{clip}
@@ -10,9 +12,15 @@ use Rattle.text_model.specs.Sticky.{inherited}
 use Rattle.text_model.specs.Commit.{Buffer}
 use Rattle.editor_model.specs.Values.{Value, Nil, Int, Str, plain, Reply, Answered}
 use Rattle.editor_model.specs.Editor.{Editor, buffer_at, here, change_buffer, marker_of}
-use Rattle.editor_model.specs.Answers.{Test, Applied, applied, answer, Put, Prepared, Changes, Nothing, prepared}
+use Rattle.editor_model.specs.Answers.{Test, Applied, applied, answer, Put, Prepared, Changes, Nothing}
+use Rattle.editor_model.specs.Answers.{prepared}
 use Rattle.editor_model.specs.ReadOnly.{bars, has_read_only, is_tested, must_be_writable, must_be_writable_here}
-use Rattle.editor_model.specs.Arguments.{string_of, buffer_of, position, place, place_or, from_of, to_of, must_be_position, must_be_position_or_nil, must_be_string, must_be_buffer, must_be_buffer_or_nil, buffer_there, must_point_somewhere, must_be_accessible, must_be_nil_or_accessible, must_lie_in, must_fit_a_string, must_have_room}
+use Rattle.editor_model.specs.Arguments.{string_of, buffer_of, position, place, place_or, from_of}
+use Rattle.editor_model.specs.Arguments.{to_of, must_be_position, must_be_position_or_nil}
+use Rattle.editor_model.specs.Arguments.{must_be_string, must_be_buffer, must_be_buffer_or_nil}
+use Rattle.editor_model.specs.Arguments.{buffer_there, must_point_somewhere, must_be_accessible}
+use Rattle.editor_model.specs.Arguments.{must_be_nil_or_accessible, must_lie_in, must_fit_a_string}
+use Rattle.editor_model.specs.Arguments.{must_have_room}
 
 -- ASKING
 abbrev pub buffer_size : Editor → Value → Reply
@@ -42,7 +50,8 @@ char_after e p =
     (code_value (char_at_position (here e) (position e p)))
 
 abbrev pub buffer_string : Editor → Reply
-buffer_string e = let b = here e in answer (must_fit_a_string (b.end - b.begin) ∷ []) (Str (part b.begin b.end b.text))
+buffer_string e =
+    let b = here e in answer (must_fit_a_string (b.end - b.begin) ∷ []) (Str (part b.begin b.end b.text))
 
 -- a region: two positions in either order, in the accessible portion
 abbrev pub must_be_a_region : Editor → (a b : Value) → (limits : List Test) → List Test
@@ -61,7 +70,8 @@ abbrev pub buffer_substring : Editor → (a b : Value) → Reply
 buffer_substring e a b = answer (must_fit_a_region e a b) (Str (region_text e a b))
 
 abbrev pub buffer_substring_no_properties : Editor → (a b : Value) → Reply
-buffer_substring_no_properties e a b = answer (must_fit_a_region e a b) (plain (map (λ c. c.0) (region_text e a b)))
+buffer_substring_no_properties e a b =
+    answer (must_fit_a_region e a b) (plain (map (λ c. c.0) (region_text e a b)))
 
 -- SETTING
 -- point at a place, or at the nearer end of the accessible portion
@@ -92,7 +102,8 @@ widen e = applied e [] (change_buffer e.current widened e) Nil
 -- the properties that an insertion at a place inherits: only the accessible portion counts
 abbrev pub inherited_at : Buffer → ℕ → PropSet
 inherited_at b p =
-    inherited (option_map (λ c. c.1) (if p == 0 then None else char_at b (p - 1))) (option_map (λ c. c.1) (char_at b p))
+    inherited (option_map (λ c. c.1) (if p == 0 then None else char_at b (p - 1)))
+    (option_map (λ c. c.1) (char_at b p))
 
 abbrev pub with_inherited : PropSet → List Cell → List Cell
 with_inherited set piece = map (λ c. (c.0, put_all set c.1)) piece
@@ -109,7 +120,13 @@ must_take_text e n = must_be_writable_here e (nat_lt 0 n) (takes_no_text e e.cur
 abbrev pub insertion : (id at : ℕ) → List Cell → (all : Bool) → Prepared
 insertion id at [] all = Nothing Nil
 insertion id at (c ∷ piece) all =
-    Changes (record { buffer = id; from = at; to = at; what = Put (c ∷ piece) all true false None; reply = Nil })
+    Changes (record {
+      buffer = id;
+      from = at;
+      to = at;
+      what = Put (c ∷ piece) all true false None;
+      reply = Nil;
+    })
 
 abbrev pub joined : List Value → List Cell
 joined [] = []
@@ -117,7 +134,8 @@ joined (v ∷ args) = string_of v ++ joined args
 
 -- the characters with their properties as sets, over those that they inherit, if they do
 abbrev pub inserted_piece : Editor → (inherit : Bool) → List Cell → List Cell
-inserted_piece e inherit piece = with_inherited (if inherit then inherited_at (here e) (here e).point else []) piece
+inserted_piece e inherit piece =
+    with_inherited (if inherit then inherited_at (here e) (here e).point else []) piece
 
 abbrev pub insert : Editor → (all inherit : Bool) → List Value → Prepared
 insert e all inherit args =
@@ -142,7 +160,13 @@ abbrev pub output : Editor → (id mark at : ℕ) → List Cell → Prepared
 output e id mark at text =
     prepared (must_be_writable (is_tested e (nat_lt 0 (length text))) false (takes_no_text e id at) ∷
     must_have_room e id (length text) ∷ [])
-    (Changes (record { buffer = id; from = at; to = at; what = Put text true false false (Some mark); reply = Nil }))
+    (Changes (record {
+      buffer = id;
+      from = at;
+      to = at;
+      what = Put text true false false (Some mark);
+      reply = Nil;
+    }))
 
 -- a mark that isn't in the buffer counts as the end of the accessible portion
 abbrev pub place_in : (id : ℕ) → Buffer → Option Spot → ℕ
@@ -157,11 +181,18 @@ prepare_output e id mark text = output e id mark (place_in id (buffer_at e id) (
 abbrev pub deletion : (id from to : ℕ) → (widen : Bool) → Value → Prepared
 deletion id from to widen reply =
     if from == to then Nothing reply
-    else Changes (record { buffer = id; from = from; to = to; what = Put [] false false widen None; reply = reply })
+    else Changes (record {
+      buffer = id;
+      from = from;
+      to = to;
+      what = Put [] false false widen None;
+      reply = reply;
+    })
 
 -- a part of the current buffer may be taken out
 abbrev pub must_give_text : Editor → (from to : ℕ) → Test
-must_give_text e from to = must_be_writable_here e (not (from == to)) (has_read_only (part from to (here e).text))
+must_give_text e from to =
+    must_be_writable_here e (not (from == to)) (has_read_only (part from to (here e).text))
 
 abbrev pub must_give_region : Editor → (a b : Value) → Test
 must_give_region e a b = must_give_text e (from_of e a b) (to_of e a b)
@@ -170,11 +201,13 @@ abbrev pub region_deletion : Editor → (a b reply : Value) → Prepared
 region_deletion e a b reply = deletion e.current (from_of e a b) (to_of e a b) false reply
 
 abbrev pub delete_region : Editor → (a b : Value) → Prepared
-delete_region e a b = prepared (must_be_a_region e a b (must_give_region e a b ∷ [])) (region_deletion e a b Nil)
+delete_region e a b =
+    prepared (must_be_a_region e a b (must_give_region e a b ∷ [])) (region_deletion e a b Nil)
 
 abbrev pub delete_and_extract_region : Editor → (a b : Value) → Prepared
 delete_and_extract_region e a b =
-    prepared (must_be_a_region e a b (must_give_region e a b ∷ must_fit_a_string (to_of e a b - from_of e a b) ∷ []))
+    prepared (must_be_a_region e a b (must_give_region e a b ∷
+    must_fit_a_string (to_of e a b - from_of e a b) ∷ []))
     (region_deletion e a b (Str (region_text e a b)))
 
 abbrev pub erase_buffer : Editor → Prepared

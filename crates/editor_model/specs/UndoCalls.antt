@@ -1,10 +1,16 @@
 -- The calls on undo records. GNU Emacs Lisp Reference Manual, sections "Undo" and "Maintaining Undo".
-use Rattle.std.specs.Prelude.{ℕ, pos, Bool, true, false, not, nat_lt, nat_le, ◌&&◌, List, [], ◌∷◌, map, length, is_some}
-use Rattle.text_model.specs.Undo.{Undo, Entry, Rec, Boundary, Point, Inserted, Deleted, Prop, First, Moved, with_boundary, started, disabled, enabled, pending, undone, trial}
+use Rattle.std.specs.Prelude.{ℕ, pos, Bool, true, false, not, nat_lt, nat_le, ◌&&◌, List, [], ◌∷◌, map}
+use Rattle.std.specs.Prelude.{length, is_some}
+use Rattle.text_model.specs.Undo.{Undo, Entry, Rec, Boundary, Point, Inserted, Deleted, Prop, First}
+use Rattle.text_model.specs.Undo.{Moved, with_boundary, started, disabled, enabled, pending, undone}
+use Rattle.text_model.specs.Undo.{trial}
 use Rattle.text_model.specs.Commit.{Buffer}
-use Rattle.editor_model.specs.Values.{Value, Nil, T, Int, Sym, Str, Dotted, TheMarker, list, values, at_place, of_prop, ArgsOutOfRange, UndoDisabled, NoFurtherUndo, UndoOutside, Reply, Answered}
+use Rattle.editor_model.specs.Values.{Value, Nil, T, Int, Sym, Str, Dotted, TheMarker, list, values}
+use Rattle.editor_model.specs.Values.{at_place, of_prop, ArgsOutOfRange, UndoDisabled, NoFurtherUndo}
+use Rattle.editor_model.specs.Values.{UndoOutside, Reply, Answered}
 use Rattle.editor_model.specs.Editor.{Editor, here, change_buffer}
-use Rattle.editor_model.specs.Answers.{Test, refuse, Applied, applied, UndoGroups, Change, Prepared, Changes, Quiet, prepared}
+use Rattle.editor_model.specs.Answers.{Test, refuse, Applied, applied, UndoGroups, Change, Prepared}
+use Rattle.editor_model.specs.Answers.{Changes, Quiet, prepared}
 use Rattle.editor_model.specs.ReadOnly.{must_be_writable_here}
 use Rattle.editor_model.specs.Arguments.{count_of, must_be_integer}
 use Rattle.editor_model.specs.Limits.{most_groups}
@@ -15,7 +21,8 @@ record_value Boundary = Nil
 record_value (Point p) = at_place p
 record_value (Inserted from to) = Dotted (values (at_place from ∷ [])) (at_place to)
 record_value (Deleted piece place) = Dotted (values (Str piece ∷ [])) (at_place place)
-record_value (Prop name old from to) = Dotted (values (Nil ∷ Sym name ∷ of_prop old ∷ at_place from ∷ [])) (at_place to)
+record_value (Prop name old from to) = Dotted
+    (values (Nil ∷ Sym name ∷ of_prop old ∷ at_place from ∷ [])) (at_place to)
 record_value First = Dotted (values (T ∷ [])) (Int (pos 0))
 record_value (Moved marker adjustment) = Dotted (values (TheMarker marker ∷ [])) (Int adjustment)
 
@@ -64,4 +71,5 @@ undo_more e v =
     prepared (
     must_be_integer v ∷ refuse ArgsOutOfRange (nat_le 1 n && nat_le n most_groups) ∷
     must_be_writable_here e true false ∷ undo_tests b n)
-    (undo_change (undone n b.undo) (record { buffer = e.current; from = b.begin; to = b.end; what = UndoGroups n; reply = Nil }))
+    (undo_change (undone n b.undo) (record
+    { buffer = e.current; from = b.begin; to = b.end; what = UndoGroups n; reply = Nil }))

@@ -1,11 +1,14 @@
 -- What calls take and answer, the forms of a script, and the faults that a call can meet.
--- Read this first: all files of the editor and of its machine speak of these types. An object in a value is its number,
--- in the order in which such objects were made; a symbol is its number in the run's list of names.
-use Rattle.std.specs.Prelude.{ℕ, ◌+◌, ℤ, pos, Bool, true, false, ◌&&◌, ◌==◌, List, [], ◌∷◌, map, if◌then◌else◌, Option, Some, None}
+-- Read this first: all files of the editor and of its machine speak of these types. An object in a value is
+-- its number, in the order in which such objects were made; a symbol is its number in the run's list of
+-- names.
+use Rattle.std.specs.Prelude.{ℕ, ◌+◌, ℤ, pos, Bool, true, false, ◌&&◌, ◌==◌, List, [], ◌∷◌, map}
+use Rattle.std.specs.Prelude.{if◌then◌else◌, Option, Some, None}
 use Rattle.std.specs.List.{list_any}
 use Rattle.std.specs.Ordering.{int_eq}
 use Rattle.text_model.specs.Characters.{Ch}
-use Rattle.text_model.specs.Properties.{Cell, same_list, same_ch, PropVal, PropSet, Truth, Number, Symbol, Symbols, Text}
+use Rattle.text_model.specs.Properties.{Cell, same_list, same_ch, PropVal, PropSet, Truth, Number}
+use Rattle.text_model.specs.Properties.{Symbol, Symbols, Text}
 
 -- `Items` is a list that isn't empty; `Dotted` a list with a tail
 mutual
@@ -97,7 +100,8 @@ as_prop (Int i) = Some (Some (Number i))
 as_prop (Sym s) = Some (Some (Symbol s))
 as_prop (Str text) = Some (Some (Text (map (λ c. c.0) text)))
 as_prop (Items End) = Some None
-as_prop (Items (More v vs)) = elim (symbol_names (More v vs)) [ Some names ↦ Some (Some (Symbols names)) | None ↦ None ]
+as_prop (Items (More v vs)) =
+    elim (symbol_names (More v vs)) [ Some names ↦ Some (Some (Symbols names)) | None ↦ None ]
 as_prop _ = None
 
 -- a set of properties as a list of names and values
@@ -113,7 +117,8 @@ abbrev pub Pairs : Type 0
 Pairs = List (ℕ × Option PropVal)
 
 abbrev pub with_pair : (name : ℕ) → Option (Option PropVal) → Option Pairs → Option Pairs
-with_pair name (Some v) (Some pairs) = if list_any (λ p. p.0 == name) pairs then None else Some ((name, v) ∷ pairs)
+with_pair name (Some v) (Some pairs) =
+    if list_any (λ p. p.0 == name) pairs then None else Some ((name, v) ∷ pairs)
 with_pair name _ _ = None
 
 abbrev pub pairs_of : List Value → Option Pairs
@@ -167,7 +172,8 @@ pub data Prim : Type 0 where
   MakeMarker PointMarker CopyMarker SetMarker MarkerPosition MarkerBuffer MarkerInsertionType : Prim
   SetMarkerInsertionType : Prim
   -- text properties
-  GetTextProperty TextPropertiesAt PutTextProperty AddTextProperties RemoveTextProperties SetTextProperties : Prim
+  GetTextProperty TextPropertiesAt PutTextProperty AddTextProperties RemoveTextProperties
+      SetTextProperties : Prim
   NextPropertyChange NextSinglePropertyChange PreviousPropertyChange PreviousSinglePropertyChange : Prim
   TextPropertyAny TextPropertyNotAll : Prim
   -- overlays

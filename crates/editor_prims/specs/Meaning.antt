@@ -38,7 +38,8 @@ Answers (Err failure.NoMemory) reply = Unit {0}
 -- what a call that sets state comes to; want of memory leaves the editor as it was
 abbrev pub Applies : Result Value Failure → (old new : Editor) → answers.Applied → Type 0
 Applies (Ok v) old new call = record { editor = new; reply = model.Answered (view v) } ≡ call
-Applies (Err (failure.Refused f)) old new call = record { editor = new; reply = model.Refused (fault_of f) } ≡ call
+Applies (Err (failure.Refused f)) old new call =
+    record { editor = new; reply = model.Refused (fault_of f) } ≡ call
 Applies (Err failure.NoMemory) old new call = new ≡ old
 
 -- CHANGES
@@ -53,7 +54,8 @@ what_of (what.Props edit) = answers.Props (edit_of edit)
 what_of (what.UndoGroups n) = answers.UndoGroups n
 
 abbrev pub change_of : Change → answers.Change
-change_of c = record { buffer = c.buffer; from = c.from; to = c.to; what = what_of c.what; reply = view c.reply }
+change_of c =
+    record { buffer = c.buffer; from = c.from; to = c.to; what = what_of c.what; reply = view c.reply }
 
 abbrev pub prepared_of : Prepared → answers.Prepared
 prepared_of (prepared.Change c) = answers.Changes (change_of c)
@@ -74,7 +76,8 @@ Prepares (Err failure.NoMemory) call = Unit {0}
 -- what a commit comes to; want of memory leaves the editor as it was
 abbrev pub Commits : Result Committed Failure → (old new : Editor) → answers.Commit → Type 0
 Commits (Ok c) old new call = record { editor = new; committed = committed_of c } ≡ call
-Commits (Err (failure.Refused f)) old new call = record { editor = new; committed = answers.Failed (fault_of f) } ≡ call
+Commits (Err (failure.Refused f)) old new call =
+    record { editor = new; committed = answers.Failed (fault_of f) } ≡ call
 Commits (Err failure.NoMemory) old new call = new ≡ old
 
 -- a commit that was refused

@@ -12,6 +12,7 @@ use Rattle.editor_prims.specs.declared.failure.Failure.TheVariants as failure
 
 -- the plan of some groups of a buffer's records, with the tests that undoing meets; want of memory says nothing
 abbrev pub Planned : Result Plan Failure → (groups : ℕ) → Buffer → Type 0
-Planned (Ok plan) n b = (planned n b.begin b.end b.undo ≡ Ok plan) × (first_fault (undo_tests b n) ≡ None) × (plan.count ≡ length (undone n b.undo))
+Planned (Ok plan) n b = (planned n b.begin b.end b.undo ≡ Ok plan) ×
+    (first_fault (undo_tests b n) ≡ None) × (plan.count ≡ length (undone n b.undo))
 Planned (Err (failure.Refused f)) n b = first_fault (undo_tests b n) ≡ Some (fault_of f)
 Planned (Err failure.NoMemory) n b = Unit {0}

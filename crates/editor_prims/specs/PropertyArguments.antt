@@ -1,5 +1,6 @@
 -- Arguments that give properties.
-use Rattle.std.specs.Prelude.{ℕ, nat_lt, if◌then◌else◌, Bool, true, false, not, List, [], ◌∷◌, ◌++◌, Option, Some, None, option_map}
+use Rattle.std.specs.Prelude.{ℕ, nat_lt, if◌then◌else◌, Bool, true, false, not, List, [], ◌∷◌, ◌++◌}
+use Rattle.std.specs.Prelude.{Option, Some, None, option_map}
 use Rattle.text_model.specs.Properties.{PropVal, Cell}
 use Rattle.text_model.specs.PropertyQuestions.{set_changes, value_changes}
 use Rattle.editor_model.specs.Values.{Value, Sym, Pairs, as_prop, with_pair}

@@ -34,6 +34,7 @@ struct Manner {
 }
 
 /// Puts pieces in, or takes a part out. Point may go behind the pieces. A refusal leaves the editor as it was.
+#[inline(always)]
 fn put_with_point(
     editor: &mut Editor,
     id: u32,
@@ -147,6 +148,7 @@ fn put_widened(
 }
 
 /// Puts pieces in, or takes a part out, in one of the ways of a change. A refusal leaves the editor as it was.
+#[inline(always)]
 fn put(
     editor: &mut Editor,
     id: u32,
@@ -301,10 +303,10 @@ pub fn commit(editor: &mut Editor, change: &Change) -> Mem<Committed>
     commit_at(editor, change, change.from, change.to)
 }
 
-/// Makes a change that was prepared, where its ends are now, and says which these are then. What barred the preparation is
-/// tested once more. A refused change leaves the editor as it was, and so does want of memory; this is answered, too, where
-/// the ends don't lie in the text in their order, where a piece is to stand in the place of a part, or where no group is to
-/// be undone: no call prepares such a change.
+/// Makes a change that was prepared, where its ends are now, and says which these are then. What barred the
+/// preparation is tested once more. A refused change leaves the editor as it was, and so does want of memory; this is
+/// answered, too, where the ends don't lie in the text in their order, where a piece is to stand in the place of a
+/// part, or where no group is to be undone: no call prepares such a change.
 pub fn commit_at(editor: &mut Editor, change: &Change, from: usize, to: usize) -> Mem<Committed>
     ensures ok { IfOk result (λ c. record {
       editor = editor_of editor.new;

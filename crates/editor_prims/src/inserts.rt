@@ -1,5 +1,5 @@
-//! The calls that insert strings ("Insertion" in the GNU Emacs Lisp Reference Manual; "Sticky Properties" there for what an
-//! insertion inherits).
+//! The calls that insert strings ("Insertion" in the GNU Emacs Lisp Reference Manual; "Sticky Properties" there for
+//! what an insertion inherits).
 ghost use Rattle.std.specs.Prelude.{◌≡◌, ◌+◌, ◌<◌, ◌≤◌, ◌++◌, [], ◌∷◌, map, length, drop, IfOk, OnOk};
 ghost use Rattle.std.specs.Prelude.{if◌then◌else◌, ℕ, option_map, slice_get};
 ghost use Rattle.text_model.specs.Properties.{put_all, with_sets, edited, Replace};
@@ -64,7 +64,8 @@ fn with_all(set: &PropSet, more: &PropSet) -> Mem<PropSet>
     Ok(all)
 }
 
-/// Gives the characters of a run a set in place of theirs, unless they have it: then the piece stays as it is, and shared.
+/// Gives the characters of a run a set in place of theirs, unless they have it: then the piece stays as it is, and
+/// shared.
 fn put_in_run(piece: &mut Piece, i: usize, end: usize, set: &PropSet) -> Mem<()>
     requires run { (i < end) × (end ≤ length piece.old) }
     requires one { (j : ℕ) → i ≤ j → j < end → option_map (λ c. c.1) (slice_get piece.old j) ≡
@@ -101,7 +102,7 @@ fn contents(alloc: Global, v: &Value, set: &PropSet) -> Mem<Piece>
             let piece = with_inherited(text.copy()?, set)?;
             Ok(piece)
         }
-        _ => Ok(Piece::plain(alloc, Chars::new(alloc))),
+        _ => Piece::plain(alloc, Chars::new(alloc)),
     }
 }
 

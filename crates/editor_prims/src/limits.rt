@@ -49,8 +49,8 @@ pub fn must_fit_a_string(length: usize) -> Result<(), Fault>
     must(length <= LONGEST_STRING, Fault::TooMany)
 }
 
-/// Whether `n` more characters, of one text at most, fit in all texts. Where they would fit if all blocks of the texts were
-/// full, the texts aren't counted.
+/// Whether `n` more characters, of one text at most, fit in all texts. Where they would fit if all blocks of the
+/// texts were full, the texts aren't counted.
 fn have_room(editor: &Editor, n: u128) -> bool
     requires { n ≤ longest_text }
     ensures { result ≡ nat_le (characters_in (editor_of editor.now).buffers + n) longest_texts }
@@ -74,6 +74,7 @@ fn has_room(editor: &Editor, id: u32, n: u128) -> bool
 }
 
 /// So many more characters are to be put in a buffer.
+#[inline(always)]
 pub fn must_have_room(editor: &Editor, id: u32, n: u128) -> Result<(), Fault>
     ensures { fault_in result ≡ must_have_room (editor_of editor.now) id n }
 {

@@ -49,8 +49,8 @@ fn numbered(name: &Chars, n: u64) -> Mem<Chars>
     Ok(longer)
 }
 
-/// The first of the name with `<2>`, `<3>` and so on behind it that no live buffer has. Where all of one more than there are
-/// buffers were taken, which can't be, memory counts as wanting.
+/// The first of the name with `<2>`, `<3>` and so on behind it that no live buffer has. Where all of one more than
+/// there are buffers were taken, which can't be, memory counts as wanting.
 fn first_numbered(editor: &Editor, but_current: bool, name: &Chars) -> Mem<Chars>
     ensures name { IfOk result (λ n. n.items ≡ first_numbered
         (length (editor_of editor.now).buffers) 2 (rivals but_current (editor_of editor.now))

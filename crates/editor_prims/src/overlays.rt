@@ -231,8 +231,8 @@ pub(crate) fn overlay_put(
     Ok(answer)
 }
 
-/// Puts an overlay in a part of a live buffer, and takes it out where it is empty and evaporates then. A refusal leaves the
-/// editor as it was.
+/// Puts an overlay in a part of a live buffer, and takes it out where it is empty and evaporates then. A refusal
+/// leaves the editor as it was.
 fn shift(editor: &mut Editor, k: u32, id: u32, from: usize, to: usize) -> Mem<()>
     requires order { from ≤ to }
     requires place { IsPlace (editor_of editor.old) id to }

@@ -1,4 +1,5 @@
-//! The questions on text properties ("Examining Properties" and "Property Search" in the GNU Emacs Lisp Reference Manual).
+//! The questions on text properties ("Examining Properties" and "Property Search" in the GNU Emacs Lisp Reference
+//! Manual).
 ghost use Rattle.std.specs.Prelude.{◌≡◌, ◌≤◌, length, IfOk, map, option_map, unwrap_or, [], None};
 ghost use Rattle.text_model.specs.Properties.{get, part};
 ghost use Rattle.text_model.specs.PropertyQuestions.{next_change, previous_change, first_where};
@@ -26,6 +27,7 @@ use ek_call::{Fault, Value};
 use ek_types::{Mem, NoMemory, PropSet, PropVal, Sym, same_option};
 
 /// The property set of the character of the accessible portion at a place, where there is one.
+#[inline(always)]
 pub(crate) fn set_at(editor: &Editor, id: u32, place: usize) -> Option<&PropSet>
     ensures { unwrap_or (option_map (λ s. s.now) result) [] ≡
         calls.set_at (buffer_at (editor_of editor.now) id) place }
@@ -107,8 +109,8 @@ fn next_in(editor: &Editor, place: usize, name: Option<Sym>) -> Option<usize>
     found_before(editor.bounds(id).end, editor.next_change(id, place, name))
 }
 
-/// The last place in front of another, and in the accessible portion of the current buffer but at its beginning, where the
-/// sets or the values of a property change.
+/// The last place in front of another, and in the accessible portion of the current buffer but at its beginning,
+/// where the sets or the values of a property change.
 fn previous_in(editor: &Editor, place: usize, name: Option<Sym>) -> Option<usize>
     requires { place ≤ length (here (editor_of editor.now)).text }
     ensures { result ≡ previous_change (here (editor_of editor.now)).begin place

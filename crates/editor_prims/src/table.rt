@@ -108,8 +108,8 @@ fn answer(editor: &Editor, prim: Prim, args: &Values, nil: &Value) -> Result<Val
     }
 }
 
-/// Does a call that sets state and is heard by no hook. A refused call changes nothing, nor does one that memory was wanting
-/// for. Any other call is refused as a wrong type.
+/// Does a call that sets state and is heard by no hook. A refused call changes nothing, nor does one that memory was
+/// wanting for. Any other call is refused as a wrong type.
 pub fn apply(editor: &mut Editor, prim: Prim, args: &Values) -> Mem<Reply>
     ensures ok { IfOk result (λ r. record {
       editor = editor_of editor.new;

@@ -102,7 +102,7 @@ fn part(editor: &Editor, id: u32, from: usize, to: usize) -> Mem<Piece>
 {
     if from == to {
         let alloc = editor.allocator();
-        return Ok(Piece::plain(alloc, Chars::new(alloc)));
+        return Piece::plain(alloc, Chars::new(alloc));
     }
     editor.substring(id, from, to)
 }
@@ -413,7 +413,8 @@ fn must_take_output(editor: &Editor, id: u32, at: usize, n: u128) -> Result<(), 
     must_have_room(editor, id, n)
 }
 
-/// Prepares the insertion of a process's output at its mark, which goes behind the text. A read-only buffer takes it, too.
+/// Prepares the insertion of a process's output at its mark, which goes behind the text. A read-only buffer takes it,
+/// too.
 pub fn prepare_output(editor: &Editor, id: u32, mark: u32, text: Piece) -> Prepared
     ensures { prepared_of result ≡ calls.prepare_output (editor_of editor.now) id mark text }
 {

@@ -59,7 +59,7 @@ pub fn list(values: Values) -> Value
 pub fn plain(alloc: Global, text: &Chars) -> Mem<Value>
     ensures { IfOk result (λ v. view v ≡ plain text.now.items) }
 {
-    Ok(Value::Str(Piece::plain(alloc, text.copy()?)))
+    Ok(Value::Str(Piece::plain(alloc, text.copy()?)?))
 }
 
 /// A symbol as a value.

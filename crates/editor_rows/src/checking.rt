@@ -1,5 +1,5 @@
-//! Comparing. Each comparison is a call, so a test that makes many of them branches at none. They tell nothing to what comes
-//! behind them: where a later call rests on what is tested, an assert stands in the test itself.
+//! Comparing. Each comparison is a call, so a test that makes many of them branches at none. They tell nothing to
+//! what comes behind them: where a later call rests on what is tested, an assert stands in the test itself.
 
 use std::fmt::Debug;
 use std::process::Abort;

@@ -70,6 +70,18 @@ codes_then xs c h k = are_codes_then xs (code c ∷ []) h (are_codes_of (c ∷ [
 pub read_then : (xs : List ℕ) (c : Ch) → IsCharacter c → filter_map from_code (xs ++ code c ∷ []) ≡ filter_map from_code xs ++ c ∷ []
 read_then xs c k = filter_map-append from_code xs (code c ∷ []) ∙ ap (λ l. filter_map from_code xs ++ l) (filter_map-code (c ∷ []) (k, tt))
 
+-- bytes, each as the code of the character of its number
+byte_code : (b : ℕ) → b < 256 → from_code b ≡ Some (Scalar b)
+byte_code b h = from_code-code (Scalar b) (scalar_of_range b (grind (arith, nat_tests)))
+
+pub are_codes_bytes : (xs : List ℕ) → ((i : ℕ) → get_or xs i 0 < 256) → AreCodes xs
+are_codes_bytes [] h = tt
+are_codes_bytes (x ∷ xs) h = (rw (byte_code x (h 0)) refl, are_codes_bytes xs (λ i. h (suc i)))
+
+pub filter_map-bytes : (xs : List ℕ) → ((i : ℕ) → get_or xs i 0 < 256) → filter_map from_code xs ≡ map Scalar xs
+filter_map-bytes [] h = refl
+filter_map-bytes (x ∷ xs) h = rw (byte_code x (h 0), filter_map-bytes xs (λ i. h (suc i))) refl
+
 -- one code, that of a character
 some_of : (o : Option Ch) → IsSome o → (c : Ch) × (o ≡ Some c)
 some_of None h = cc

@@ -1,5 +1,6 @@
 -- What a source and a sink do to the bytes that they tell of, and to their counts of faults.
-use Rattle.std.specs.Prelude.{◌≡◌, ◌≢◌, ℕ, ◌+◌, ◌-◌, ◌^◌, ◌≤◌, min, Bool, IsTrue, List, ◌++◌, length, take, Result, Ok, Err, IsOk, OnOk, OnErr}
+use Rattle.std.specs.Prelude.{◌≡◌, ◌≢◌, ℕ, ◌+◌, ◌-◌, ◌^◌, ◌≤◌, min, Bool, IsTrue, List, ◌++◌, length}
+use Rattle.std.specs.Prelude.{take, Result, Ok, Err, IsOk, OnOk, OnErr}
 use Rattle.std.specs.declared.option.Option.{Option}
 use Rattle.std.specs.Io.KnownBytes.{Appends, Consumes, Keeps, IsAtEnd}
 use Rattle.ek_types.specs.declared.io.Took.{Took}
@@ -7,7 +8,8 @@ use Rattle.ek_types.specs.declared.io.Took.TheVariants as took
 use Rattle.ek_types.specs.declared.io.Wrote.{Wrote}
 use Rattle.ek_types.specs.declared.io.Wrote.TheVariants as wrote
 
--- what a source means: the bytes that are left, where it tells, its count of faults, and whether no call fails from here on
+-- what a source means: the bytes that are left, where it tells, its count of faults, and whether no call
+-- fails from here on
 pub record SourceState : Type 0 where
   pub left : Option (List ℕ)
   pub faults : ℕ
@@ -84,5 +86,6 @@ ContinuesBy (Err e) (Ok y) old new bytes = ⊥
 ContinuesBy (Err e) (Err f) old new bytes = new ≡ old
 
 -- after a failure so far the sink stays as it was; else these bytes are written
-pub record Continues {T U E F : Type 0} (so_far : Result T E) (result : Result U F) (old new : SinkState) (bytes : List ℕ) : Type 0 where
+pub record Continues {T U E F : Type 0} (so_far : Result T E) (result : Result U F)
+    (old new : SinkState) (bytes : List ℕ) : Type 0 where
   pub by : ContinuesBy so_far result old new bytes

@@ -1,5 +1,6 @@
 -- What a source and a sink in memory answer, and what they are afterwards.
-use Rattle.std.specs.Prelude.{ℕ, ◌-◌, min, ◌==◌, nat_lt, Bool, if◌then◌else◌, List, ◌++◌, length, take, drop, Some}
+use Rattle.std.specs.Prelude.{ℕ, ◌-◌, min, ◌==◌, nat_lt, Bool, if◌then◌else◌, List, ◌++◌, length, take}
+use Rattle.std.specs.Prelude.{drop, Some}
 use Rattle.std.specs.List.{list_any, list_all}
 use Rattle.ek_types.specs.Io.{SourceState, SinkState, next_count}
 use Rattle.ek_types.specs.declared.io.Took.{Took}
@@ -40,7 +41,8 @@ read_size s size = min (min (length s.left) s.piece) size
 -- what a read into a room of this size answers
 abbrev pub read_answer : MemorySourceState → ℕ → Took
 read_answer s size =
-    if fails_at s.fails s.calls then took.Failed else (if read_size s size == 0 then took.End else took.Bytes (read_size s size))
+    if fails_at s.fails s.calls then took.Failed
+    else (if read_size s size == 0 then took.End else took.Bytes (read_size s size))
 
 -- the source after it
 abbrev pub after_read : MemorySourceState → ℕ → MemorySourceState
@@ -52,7 +54,8 @@ after_read s size =
 -- the room after it
 abbrev pub room_after_read : MemorySourceState → List ℕ → List ℕ
 room_after_read s into =
-    if fails_at s.fails s.calls then into else take (read_size s (length into)) s.left ++ drop (read_size s (length into)) into
+    if fails_at s.fails s.calls then into else take (read_size s (length into)) s.left ++
+    drop (read_size s (length into)) into
 
 -- how many bytes a write of so many takes, where it doesn't fail
 abbrev pub write_size : MemorySinkState → ℕ → ℕ
@@ -61,7 +64,8 @@ write_size s size = min (min (s.limit - length s.held) s.piece) size
 -- what a write of so many bytes answers: a full sink fails
 abbrev pub write_answer : MemorySinkState → ℕ → Wrote
 write_answer s size =
-    if fails_at s.fails s.calls then wrote.Failed else (if write_size s size == 0 then wrote.Failed else wrote.Bytes (write_size s size))
+    if fails_at s.fails s.calls then wrote.Failed
+    else (if write_size s size == 0 then wrote.Failed else wrote.Bytes (write_size s size))
 
 -- the sink after it
 abbrev pub after_write : MemorySinkState → List ℕ → MemorySinkState
@@ -79,4 +83,9 @@ source_state s = record { left = Some s.left; faults = s.faults; unfailing = fai
 -- what a sink in memory means as a sink
 abbrev pub sink_state : MemorySinkState → SinkState
 sink_state s =
-    record { held = Some s.held; faults = s.faults; room = if fails_no_more s.fails s.calls then s.limit - length s.held else 0 }
+    record {
+      held = Some s.held;
+      faults = s.faults;
+      room = if fails_no_more s.fails s.calls
+          then s.limit - length s.held else 0;
+    }

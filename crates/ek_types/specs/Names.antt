@@ -7,4 +7,5 @@ number_in symbols name = number_from 0 symbols name
 
 -- each name is found at the place where it stands, so none stands there twice
 abbrev pub AreNumbered : List (List ℕ) → Type 0
-AreNumbered symbols = (n : ℕ) (name : List ℕ) → slice_get symbols n ≡ Some name → number_in symbols name ≡ Some n
+AreNumbered symbols =
+    (n : ℕ) (name : List ℕ) → slice_get symbols n ≡ Some name → number_in symbols name ≡ Some n

@@ -1,5 +1,6 @@
 -- Runs of one property set, and the sets that they give the characters.
-use Rattle.std.specs.Prelude.{ℕ, zero, suc, ◌+◌, ◌-◌, ◌≤◌, nat_le, nat_lt, Bool, if◌then◌else◌, List, [], ◌∷◌, ◌++◌, map, replicate}
+use Rattle.std.specs.Prelude.{ℕ, zero, suc, ◌+◌, ◌-◌, ◌≤◌, nat_le, nat_lt, Bool, if◌then◌else◌, List}
+use Rattle.std.specs.Prelude.{[], ◌∷◌, ◌++◌, map, replicate}
 use Rattle.text_model.specs.Properties.{PropSet}
 use Rattle.ek_types.specs.declared.content.Run.{Run}
 
@@ -30,7 +31,9 @@ set_at (suc n) (r ∷ runs) = set_at n runs
 
 -- what of this run lies in front of a place, as a run that ends there; the first run starts at `low`
 abbrev pub rest_to : (low place number : ℕ) → List Run → List Run
-rest_to low place number runs = if nat_lt (start_of low number runs) place then record { end = place; set = set_at number runs } ∷ [] else []
+rest_to low place number runs =
+    if nat_lt (start_of low number runs) place then record { end = place; set = set_at number runs } ∷
+    [] else []
 
 -- the same runs, each ending so many places later
 abbrev pub later_runs : ℕ → List Run → List Run

@@ -9,7 +9,7 @@ use Rattle.ek_types.specs.declared.text.Held as text
 use Rattle.ek_types.specs.declared.text.Held.TheVariants as in_text
 
 abbrev pub content_of : Held → List Cell
-content_of (Own content) = content
+content_of (Own content) = content.value
 content_of (Shared content) = content.value
 
 -- shared characters have no spare

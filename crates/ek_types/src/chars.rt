@@ -1,6 +1,6 @@
 //! A list of characters with a spare.
 ghost use Rattle.std.specs.Prelude.{◌≡◌, ◌+◌, ◌<◌, ◌≤◌, length, [], ◌∷◌, ◌++◌, OnOk, OnErr, IfOk};
-ghost use Rattle.std.specs.Prelude.{IsOk, slice_get, Some, ◌==◌, map};
+ghost use Rattle.std.specs.Prelude.{IsOk, slice_get, Some, ◌==◌, map, vec_len, vec_capacity};
 ghost use Rattle.text_model.specs.Characters.{IsCharacter, Scalar, code};
 ghost use Rattle.ek_types.specs.Seen.{ch_of, AreCharacters, AreCodes, characters_of};
 
@@ -8,6 +8,7 @@ use crate::character::Ch;
 use crate::memory::Mem;
 use std::alloc::Global;
 use std::marker::Model;
+use std::mem;
 
 /// Characters in order, counted from 0, seen as their list with the spare beside it: how many more fit with no memory
 /// taken. Each is a real one: a raw byte is 0x80 or more. They are kept as their codes.
@@ -89,8 +90,8 @@ impl Chars {
         Ok(())
     }
 
-    /// Puts other characters behind these, with no memory taken. There must be spare for them, which falls by no more than
-    /// their number.
+    /// Puts other characters behind these, with no memory taken. There must be spare for them, which falls by no more
+    /// than their number.
     pub fn extend_spare(&mut self, more: &Chars)
         requires { length more.now.items ≤ self.old.spare }
         ensures items { self.new.items ≡ self.old.items ++ more.now.items }
@@ -115,20 +116,19 @@ impl Chars {
         Ok(())
     }
 
-    /// Puts the characters U+0000 to U+00FF that have these bytes as their scalar values behind the others, with no memory
-    /// taken. There must be spare for them, which falls by their number.
+    /// Puts the characters U+0000 to U+00FF that have these bytes as their scalar values behind the others, with no
+    /// memory taken. There must be spare for them, which falls by their number.
     pub fn extend_bytes_spare(&mut self, bytes: &[u8])
         requires { length bytes.now ≤ self.old.spare }
         ensures items { self.new.items ≡ self.old.items ++ map Scalar bytes.now }
         ensures spare { self.new.spare + length bytes.now ≡ self.old.spare }
     {
-        for byte in bytes {
-            self.push_spare(Ch::Scalar(char::from(*byte)));
-        }
+        let none = Vec::new(self.allocator());
+        self.codes = push_bytes(mem::replace(&mut self.codes, none), bytes);
     }
 
-    /// Puts the characters of some codes behind the others. Each is the code of a character. A refusal leaves them as they
-    /// were and the spare no smaller.
+    /// Puts the characters of some codes behind the others. Each is the code of a character. A refusal leaves them as
+    /// they were and the spare no smaller.
     pub fn extend_codes(&mut self, codes: &[u32]) -> Mem<()>
         requires { AreCodes codes.now }
         ensures ok { OnOk result (self.new.items ≡ self.old.items ++ characters_of codes.now) }
@@ -187,4 +187,19 @@ impl Chars {
         let codes = Vec::from_slice(*self.codes.allocator(), &self.codes)?;
         Ok(Chars { codes })
     }
+}
+
+/// Puts bytes behind codes, each as its own code. The list comes and goes as a whole, since behind a reference the
+/// compiler writes its length anew for each byte.
+#[inline]
+fn push_bytes(mut codes: Vec<u32>, bytes: &[u8]) -> Vec<u32>
+    requires { vec_len codes + length bytes.now ≤ vec_capacity codes }
+    ensures items { result.items ≡ codes.items ++ bytes.now }
+    ensures len { vec_len result ≡ vec_len codes + length bytes.now }
+    ensures capacity { vec_capacity result ≡ vec_capacity codes }
+{
+    for byte in bytes {
+        codes.push_reserved(u32::from(*byte));
+    }
+    codes
 }

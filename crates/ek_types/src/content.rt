@@ -217,7 +217,8 @@ impl Content {
         }
     }
 
-    /// Puts the characters of another piece behind these, with their properties. Want of memory leaves the piece as it was.
+    /// Puts the characters of another piece behind these, with their properties. Want of memory leaves the piece as
+    /// it was.
     pub fn append(&mut self, more: &Content) -> Mem<()>
         ensures ok { OnOk result (self.new ≡ self.old ++ more.now) }
         ensures err { OnErr result (self.new ≡ self.old) }

@@ -27,7 +27,7 @@ pub use list::{Copied, ListOf};
 pub use memory::{Mem, NoMemory};
 pub use memory_io::{MemorySink, MemorySource};
 pub use null_sink::NullSink;
-pub use piece::Piece;
+pub use piece::{Piece, PieceRoom};
 pub use places::{place_after_delete, place_after_insert};
 pub use prop_set::PropSet;
 pub use property::{PropVal, SymList};

@@ -15,10 +15,11 @@ use std::alloc::Global;
 use std::marker::Model;
 use std::rc::Rc;
 
-/// Where the content of a piece is: its own, or one that it shares with copies of it and never changes.
+/// Where the content of a piece is: its own, or one that it shares with copies of it and never changes. Either stands
+/// behind one pointer, so that a value that is no string isn't as long as a content.
 #[derive(Drop)]
 enum Held {
-    Own(Content),
+    Own(Box<Content>),
     Shared(Rc<Content>),
 }
 
@@ -44,9 +45,25 @@ fn content(held: &Held) -> &Content
     ensures { result.now ≡ content_of held.now }
 {
     match held {
-        Held::Own(content) => content,
+        Held::Own(content) => &**content,
         Held::Shared(content) => content.as_ref(),
     }
+}
+
+/// A content that is shared with no other piece.
+fn own(content: Content) -> Mem<Held>
+    ensures { IfOk result (λ c. content_of c ≡ content) }
+{
+    let content = Box::new(content.text().allocator(), content)?;
+    Ok(Held::Own(content))
+}
+
+/// A content that copies will share.
+fn to_share(alloc: Global, content: Content) -> Mem<Held>
+    ensures { IfOk result (λ c. content_of c ≡ content) }
+{
+    let content = Rc::new(alloc, content.shared(alloc)?)?;
+    Ok(Held::Shared(content))
 }
 
 /// The same again: a shared content is lent once more, and another is copied.
@@ -54,7 +71,7 @@ fn copy(held: &Held) -> Mem<Held>
     ensures { IfOk result (λ c. content_of c ≡ content_of held.now) }
 {
     match held {
-        Held::Own(content) => Ok(Held::Own(content.copy()?)),
+        Held::Own(content) => own(content.copy()?),
         Held::Shared(content) => Ok(Held::Shared(content.clone()?)),
     }
 }
@@ -66,14 +83,50 @@ fn unshared(shared: &Rc<Content>) -> Mem<Content>
     shared.as_ref().copy()
 }
 
-impl Piece {
-    /// The characters without properties. It takes no memory.
-    pub fn plain(alloc: Global, text: Chars) -> Piece
+/// Memory for a piece, taken before its characters are there.
+#[derive(Drop)]
+pub struct PieceRoom {
+    room: Box<Content>,
+}
+
+impl PieceRoom {
+    /// Takes the memory.
+    pub fn new(alloc: Global) -> Mem<PieceRoom> {
+        let empty = Content::plain(alloc, Chars::new(alloc));
+        Ok(PieceRoom {
+            room: Box::new(alloc, empty)?,
+        })
+    }
+
+    /// The characters without properties, as a piece. It takes no memory.
+    pub fn filled(self, text: Chars) -> Piece
         ensures { result ≡ bare text.items }
     {
+        let mut room = self.room;
+        *room = Content::plain(text.allocator(), text);
         Piece {
-            held: Held::Own(Content::plain(alloc, text)),
+            held: Held::Own(room),
         }
+    }
+}
+
+impl Piece {
+    /// The characters without properties. None of them is copied.
+    pub fn plain(alloc: Global, text: Chars) -> Mem<Piece>
+        ensures { IfOk result (λ p. p ≡ bare text.items) }
+    {
+        Ok(Piece {
+            held: own(Content::plain(alloc, text))?,
+        })
+    }
+
+    /// The characters without properties, as a piece whose copies cost no more than a few steps, however long it is.
+    pub fn plain_to_share(alloc: Global, text: Chars) -> Mem<Piece>
+        ensures { IfOk result (λ p. p ≡ bare text.items) }
+    {
+        Ok(Piece {
+            held: to_share(alloc, Content::plain(alloc, text))?,
+        })
     }
 
     /// The characters without properties, which are shared with others that keep them.
@@ -81,7 +134,7 @@ impl Piece {
         ensures { IfOk result (λ p. p ≡ bare text.now.value.items) }
     {
         Ok(Piece {
-            held: Held::Own(Content::sharing(alloc, text)?),
+            held: own(Content::sharing(alloc, text)?)?,
         })
     }
 
@@ -90,12 +143,9 @@ impl Piece {
         ensures { IfOk result (λ p. p ≡ self) }
     {
         match self.held {
-            Held::Own(content) => {
-                let content = Rc::new(alloc, content.shared(alloc)?)?;
-                Ok(Piece {
-                    held: Held::Shared(content),
-                })
-            }
+            Held::Own(content) => Ok(Piece {
+                held: to_share(alloc, Box::into_inner(content))?,
+            }),
             held => Ok(Piece { held }),
         }
     }
@@ -139,6 +189,7 @@ impl Piece {
     }
 
     /// The property set of the character at place `i`, which is below the length.
+    #[inline(always)]
     pub fn props(&self, i: usize) -> &PropSet
         requires { i < length self.now }
         ensures { option_map (λ c. c.1) (slice_get self.now i) ≡ Some result.now }
@@ -148,6 +199,7 @@ impl Piece {
 
     /// A place behind `i`, which is below the length, up to which each character has the property set of that at `i`. It
     /// need not be the last such place.
+    #[inline(always)]
     pub fn run_end(&self, i: usize) -> usize
         requires { i < length self.now }
         ensures behind { i < result }
@@ -159,7 +211,8 @@ impl Piece {
         content(&self.held).run_end(i)
     }
 
-    /// Puts the characters of another piece behind these, with their properties. Want of memory leaves the piece as it was.
+    /// Puts the characters of another piece behind these, with their properties. Want of memory leaves the piece as
+    /// it was.
     pub fn append(&mut self, more: &Piece) -> Mem<()>
         ensures ok { OnOk result (self.new ≡ self.old ++ more.now) }
         ensures err { OnErr result (self.new ≡ self.old) }
@@ -169,11 +222,11 @@ impl Piece {
             return Ok(());
         }
         match &mut self.held {
-            Held::Own(own) => own.append(content(&more.held)),
+            Held::Own(held) => held.append(content(&more.held)),
             Held::Shared(shared) => {
-                let mut own = unshared(shared)?;
-                own.append(content(&more.held))?;
-                self.held = Held::Own(own);
+                let mut changed = unshared(shared)?;
+                changed.append(content(&more.held))?;
+                self.held = own(changed)?;
                 Ok(())
             }
         }
@@ -187,11 +240,11 @@ impl Piece {
         ensures err { OnErr result (self.new ≡ self.old) }
     {
         match &mut self.held {
-            Held::Own(own) => own.put(from, to, set),
+            Held::Own(held) => held.put(from, to, set),
             Held::Shared(shared) => {
-                let mut own = unshared(shared)?;
-                own.put(from, to, set)?;
-                self.held = Held::Own(own);
+                let mut changed = unshared(shared)?;
+                changed.put(from, to, set)?;
+                self.held = own(changed)?;
                 Ok(())
             }
         }

@@ -4,6 +4,7 @@ ghost use Rattle.ek_types.specs.Io.{Writes, Continues};
 use crate::io::{Sink, SinkFault, Wrote};
 
 /// Writes all the bytes, or after a failure a front of them.
+#[inline(always)]
 pub fn write_all<K: Sink>(sink: &mut K, bytes: &[u8]) -> Result<(), SinkFault>
     ensures { Writes (K.state sink.old) (K.state sink.new) result bytes.now }
 {

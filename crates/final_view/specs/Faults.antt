@@ -9,7 +9,8 @@ use Rattle.final_view.specs.declared.fault.ViewFault.TheVariants as fault
 abbrev pub written : Result (Unit {0}) SinkFault → SinkState → SinkState → List ℕ → Type 0
 written result old new bytes = Writes old new result bytes
 
--- all of the bytes were written; or the sink failed, and has a front of them; or memory was wanting, and nothing was written
+-- all of the bytes were written; or the sink failed, and has a front of them; or memory was wanting, and
+-- nothing was written
 abbrev pub Views : (old new : SinkState) → Result (Unit {0}) ViewFault → List ℕ → Type 0
 Views old new (Ok x) bytes = written (Ok tt) old new bytes
 Views old new (Err fault.Sink) bytes = written (Err (record {})) old new bytes

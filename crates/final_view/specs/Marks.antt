@@ -1,5 +1,6 @@
 -- The overlays of a buffer, as the code keeps them.
-use Rattle.std.specs.Prelude.{◌≡◌, ℕ, ◌+◌, ◌<◌, ◌≤◌, max, Bool, ◌&&◌, ◌||◌, ◌==◌, nat_lt, nat_le, List, [], ◌∷◌, ◌++◌, map, filter, length, if◌then◌else◌, All, Some, is_some}
+use Rattle.std.specs.Prelude.{◌≡◌, ℕ, ◌+◌, ◌<◌, ◌≤◌, max, Bool, ◌&&◌, ◌||◌, ◌==◌, nat_lt, nat_le, List}
+use Rattle.std.specs.Prelude.{[], ◌∷◌, ◌++◌, map, filter, length, if◌then◌else◌, All, Some, is_some}
 use Rattle.std.specs.List.{list_any}
 use Rattle.std.specs.List.Sorted.{IsPermutation}
 use Rattle.std.specs.declared.cmp.Ordering.{Ordering}
@@ -27,7 +28,8 @@ pub record IsMark (overlays : List Overlay) (m : Mark) : Type 0 where
 
 -- by priority, then the larger start, then the smaller end
 abbrev pub strength : Mark → Mark → Ordering
-strength m other = ordering_then (int_cmp m.rank other.rank) (ordering_then (nat_cmp m.start other.start) (nat_cmp other.end m.end))
+strength m other = ordering_then (int_cmp m.rank other.rank)
+    (ordering_then (nat_cmp m.start other.start) (nat_cmp other.end m.end))
 
 -- they are those of the buffer, from the weakest to the strongest
 pub record AreRanked (buffer : ℕ) (overlays : List Overlay) (marks : List Mark) : Type 0 where
@@ -63,7 +65,8 @@ abbrev pub closed_of : List Overlay → Mark → List Ch
 closed_of overlays m = after (overlay_of overlays m)
 
 abbrev pub opened_of : List Overlay → Mark → List Ch
-opened_of overlays m = before (overlay_of overlays m) ++ (if m.start == m.end then after (overlay_of overlays m) else [])
+opened_of overlays m =
+    before (overlay_of overlays m) ++ (if m.start == m.end then after (overlay_of overlays m) else [])
 
 abbrev pub IsMade : List Overlay → Mark → Type 0
 IsMade overlays m = m.number < length overlays
@@ -84,7 +87,8 @@ abbrev pub covered : List Overlay → (until : ℕ) → List Mark → (place : �
 covered overlays until marks p = nat_lt p until || list_any (hides_at overlays p) marks
 
 -- PASSING
--- Of some marks by a key those up to a place are passed: none behind it is lost, and the first that is left is behind it.
+-- Of some marks by a key those up to a place are passed: none behind it is lost, and the first that is left
+-- is behind it.
 pub record Pass (key : Mark → ℕ) (test : ℕ → Mark → Bool) (at : ℕ) (old rest : List Mark) : Type 0 where
   pub rises : Rises key (at + 1) rest
   pub left : (q : ℕ) → at < q → filter (test q) rest ≡ filter (test q) old

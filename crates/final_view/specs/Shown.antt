@@ -1,6 +1,7 @@
--- What a buffer looks like: its characters but for those that are hidden, with the strings of its overlays. GNU Emacs Lisp
--- Reference Manual, sections "Invisible Text", "Overlay Properties". Places count from 0.
-use Rattle.std.specs.Prelude.{ℕ, ◌+◌, Bool, true, false, ◌&&◌, ◌||◌, ◌==◌, nat_lt, List, [], ◌∷◌, ◌++◌, reverse, filter, flat_map, if◌then◌else◌, Option, Some, None, is_some}
+-- What a buffer looks like: its characters but for those that are hidden, with the strings of its overlays.
+-- GNU Emacs Lisp Reference Manual, sections "Invisible Text", "Overlay Properties". Places count from 0.
+use Rattle.std.specs.Prelude.{ℕ, ◌+◌, Bool, true, false, ◌&&◌, ◌||◌, ◌==◌, nat_lt, List, [], ◌∷◌, ◌++◌}
+use Rattle.std.specs.Prelude.{reverse, filter, flat_map, if◌then◌else◌, Option, Some, None, is_some}
 use Rattle.text_model.specs.Characters.{Ch}
 use Rattle.text_model.specs.Properties.{PropVal, Text, PropSet, Cell, get, part}
 use Rattle.text_model.specs.Marks.{Overlay, Span}
@@ -87,7 +88,8 @@ strings_at scene p = closing scene.first p scene.ranked ++ opening scene.last p 
 
 -- `invisible` is asked as `get-char-property` asks, and every value but nil hides
 abbrev pub is_hidden : Scene → (place : ℕ) → PropSet → Bool
-is_hidden scene p set = is_some (char_property (winner scene.buffer (p + 1) invisible scene.overlays) invisible set)
+is_hidden scene p set =
+    is_some (char_property (winner scene.buffer (p + 1) invisible scene.overlays) invisible set)
 
 abbrev pub seen : Scene → (place : ℕ) → Cell → List Ch
 seen scene p c = if is_hidden scene p c.1 then [] else c.0 ∷ []
@@ -98,7 +100,14 @@ shown_from scene p [] = strings_at scene p
 shown_from scene p (c ∷ cells) = strings_at scene p ++ (seen scene p c ++ shown_from scene (p + 1) cells)
 
 abbrev pub scene_in : (buffer first last : ℕ) → List Overlay → Scene
-scene_in buffer first last overlays = record { buffer = buffer; first = first; last = last; overlays = overlays; ranked = rising (in_buffer buffer overlays) }
+scene_in buffer first last overlays =
+    record {
+      buffer = buffer;
+      first = first;
+      last = last;
+      overlays = overlays;
+      ranked = rising (in_buffer buffer overlays);
+    }
 
 abbrev pub shown_in : (id : ℕ) → Buffer → List Overlay → List Ch
 shown_in id b overlays = shown_from (scene_in id b.begin b.end overlays) b.begin (part b.begin b.end b.text)

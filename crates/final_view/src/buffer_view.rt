@@ -11,9 +11,10 @@ use crate::show::show;
 use buffer_table::Editor;
 use ek_types::Sink;
 
-/// Writes the accessible portion of a live buffer as it is seen: without the characters whose `invisible` isn't nil, with the
-/// strings of its overlays ("Invisible Text" and "Overlay Properties" in the GNU Emacs Lisp Reference Manual). A sink that failed has a
-/// front of it, and its count of faults rose. Where memory was wanting, nothing was written.
+/// Writes the accessible portion of a live buffer as it is seen: without the characters whose `invisible` isn't nil,
+/// with the strings of its overlays ("Invisible Text" and "Overlay Properties" in the GNU Emacs Lisp Reference
+/// Manual). A sink that failed has a front of it, and its count of faults rose. Where memory was wanting, nothing was
+/// written.
 pub fn view<K: Sink>(editor: &Editor, buffer: u32, sink: &mut K) -> Result<(), ViewFault>
     requires { is_live (editor_of editor.now) buffer ≡ true }
     ensures { Views (K.state sink.old) (K.state sink.new) result

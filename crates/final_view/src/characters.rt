@@ -31,8 +31,8 @@ fn run<K: Sink>(out: &mut Printer<'_, K>, text: &BufferText<'_>, from: usize, to
     }
 }
 
-/// Writes the characters of a part that aren't invisible, from a place on up to which all are hidden. It goes from one run of
-/// properties to the next.
+/// Writes the characters of a part that aren't invisible, from a place on up to which all are hidden. It goes from
+/// one run of properties to the next.
 pub(crate) fn stretch<K: Sink>(
     out: &mut Printer<'_, K>,
     text: &BufferText<'_>,

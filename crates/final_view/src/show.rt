@@ -40,8 +40,8 @@ fn write<K: Sink>(
     out.finish()
 }
 
-/// Writes a part of the text of a buffer with the strings of its overlays. A sink that failed has a front of it; where memory
-/// was wanting, nothing was written.
+/// Writes a part of the text of a buffer with the strings of its overlays. A sink that failed has a front of it;
+/// where memory was wanting, nothing was written.
 pub(crate) fn show<K: Sink>(
     alloc: Global,
     text: &BufferText<'_>,

@@ -1,11 +1,13 @@
--- A text: blocks of a pool with a gap among their cells. Its characters are read from the cells outside the gap.
+-- A text: blocks of a pool with a gap among their cells. Its characters are read from the cells outside the
+-- gap.
 use Rattle.std.specs.Prelude.{ℕ, ◌+◌, ◌*◌, ◌^◌, ◌<◌, ◌≤◌, List, ◌++◌, length, take, drop}
 use Rattle.text_model.specs.Characters.{Ch}
 use Rattle.ek_types.specs.Seen.{AreCodes, characters_of}
 use Rattle.text_pool.specs.Pool.{Pooled}
 use Rattle.gap_text.specs.Blocks.{cells_of, Distinct, AllLive}
 
--- a text by itself: its blocks in its own order, the cell at which the gap starts, and how many cells the gap has
+-- a text by itself: its blocks in its own order, the cell at which the gap starts, and how many cells the
+-- gap has
 pub record Gapped : Type 0 where
   pub blocks : List ℕ
   pub gap : ℕ

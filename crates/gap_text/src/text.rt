@@ -97,8 +97,8 @@ impl Text {
         }
     }
 
-    /// The codes of some characters from character `at` on, counted from 0: of one at least, and of no more than stand side
-    /// by side in one block. They are lent.
+    /// The codes of some characters from character `at` on, counted from 0: of one at least, and of no more than
+    /// stand side by side in one block. They are lent.
     pub fn stretch<'a>(&self, pool: &'a Pool, at: usize) -> &'a [u32]
         requires lies { LiesIn pool.now self.now }
         requires range { at < length (characters pool.now self.now) }
@@ -179,8 +179,8 @@ impl Text {
 
 impl Text {
     /// Makes the spare at least `n`. A refusal leaves the text as it was, and the pool but for spare room. Blocks are
-    /// put where the gap is, so that at most the cells of one block move; a row that grows grows by an eighth of its blocks
-    /// at least.
+    /// put where the gap is, so that at most the cells of one block move; a row that grows grows by an eighth of its
+    /// blocks at least.
     pub fn reserve(&mut self, pool: &mut Pool, n: usize) -> Mem<()>
         requires { LiesIn pool.old self.old }
         ensures lies { LiesIn pool.new self.new }

@@ -3,7 +3,8 @@ use ek_call::{Replies, Values};
 use ek_types::Mem;
 use handler_code::Next;
 
-/// A handler of the program's own, seen as its name and a function of its arguments and of the replies to its calls so far.
+/// A handler of the program's own, seen as its name and a function of its arguments and of the replies to its calls
+/// so far.
 pub trait Handler: Drop {
     ghost use Rattle.std.specs.Prelude.{◌≡◌, ℕ, List, Option, map, IfOk};
     ghost use Rattle.editor_model.specs.Values.{Value, Reply, Prim};

@@ -17,8 +17,8 @@ use ek_types::Mem;
 use handler_code::{Next, ask, ask_with, copied};
 use std::alloc::Global;
 
-/// The filter `insert-filter`. The text goes in at the process's mark, and the mark behind it; point goes back where it stood in
-/// the text, unless it stood at the mark (GNU Emacs Lisp Reference Manual, Filter Functions).
+/// The filter `insert-filter`. The text goes in at the process's mark, and the mark behind it; point goes back where
+/// it stood in the text, unless it stood at the mark (GNU Emacs Lisp Reference Manual, Filter Functions).
 #[derive(Clone, Copy, Debug, PartialEq, Eq)]
 pub struct InsertFilter;
 
@@ -111,8 +111,8 @@ fn point_back(alloc: Global, past: &Replies) -> Mem<Next>
     }
 }
 
-/// Where point goes that stood at `point`, when a text was put in at `mark` that now ends in front of `behind`. It stays where it
-/// was put where it stood at the mark, or where its place is no i64.
+/// Where point goes that stood at `point`, when a text was put in at `mark` that now ends in front of `behind`. It
+/// stays where it was put where it stood at the mark, or where its place is no i64.
 fn place_back(point: i64, mark: i64, behind: i64) -> Option<i64>
     ensures { option_map (λ i. (GotoChar, Int i ∷ [])) result ≡ back point mark behind }
 {

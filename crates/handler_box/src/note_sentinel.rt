@@ -78,5 +78,5 @@ fn events(alloc: Global) -> Mem<Value>
 {
     let mut name = Chars::new(alloc);
     name.extend_bytes(b"*events*")?;
-    Ok(Value::Str(Piece::plain(alloc, name)))
+    Ok(Value::Str(Piece::plain(alloc, name)?))
 }

@@ -13,9 +13,10 @@ use crate::normal::normal_values;
 use ek_call::Primitive;
 use ek_types::Mem;
 
-/// A native's call as it is made, with nil in the place of each empty list. There is none where the number of its arguments is
-/// wrong, or where an argument is or contains a buffer, marker, overlay, process or symbol that was never made. Such a
-/// call is refused as one of a wrong type, before anything else is tested. `made` has the counts of the run as it stands.
+/// A native's call as it is made, with nil in the place of each empty list. There is none where the number of its
+/// arguments is wrong, or where an argument is or contains a buffer, marker, overlay, process or symbol that was
+/// never made. Such a call is refused as one of a wrong type, before anything else is tested. `made` has the counts
+/// of the run as it stands.
 pub fn allowed(made: &Made, asked: &NativeCall) -> Mem<Option<NativeCall>>
     ensures { IfOk result (λ call. (program : Program) (s : State) → AreMade made.now program s →
         option_map call_asked call ≡ may program s (call_asked asked.now)) }

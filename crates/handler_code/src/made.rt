@@ -10,8 +10,8 @@ ghost use Rattle.handler_code.specs.Counts.{program_with, state_with};
 use ek_call::{Value, Values};
 use ek_types::{Piece, PropSet, PropVal, Sym};
 
-/// How many symbols and objects of each kind were made so far. Each is given by its number, counted from 0, so those of smaller
-/// numbers are there.
+/// How many symbols and objects of each kind were made so far. Each is given by its number, counted from 0, so those
+/// of smaller numbers are there.
 #[derive(Clone, Copy, Debug, PartialEq, Eq)]
 pub struct Made {
     pub symbols: u32,

@@ -7,7 +7,8 @@ use handler_code::{Natives, Next};
 use std::alloc::Global;
 use std::process::Abort;
 
-/// What the calls of the insert filter answer where point stands at `point` and the mark at 3, and three characters go in.
+/// What the calls of the insert filter answer where point stands at `point` and the mark at 3, and three characters
+/// go in.
 fn inserted(call: usize, point: i64) -> Value {
     match call {
         0 => Value::Buffer(1),

@@ -33,7 +33,7 @@ fn list(alloc: Global, item: Value) -> Mem<Value> {
 fn text(alloc: Global, value: &PropVal) -> Mem<Value> {
     let mut chars = Chars::new(alloc);
     chars.push(Ch::Scalar('a'))?;
-    let mut piece = Piece::plain(alloc, chars);
+    let mut piece = Piece::plain(alloc, chars)?;
     let set = PropSet::empty(alloc).with(Sym(1), value)?;
     if piece.len() == 1 {
         piece.put(0, 1, &set)?;

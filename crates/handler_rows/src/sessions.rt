@@ -20,11 +20,12 @@ fn arguments(alloc: Global, told: &[u8]) -> Mem<Values> {
     chars.extend_bytes(told)?;
     let mut args = ListOf::new(alloc);
     args.push(Value::Process(4))?;
-    args.push(Value::Str(Piece::plain(alloc, chars)))?;
+    args.push(Value::Str(Piece::plain(alloc, chars)?))?;
     Ok(args)
 }
 
-/// The answers up to the end of the buffer, which is buffer 1 and ends at 7, and the answer `last` about the character there.
+/// The answers up to the end of the buffer, which is buffer 1 and ends at 7, and the answer `last` about the
+/// character there.
 fn looked(alloc: Global, count: usize, last: i64) -> Mem<Replies> {
     let mut past = ListOf::new(alloc);
     for call in 0..count {
@@ -53,8 +54,8 @@ fn started(past: &mut Replies, count: usize) -> Mem<()> {
     Ok(())
 }
 
-/// An argument as a number: an integer, the number of an object or a symbol, 100 and the length of a string, 0 for any other value, and
-/// -1 where it was left out.
+/// An argument as a number: an integer, the number of an object or a symbol, 100 and the length of a string, 0 for
+/// any other value, and -1 where it was left out.
 fn argument(args: &Values, i: usize) -> i64 {
     match args.as_slice().get(i) {
         Some(Value::Int(n)) => *n,
@@ -104,7 +105,8 @@ fn sentinel(alloc: Global, told: &[u8], past: &Replies) -> Mem<Option<Step>> {
     Ok(shown(&next))
 }
 
-/// What a sentinel does next behind an end with code 3, where the last character has this code and so many answers of the restart came.
+/// What a sentinel does next behind an end with code 3, where the last character has this code and so many answers of
+/// the restart came.
 fn restarting(alloc: Global, last: i64, count: usize) -> Mem<Option<Step>> {
     let mut past = looked(alloc, 5, last)?;
     started(&mut past, count)?;

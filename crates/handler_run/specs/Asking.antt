@@ -29,46 +29,58 @@ TouchesIf p old new = (new ≡ old) ⊎ Touches p old new
 pub record TakesOutput (old new : List Process) (p : ℕ) (answer : Answer) (heard : Heard) : Type 0 where
   pub bytes : heard.bytes ≡ gave_bytes answer
   pub touches : TouchesIf p old new
-  pub machine : (s : State) (x : Process) → StandsFor old s.processes → process s p ≡ Some x → x.drained ≡ false → Reads s p x answer new heard.entry
+  pub machine : (s : State) (x : Process) → StandsFor old s.processes → process s p ≡ Some x →
+      x.drained ≡ false → Reads s p x answer new heard.entry
 
 -- it answered how it has ended
 pub record TakesEnd (old new : List Process) (p : ℕ) (how : Ended) (heard : Heard) : Type 0 where
   pub bytes : heard.bytes ≡ false
   pub touches : TouchesIf p old new
-  pub machine : (s : State) (x : Process) → StandsFor old s.processes → process s p ≡ Some x → Ends s p x how new heard.entry
+  pub machine : (s : State) (x : Process) → StandsFor old s.processes → process s p ≡ Some x →
+      Ends s p x how new heard.entry
 
 -- it was killed, and has ended by that
 pub record TakesKill (old new : List Process) (p : ℕ) (e : Entry) : Type 0 where
   pub table : new ≡ changed p (with_status Signalled) old
   pub entered : e ≢ entry.None
-  pub machine : (s : State) (x : Process) → StandsFor old s.processes → process s p ≡ Some x → Deletes s p x new e
+  pub machine : (s : State) (x : Process) → StandsFor old s.processes → process s p ≡ Some x →
+      Deletes s p x new e
 
 -- QUESTIONS TO A HOST
 -- a read of its output
-pub record HearsOutput {H : Type 0} (state : H → HostState) (made : H → H → Ask → ℕ → Answer → Type 0) (host host' : H) (old new : List Process) (p : ℕ) (heard : Heard) : Type 0 where
+pub record HearsOutput {H : Type 0} (state : H → HostState) (made : H → H → Ask → ℕ → Answer → Type 0)
+    (host host' : H) (old new : List Process) (p : ℕ) (heard : Heard) : Type 0 where
   pub answer : Answer
   pub called : made host host' (Read (child_of (with_table old) p)) 4096 answer
-  pub exchanged : Exchanged (state host) (state host') (state host).kills (Read (child_of (with_table old) p)) answer
+  pub exchanged : Exchanged (state host) (state host') (state host).kills
+      (Read (child_of (with_table old) p)) answer
   pub takes : TakesOutput old new p answer heard
 
 -- the question how it has ended
-pub record HearsEnd {H : Type 0} (state : H → HostState) (made : H → H → Ask → ℕ → Answer → Type 0) (host host' : H) (old new : List Process) (p : ℕ) (heard : Heard) : Type 0 where
+pub record HearsEnd {H : Type 0} (state : H → HostState) (made : H → H → Ask → ℕ → Answer → Type 0)
+    (host host' : H) (old new : List Process) (p : ℕ) (heard : Heard) : Type 0 where
   pub how : Ended
   pub called : made host host' (AskEnd (child_of (with_table old) p)) 0 (ended_answer how)
-  pub exchanged : Exchanged (state host) (state host') (state host).kills (AskEnd (child_of (with_table old) p)) (ended_answer how)
+  pub exchanged : Exchanged (state host) (state host') (state host).kills
+      (AskEnd (child_of (with_table old) p)) (ended_answer how)
   pub takes : TakesEnd old new p how heard
 
 -- by whether its output had ended
-pub record Hears {H : Type 0} (state : H → HostState) (made : H → H → Ask → ℕ → Answer → Type 0) (host host' : H) (old new : List Process) (p : ℕ) (heard : Heard) : Type 0 where
+pub record Hears {H : Type 0} (state : H → HostState) (made : H → H → Ask → ℕ → Answer → Type 0)
+    (host host' : H) (old new : List Process) (p : ℕ) (heard : Heard) : Type 0 where
   pub one : Process
   pub found : process (with_table old) p ≡ Some one
-  pub answered : ((one.drained ≡ false) × HearsOutput state made host host' old new p heard) ⊎ ((one.drained ≡ true) × HearsEnd state made host host' old new p heard)
+  pub answered : ((one.drained ≡ false) × HearsOutput state made host host' old new p heard) ⊎
+      ((one.drained ≡ true) × HearsEnd state made host host' old new p heard)
 
 -- it was asked to be killed
-pub record Kills {H : Type 0} (state : H → HostState) (made : H → H → Ask → ℕ → Answer → Type 0) (host host' : H) (old new : List Process) (p : ℕ) (entry : Entry) : Type 0 where
+pub record Kills {H : Type 0} (state : H → HostState) (made : H → H → Ask → ℕ → Answer → Type 0)
+    (host host' : H) (old new : List Process) (p : ℕ) (entry : Entry) : Type 0 where
   pub how : KillAnswer
   pub called : made host host' (Kill (child_of (with_table old) p)) 0 (kill_answer how)
-  pub exchanged : Exchanged (state host) (state host') (slice_set (state host).kills (child_of (with_table old) p) true) (Kill (child_of (with_table old) p)) (kill_answer how)
+  pub exchanged : Exchanged (state host) (state host')
+      (slice_set (state host).kills (child_of (with_table old) p) true)
+      (Kill (child_of (with_table old) p)) (kill_answer how)
   pub takes : TakesKill old new p entry
 
 -- ANSWERS THAT WERE TOLD
@@ -95,4 +107,5 @@ pub record TakesToldEnd (old new : List Process) (p : ℕ) (answer : Answer) (he
 pub record TakesAnswer (old new : List Process) (p : ℕ) (answer : Answer) (heard : Heard) : Type 0 where
   pub one : Process
   pub found : process (with_table old) p ≡ Some one
-  pub taken : ((one.drained ≡ false) × TakesOutput old new p answer heard) ⊎ ((one.drained ≡ true) × TakesToldEnd old new p answer heard)
+  pub taken : ((one.drained ≡ false) × TakesOutput old new p answer heard) ⊎
+      ((one.drained ≡ true) × TakesToldEnd old new p answer heard)

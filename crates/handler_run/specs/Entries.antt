@@ -10,6 +10,8 @@ use Rattle.handler_run.specs.declared.entry.Entry.TheVariants as entry
 
 -- in front of a rest, if anything is entered
 abbrev pub entering : (p : ℕ) → Entry → List Item → List Item
-entering p (entry.Filter handler args) rest = Enter (OfFilter p) (option_map number_of handler) (map view (items_of args)) ∷ rest
-entering p (entry.Sentinel handler args) rest = Enter (OfSentinel p) (option_map number_of handler) (map view (items_of args)) ∷ rest
+entering p (entry.Filter handler args) rest =
+    Enter (OfFilter p) (option_map number_of handler) (map view (items_of args)) ∷ rest
+entering p (entry.Sentinel handler args) rest =
+    Enter (OfSentinel p) (option_map number_of handler) (map view (items_of args)) ∷ rest
 entering p entry.None rest = rest

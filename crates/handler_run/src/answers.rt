@@ -31,12 +31,12 @@ pub fn enter(table: &mut Processes, p: u32, slot: Slot, got: &Got, bytes: &[u8])
         process s p ≡ Some x → x.drained ≡ false →
         Reads s p x (got_answer bytes.now got.now) table.new result }
 {
-    let Slot { text, args } = slot;
+    let Slot { text, piece, args } = slot;
     let mut text = text;
     let filter = table.get(p).filter();
     decode(table, p, got, bytes, &mut text);
     process_table::processes_stand();
-    filter_entry(filter, p, text, args)
+    filter_entry(filter, p, text, piece, args)
 }
 
 /// Decodes what a read gave.
@@ -79,14 +79,14 @@ pub fn ended(table: &mut Processes, p: u32, slot: Slot, how: &Ended) -> Entry
     let Some(status) = status(how) else {
         return Entry::None;
     };
-    let Slot { text, args } = slot;
+    let Slot { text, piece, args } = slot;
     let mut text = text;
     put_told(&mut text, how);
     let handler = table.get(p).sentinel();
     table.note_end(p, status);
     process_table::changes_stand();
     process_table::processes_stand();
-    Entry::Sentinel(handler, arguments(args, p, text))
+    Entry::Sentinel(handler, arguments(args, piece, p, text))
 }
 
 /// The status that a process has come to, if it has ended.

@@ -12,7 +12,7 @@ ghost use Rattle.ek_call.specs.Meaning.{view};
 ghost use Rattle.handler_run.specs.Entries.{entering};
 
 use ek_call::{Value, Values};
-use ek_types::{Chars, Piece, Sym};
+use ek_types::{Chars, PieceRoom, Sym};
 use process_table::Filter;
 
 /// The filter or the sentinel of a process that is to be entered, with its arguments: the process and a text. Without a
@@ -26,15 +26,14 @@ pub enum Entry {
 }
 
 /// The arguments of a filter or sentinel, put where there is room for them.
-pub(crate) fn arguments(room: Values, p: u32, text: Chars) -> Values
+pub(crate) fn arguments(room: Values, piece: PieceRoom, p: u32, text: Chars) -> Values
     requires empty { items_of room ≡ [] }
     requires room { 2 ≤ spare_of room }
     ensures { map view (items_of result) ≡ TheProcess p ∷ Str (bare text.items) ∷ [] }
 {
     let mut args = room;
-    let alloc = args.allocator();
     args.push_spare(Value::Process(p));
-    args.push_spare(Value::Str(Piece::plain(alloc, text)));
+    args.push_spare(Value::Str(piece.filled(text)));
     args
 }
 
@@ -49,7 +48,13 @@ fn handler_of(filter: Filter) -> Option<Sym>
 }
 
 /// The entry of a filter with the characters that came out, if any did.
-pub(crate) fn filter_entry(filter: Filter, p: u32, text: Chars, room: Values) -> Entry
+pub(crate) fn filter_entry(
+    filter: Filter,
+    p: u32,
+    text: Chars,
+    piece: PieceRoom,
+    room: Values,
+) -> Entry
     requires empty { items_of room ≡ [] }
     requires room { 2 ≤ spare_of room }
     ensures none { (result ≡ Entry.None) ↔ (text.items ≡ []) }
@@ -59,5 +64,5 @@ pub(crate) fn filter_entry(filter: Filter, p: u32, text: Chars, room: Values) ->
     if text.is_empty() {
         return Entry::None;
     }
-    Entry::Filter(handler_of(filter), arguments(room, p, text))
+    Entry::Filter(handler_of(filter), arguments(room, piece, p, text))
 }

@@ -3,7 +3,7 @@ ghost use Rattle.std.specs.Prelude.{◌≡◌, ◌≤◌, false, IfOk};
 
 use crate::told::LONGEST_TOLD;
 use ek_call::Values;
-use ek_types::{Chars, Mem};
+use ek_types::{Chars, Mem, PieceRoom};
 use process_table::Process;
 use std::alloc::Global;
 use std::marker::Model;
@@ -18,6 +18,7 @@ const MOST_HELD: usize = 3;
 #[derive(Drop)]
 pub struct Slot {
     pub(crate) text: Chars,
+    pub(crate) piece: PieceRoom,
     pub(crate) args: Values,
 }
 
@@ -40,9 +41,10 @@ pub fn ready(alloc: Global, p: &Process) -> Mem<Slot>
 {
     let mut text = Chars::new(alloc);
     text.reserve(needed(p))?;
+    let piece = PieceRoom::new(alloc)?;
     let mut args = Values::new(alloc);
     args.reserve(2)?;
-    Ok(Slot { text, args })
+    Ok(Slot { text, piece, args })
 }
 
 /// For how many characters the next answer of a process needs room.

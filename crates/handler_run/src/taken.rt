@@ -105,8 +105,8 @@ pub fn take_answer(alloc: Global, table: &mut Processes, p: u32, answer: &Answer
     }
 }
 
-/// Takes up that process `p` was killed, and says what is entered then. No host is asked. All memory is taken before: where
-/// it is wanting, nothing changes.
+/// Takes up that process `p` was killed, and says what is entered then. No host is asked. All memory is taken before:
+/// where it is wanting, nothing changes.
 pub fn take_kill(alloc: Global, table: &mut Processes, p: u32) -> Mem<Entry>
     requires { p < length table.old }
     ensures ok { IfOk result (TakesKill table.old table.new p) }

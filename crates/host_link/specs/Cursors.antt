@@ -29,7 +29,10 @@ abbrev pub fresh_cursor : Cursor
 fresh_cursor = record { reads = 0; bytes = 0; ends = 0 }
 
 abbrev pub rest_of : Play → Cursor → PlayState
-rest_of p c = record { reads = less_first c.bytes (drop c.reads (map answer_of (items_of p.reads))); ends = drop c.ends (map answer_of (items_of p.ends)) }
+rest_of p c = record {
+  reads = less_first c.bytes (drop c.reads (map answer_of (items_of p.reads)));
+  ends = drop c.ends (map answer_of (items_of p.ends));
+}
 
 -- what is left of all plays; those without a cursor are whole
 abbrev pub rests : List Play → List Cursor → List PlayState

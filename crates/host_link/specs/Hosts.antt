@@ -1,5 +1,6 @@
 -- What a host means, and what one call does to it.
-use Rattle.std.specs.Prelude.{◌≡◌, ℕ, ◌≤◌, Bool, true, false, IsTrue, List, [], ◌∷◌, ◌++◌, take, Option, Result, MatchResult}
+use Rattle.std.specs.Prelude.{◌≡◌, ℕ, ◌≤◌, Bool, true, false, IsTrue, List, [], ◌∷◌, ◌++◌, take, Option}
+use Rattle.std.specs.Prelude.{Result, MatchResult}
 use Rattle.std.specs.Option.{option_map}
 use Rattle.ek_types.specs.Io.{HasCause}
 use Rattle.plain_machine.specs.Exchanges as model
@@ -15,8 +16,8 @@ use Rattle.host_link.specs.declared.host.SendAnswer.TheVariants as sent
 use Rattle.host_link.specs.declared.host.KillAnswer.{KillAnswer}
 use Rattle.host_link.specs.declared.host.KillAnswer.TheVariants as killed
 
--- the exchanges so far, where the host tells them; its count of faults; and for each child that it has started, by
--- number, whether the child was asked Kill
+-- the exchanges so far, where the host tells them; its count of faults; and for each child that it has
+-- started, by number, whether the child was asked Kill
 pub record HostState : Type 0 where
   pub told : Option (List Exchange)
   pub faults : ℕ
@@ -71,11 +72,14 @@ Fits room (got.Bytes n) = (1 ≤ n) × (n ≤ room)
 Fits room _ = Unit {0}
 
 -- one exchange was made: it is told, where the host tells, and a fault has its cause in the count
-pub record Exchanged (old new : HostState) (children : List Bool) (ask : model.Ask) (answer : model.Answer) : Type 0 where
+pub record Exchanged (old new : HostState) (children : List Bool) (ask : model.Ask)
+    (answer : model.Answer) : Type 0 where
   pub told : new.told ≡ option_map (λ list. list ++ record { ask = ask; answer = answer } ∷ []) old.told
   pub kills : new.kills ≡ children
   pub cause : HasCause old.faults new.faults (IsTrue (is_fault answer))
 
 -- one exchange was made, or memory was wanting before anything was asked
-abbrev pub Asked : {T E : Type 0} → HostState → HostState → (T → List Bool) → model.Ask → (T → model.Answer) → Result T E → Type 0
-Asked old new children ask answer result = MatchResult result (λ x. Exchanged old new (children x) ask (answer x)) (λ _. new ≡ old)
+abbrev pub Asked : {T E : Type 0} → HostState → HostState → (T → List Bool) → model.Ask →
+    (T → model.Answer) → Result T E → Type 0
+Asked old new children ask answer result =
+    MatchResult result (λ x. Exchanged old new (children x) ask (answer x)) (λ _. new ≡ old)

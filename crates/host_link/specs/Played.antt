@@ -1,8 +1,11 @@
 -- A host in memory: what it answers, and what it is afterwards.
-use Rattle.std.specs.Prelude.{◌≡◌, ℕ, pos, nat_lt, Bool, true, false, if◌then◌else◌, List, [], ◌∷◌, ◌++◌, length, take, drop, get_or, slice_set, Some}
+use Rattle.std.specs.Prelude.{◌≡◌, ℕ, pos, nat_lt, Bool, true, false, if◌then◌else◌, List, [], ◌∷◌}
+use Rattle.std.specs.Prelude.{◌++◌, length, take, drop, get_or, slice_set, Some}
 use Rattle.ek_types.specs.Io.{next_count}
 use Rattle.ek_types.specs.MemoryIo.{fails_at}
-use Rattle.plain_machine.specs.Exchanges.{Ask, Answer, Exchange, Spawn, Read, AskEnd, Send, Close, Kill, Started, Refused, Bytes, Nothing, End, Code, Signal, Running, Sent, Broken, Closed, Killed, Failed}
+use Rattle.plain_machine.specs.Exchanges.{Ask, Answer, Exchange, Spawn, Read, AskEnd, Send, Close, Kill}
+use Rattle.plain_machine.specs.Exchanges.{Started, Refused, Bytes, Nothing, End, Code, Signal, Running}
+use Rattle.plain_machine.specs.Exchanges.{Sent, Broken, Closed, Killed, Failed}
 use Rattle.host_link.specs.Hosts.{HostState, is_fault}
 
 -- what a child still answers to reads, and to the question how it ended
@@ -10,9 +13,9 @@ pub record PlayState : Type 0 where
   pub reads : List Answer
   pub ends : List Answer
 
--- a host in memory: what is left of each child's play, also of the children that aren't started yet; whether each
--- child that was started was asked Kill; the numbers of the calls that fail; how many calls there were and how many
--- of them were faults; and the exchanges
+-- a host in memory: what is left of each child's play, also of the children that aren't started yet;
+-- whether each child that was started was asked Kill; the numbers of the calls that fail; how many calls
+-- there were and how many of them were faults; and the exchanges
 pub record MemoryHostState : Type 0 where
   pub plays : List PlayState
   pub kills : List Bool
@@ -72,7 +75,8 @@ play_of s child = get_or s.plays child (record { reads = []; ends = [] })
 -- a spawn past the last play is refused
 abbrev pub spawn_reply : MemoryHostState → Answer
 spawn_reply s =
-    if fails_now s then Refused else (if nat_lt (length s.kills) (length s.plays) then Started (length s.kills) else Refused)
+    if fails_now s then Refused else (if nat_lt (length s.kills) (length s.plays)
+    then Started (length s.kills) else Refused)
 
 abbrev pub read_reply : MemoryHostState → ℕ → ℕ → Answer
 read_reply s child room = if fails_now s then Failed else next_read room (play_of s child).reads
@@ -133,4 +137,5 @@ kills_after kills _ _ = kills
 abbrev pub Plays : MemoryHostState → MemoryHostState → Ask → ℕ → Answer → Type 0
 Plays old new ask room answer =
     (answer ≡ reply_to old ask room)
-    × (new ≡ after_exchange old (plays_after old ask room) (kills_after old.kills ask (reply_to old ask room)) ask (reply_to old ask room))
+    × (new ≡ after_exchange old (plays_after old ask room)
+    (kills_after old.kills ask (reply_to old ask room)) ask (reply_to old ask room))

@@ -63,8 +63,8 @@ pub trait Host {
     ghost state: { Self → HostState };
 
     /// What a call did, in the host's own words: the host before and after it, the ask, for how many bytes there was room
-    /// (0 but in a read), and the answer. Code over any host has this by the call alone. So whoever hands calls on shows by
-    /// it that each was made once, also where the host tells no exchanges.
+    /// (0 but in a read), and the answer. Code over any host has this by the call alone. So whoever hands calls on
+    /// shows by it that each was made once, also where the host tells no exchanges.
     ghost made: { Self → Self → Ask → ℕ → Answer → Type 0 } = { λ _ _ _ _ _. Unit {0} };
 
     /// Starts a program, where fewer than 2^32 - 1 children were started before. A child that is started has the next

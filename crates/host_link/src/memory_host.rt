@@ -24,8 +24,8 @@ use ek_types::Mem;
 use std::alloc::Global;
 use std::marker::Model;
 
-/// Starts a child for each of its plays, in their order, and refuses a spawn past the last one. It fails at the calls that
-/// it was told, and tells its exchanges.
+/// Starts a child for each of its plays, in their order, and refuses a spawn past the last one. It fails at the calls
+/// that it was told, and tells its exchanges.
 #[derive(Drop)]
 pub struct MemoryHost {
     plays: Vec<Play>,
@@ -59,9 +59,9 @@ impl Model for MemoryHost {
 }
 
 impl MemoryHost {
-    /// A host that has started no child, and takes its memory where `plays` takes it. The calls whose numbers, from 0 over
-    /// all calls but `told`, stand in `fails` answer `Refused`, `Failed` or `Broken` by their kind and use up no answer of
-    /// a play; a call of `close` can't fail. A call that answers `NoMemory` isn't counted.
+    /// A host that has started no child, and takes its memory where `plays` takes it. The calls whose numbers, from 0
+    /// over all calls but `told`, stand in `fails` answer `Refused`, `Failed` or `Broken` by their kind and use up no
+    /// answer of a play; a call of `close` can't fail. A call that answers `NoMemory` isn't counted.
     pub fn new(plays: Vec<Play>, fails: Vec<u32>) -> MemoryHost
         ensures { result ≡ record {
           plays = map whole_play plays.items;
@@ -136,11 +136,14 @@ fn read_or_fail(
 ) -> Mem<Turn<Got>>
     requires { 0 < length into.old }
     ensures told { IfOk result
-        (λ t. answer_of t.answer ≡ (if fails then Failed else next_read (length into.old) (rest_of play.now cursor).reads)) }
+        (λ t. answer_of t.answer ≡ (if fails then Failed
+        else next_read (length into.old) (rest_of play.now cursor).reads)) }
     ensures got { IfOk result (λ t. got_answer into.new t.reply ≡ answer_of t.answer) }
     ensures fits { IfOk result (λ t. Fits (length into.old) t.reply) }
     ensures rest { IfOk result
-        (λ t. rest_of play.now t.cursor ≡ (if fails then rest_of play.now cursor else record (rest_of play.now cursor) { reads = after_read (length into.old) (rest_of play.now cursor).reads })) }
+        (λ t. rest_of play.now t.cursor ≡ (if fails then rest_of play.now cursor
+        else record (rest_of play.now cursor)
+        { reads = after_read (length into.old) (rest_of play.now cursor).reads })) }
     ensures room { IfOk result (λ t. into.new ≡ room_after into.old (answer_of t.answer)) }
     ensures room_kept { OnErr result (into.new ≡ into.old) }
 {
@@ -160,7 +163,8 @@ fn end_or_fail(fails: bool, play: &Play, cursor: Cursor) -> Turn<Ended>
         (if fails then Failed else next_end (rest_of play.now cursor).ends) }
     ensures same { ended_answer result.reply ≡ answer_of result.answer }
     ensures rest { rest_of play.now result.cursor ≡
-        (if fails then rest_of play.now cursor else record (rest_of play.now cursor) { ends = drop 1 (rest_of play.now cursor).ends }) }
+        (if fails then rest_of play.now cursor
+        else record (rest_of play.now cursor) { ends = drop 1 (rest_of play.now cursor).ends }) }
 {
     if fails {
         return Turn {

@@ -14,8 +14,8 @@ use ek_types::Mem;
 use std::alloc::Global;
 
 /// The answers of one child, to reads and to the question how it ended. Past the last one a read answers `End`, and
-/// the child has ended with code 0. Bytes that the room of a read doesn't hold come next. No bytes count as `Nothing`, and
-/// so do answers of another kind; to the question how it ended these count as `Running`.
+/// the child has ended with code 0. Bytes that the room of a read doesn't hold come next. No bytes count as
+/// `Nothing`, and so do answers of another kind; to the question how it ended these count as `Running`.
 #[derive(Drop)]
 pub struct Play {
     pub reads: Answers,
@@ -57,7 +57,8 @@ fn read_bytes(alloc: Global, bytes: &[u8], given: usize, into: &mut [u8]) -> Mem
     requires { 0 < length into.old }
     ensures turn { IfOk result (IsReadTurn (Bytes (drop given bytes.now)) (length into.old) into.new) }
     ensures left { IfOk result
-        (λ t. left_of (length into.old) (Bytes (drop given bytes.now)) ≡ (if t.used then [] else Bytes (drop t.given bytes.now) ∷ [])) }
+        (λ t. left_of (length into.old) (Bytes (drop given bytes.now)) ≡
+        (if t.used then [] else Bytes (drop t.given bytes.now) ∷ [])) }
     ensures room { IfOk result (λ t. into.new ≡ room_after into.old (answer_of t.answer)) }
     ensures room_kept { OnErr result (into.new ≡ into.old) }
 {
@@ -83,7 +84,8 @@ fn read_answer(alloc: Global, answer: &Answer, given: usize, into: &mut [u8]) ->
     ensures turn { IfOk result (IsReadTurn (less given (answer_of answer.now)) (length into.old)
         into.new) }
     ensures left { IfOk result
-        (λ t. left_of (length into.old) (less given (answer_of answer.now)) ≡ (if t.used then [] else less t.given (answer_of answer.now) ∷ [])) }
+        (λ t. left_of (length into.old) (less given (answer_of answer.now)) ≡
+        (if t.used then [] else less t.given (answer_of answer.now) ∷ [])) }
     ensures room { IfOk result (λ t. into.new ≡ room_after into.old (answer_of t.answer)) }
     ensures room_kept { OnErr result (into.new ≡ into.old) }
 {
@@ -147,7 +149,8 @@ pub(crate) fn read_play(
     ensures got { IfOk result (λ t. got_answer into.new t.reply ≡ answer_of t.answer) }
     ensures fits { IfOk result (λ t. Fits (length into.old) t.reply) }
     ensures rest { IfOk result
-        (λ t. rest_of play.now t.cursor ≡ record (rest_of play.now cursor) { reads = after_read (length into.old) (rest_of play.now cursor).reads }) }
+        (λ t. rest_of play.now t.cursor ≡ record (rest_of play.now cursor)
+        { reads = after_read (length into.old) (rest_of play.now cursor).reads }) }
     ensures room { IfOk result (λ t. into.new ≡ room_after into.old (answer_of t.answer)) }
     ensures room_kept { OnErr result (into.new ≡ into.old) }
 {

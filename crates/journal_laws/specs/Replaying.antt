@@ -15,18 +15,23 @@ pub record SameParts (exchanges journal : List Exchange) (bytes script : List �
 -- A session has one journal, and one rest behind it.
 abbrev pub OneSession : Type 0
 OneSession =
-    (exchanges journal : List Exchange) (bytes script : List ℕ) → IsJournal exchanges → IsJournal journal → session exchanges bytes ≡ session journal script → SameParts exchanges journal bytes script
+    (exchanges journal : List Exchange) (bytes script : List ℕ) → IsJournal exchanges →
+    IsJournal journal → session exchanges bytes ≡ session journal script →
+    SameParts exchanges journal bytes script
 
 -- All whole runs of a script over the same exchanges write the same.
 abbrev pub OneText : Program → (bound : ℕ) → Script → Type 0
 OneText program bound script =
-    (exchanges : List Exchange) (lines others : List ℕ) → Ran program bound script exchanges lines → Ran program bound script exchanges others → others ≡ lines
+    (exchanges : List Exchange) (lines others : List ℕ) → Ran program bound script exchanges lines →
+    Ran program bound script exchanges others → others ≡ lines
 
--- A script was run, and its exchanges have lines. Their session is that of a journal and the bytes of a script, and this script's run
--- over this journal has ended with all of it used up. So what that writes is what the first run wrote.
+-- A script was run, and its exchanges have lines. Their session is that of a journal and the bytes of a
+-- script, and this script's run over this journal has ended with all of it used up. So what that writes is
+-- what the first run wrote.
 abbrev pub OneReplay : (Script → Program) → (bound : ℕ) → Type 0
 OneReplay program bound =
     (exchanges journal : List Exchange) (bytes rest lines written : List ℕ) (script other : Script) →
     IsJournal exchanges → IsScript bytes script → Ran (program script) bound script exchanges lines →
-    session exchanges bytes ≡ session journal rest → IsJournal journal → IsScript rest other → Ran (program other) bound other journal written →
+    session exchanges bytes ≡ session journal rest → IsJournal journal → IsScript rest other →
+    Ran (program other) bound other journal written →
     written ≡ lines

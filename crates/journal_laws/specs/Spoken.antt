@@ -11,7 +11,9 @@ use Rattle.journal_text.specs.Lined.{IsSpoken}
 abbrev pub AreSpoken : List Exchange → Type 0
 AreSpoken exchanges = AllByRecursion (λ x. IsSpoken x.ask) exchanges
 
--- Each program that a run of a script starts has a name, none of its words has the byte 0, and what it sends isn't empty.
+-- Each program that a run of a script starts has a name, none of its words has the byte 0, and what it
+-- sends isn't empty.
 abbrev pub AsksAreSpoken : Program → (bound : ℕ) → Script → Type 0
 AsksAreSpoken program bound script =
-    (exchanges : List Exchange) (said : List Said) (c : Config) → Reaches program bound (start script) exchanges said c → AreSpoken exchanges
+    (exchanges : List Exchange) (said : List Said) (c : Config) →
+    Reaches program bound (start script) exchanges said c → AreSpoken exchanges

@@ -1,7 +1,10 @@
 -- Which answers an ask may have, and which exchanges have lines.
-use Rattle.std.specs.Prelude.{◌≡◌, ℕ, ◌+◌, ◌^◌, ◌<◌, ◌≤◌, ◌==◌, Bool, not, IsTrue, ℤ, pos, negsuc, List, [], ◌∷◌, length, IsUtf8}
+use Rattle.std.specs.Prelude.{◌≡◌, ℕ, ◌+◌, ◌^◌, ◌<◌, ◌≤◌, ◌==◌, Bool, not, IsTrue, ℤ, pos, negsuc, List}
+use Rattle.std.specs.Prelude.{[], ◌∷◌, length, IsUtf8}
 use Rattle.std.specs.List.{AllByRecursion, list_all}
-use Rattle.plain_machine.specs.Exchanges.{Ask, Answer, Exchange, Spawn, Read, AskEnd, Send, Close, Kill, Started, Refused, Bytes, Nothing, End, Code, Signal, Running, Sent, Broken, Closed, Killed, Failed, started_by}
+use Rattle.plain_machine.specs.Exchanges.{Ask, Answer, Exchange, Spawn, Read, AskEnd, Send, Close, Kill}
+use Rattle.plain_machine.specs.Exchanges.{Started, Refused, Bytes, Nothing, End, Code, Signal, Running}
+use Rattle.plain_machine.specs.Exchanges.{Sent, Broken, Closed, Killed, Failed, started_by}
 
 -- ANSWERS
 -- a child that is started has the next number

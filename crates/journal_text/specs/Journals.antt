@@ -19,6 +19,7 @@ pub record IsFaultLine (bytes : List ℕ) (n : ℕ) : Type 0 where
   pub rest : List ℕ
   pub lines : IsJournal list
   pub front : bytes ≡ journal list ++ rest
-  pub last : (x : Exchange) (more : List ℕ) → IsLine (length (children_started list)) x → rest ≡ line x ++ more → ⊥
+  pub last : (x : Exchange) (more : List ℕ) → IsLine (length (children_started list)) x →
+      rest ≡ line x ++ more → ⊥
   pub unended : (script : List ℕ) → rest ≡ codes "script\n" ++ script → ⊥
   pub number : n ≡ 1 + length list

@@ -8,12 +8,15 @@ use Rattle.journal_text.specs.declared.lined.LinedHost.{LinedHost}
 
 -- what is left to whoever asks: a program has a name, no word has the byte 0, and what is sent isn't empty
 abbrev pub IsSpoken : Ask → Type 0
-IsSpoken (Spawn program args) = (1 ≤ length program) × IsTrue (has_no_zero program) × AllByRecursion (λ w. IsTrue (has_no_zero w)) args
+IsSpoken (Spawn program args) =
+    (1 ≤ length program) × IsTrue (has_no_zero program) × AllByRecursion (λ w. IsTrue (has_no_zero w)) args
 IsSpoken (Send child bytes) = 1 ≤ length bytes
 IsSpoken _ = Unit {0}
 
 -- the call was made once on the inner host, and its exchange has a line
-pub record HandsLine {H : Type 0} (state : H → HostState) (made : H → H → Ask → ℕ → Answer → Type 0) (old new : LinedHost H) (ask : Ask) (room : ℕ) (answer : Answer) : Type 0 where
+pub record HandsLine {H : Type 0} (state : H → HostState) (made : H → H → Ask → ℕ → Answer → Type 0)
+    (old new : LinedHost H) (ask : Ask) (room : ℕ) (answer : Answer) : Type 0 where
   pub once : made old.inner.now new.inner.now ask room answer
-  pub line : room ≤ 4096 → IsSpoken ask → IsLine (length (state old.inner.now).kills) (record { ask = ask; answer = answer })
+  pub line : room ≤ 4096 → IsSpoken ask →
+      IsLine (length (state old.inner.now).kills) (record { ask = ask; answer = answer })
   pub same_reference : new.inner.ghost_name ≡ old.inner.ghost_name

@@ -1,7 +1,11 @@
--- The text of exchanges: a line for each, and behind the last one a line `script` and a script; or claimed lines first.
-use Rattle.std.specs.Prelude.{ℕ, ◌+◌, ◌/◌, ◌%◌, nat_lt, if◌then◌else◌, List, [], ◌∷◌, ◌++◌, length, codes, decimal, flat_map}
+-- The text of exchanges: a line for each, and behind the last one a line `script` and a script; or claimed
+-- lines first.
+use Rattle.std.specs.Prelude.{ℕ, ◌+◌, ◌/◌, ◌%◌, nat_lt, if◌then◌else◌, List, [], ◌∷◌, ◌++◌, length}
+use Rattle.std.specs.Prelude.{codes, decimal, flat_map}
 use Rattle.plain_machine.specs.Lines.{shown_int}
-use Rattle.plain_machine.specs.Exchanges.{Ask, Answer, Exchange, Spawn, Read, AskEnd, Send, Close, Kill, Started, Refused, Bytes, Nothing, End, Code, Signal, Running, Sent, Broken, Closed, Killed, Failed}
+use Rattle.plain_machine.specs.Exchanges.{Ask, Answer, Exchange, Spawn, Read, AskEnd, Send, Close, Kill}
+use Rattle.plain_machine.specs.Exchanges.{Started, Refused, Bytes, Nothing, End, Code, Signal, Running}
+use Rattle.plain_machine.specs.Exchanges.{Sent, Broken, Closed, Killed, Failed}
 
 -- BYTES: two lower-case hexadecimal digits for each
 abbrev pub hex_digit : ℕ → ℕ

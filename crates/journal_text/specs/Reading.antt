@@ -1,9 +1,13 @@
 -- Reading from left to right: what stands at the front of some bytes, and what follows it.
-use Rattle.std.specs.Prelude.{ℕ, zero, suc, ◌+◌, ◌*◌, ◌-◌, ◌^◌, ◌==◌, nat_lt, nat_le, ℤ, pos, neg_ℤ, Bool, true, false, not, ◌&&◌, ◌||◌, if◌then◌else◌, List, [], ◌∷◌, length, take, drop, codes, Option, Some, None}
+use Rattle.std.specs.Prelude.{ℕ, zero, suc, ◌+◌, ◌*◌, ◌-◌, ◌^◌, ◌==◌, nat_lt, nat_le, ℤ, pos, neg_ℤ}
+use Rattle.std.specs.Prelude.{Bool, true, false, not, ◌&&◌, ◌||◌, if◌then◌else◌, List, [], ◌∷◌, length}
+use Rattle.std.specs.Prelude.{take, drop, codes, Option, Some, None}
 use Rattle.std.specs.List.{prefix_len}
 use Rattle.std.specs.Str.{is_utf8}
 use Rattle.plain_machine.specs.Words.{is_digit, begins_with, digits_value}
-use Rattle.plain_machine.specs.Exchanges.{Ask, Answer, Exchange, Spawn, Read, AskEnd, Send, Close, Kill, Started, Refused, Bytes, Nothing, End, Code, Signal, Running, Sent, Broken, Closed, Killed, Failed}
+use Rattle.plain_machine.specs.Exchanges.{Ask, Answer, Exchange, Spawn, Read, AskEnd, Send, Close, Kill}
+use Rattle.plain_machine.specs.Exchanges.{Started, Refused, Bytes, Nothing, End, Code, Signal, Running}
+use Rattle.plain_machine.specs.Exchanges.{Sent, Broken, Closed, Killed, Failed}
 use Rattle.journal_text.specs.Allowed.{has_no_zero}
 
 infixl 10 ◌>>=◌
@@ -39,7 +43,9 @@ then_end r = behind (codes "\n") r.1 >>= (λ rest. Some (r.0, rest))
 -- some digits without leading zeros, below 2^32
 abbrev pub is_number : List ℕ → Bool
 is_number digits =
-    nat_le 1 (length digits) && (nat_le (length digits) 10 && ((length digits == 1 || not (begins_with (λ c. c == 48) digits)) && nat_lt (digits_value 0 digits) (2 ^ 32)))
+    nat_le 1 (length digits) && (nat_le (length digits) 10 &&
+    ((length digits == 1 || not (begins_with (λ c. c == 48) digits)) &&
+    nat_lt (digits_value 0 digits) (2 ^ 32)))
 
 abbrev pub number_by : (digits rest : List ℕ) → Found ℕ
 number_by digits rest = if is_number digits then Some (digits_value 0 digits, rest) else None
@@ -55,7 +61,8 @@ abbrev pub below_zero : ℕ × List ℕ → Found ℤ
 below_zero r = if nat_le 1 r.0 && nat_le r.0 (2 ^ 31) then Some (neg_ℤ (pos r.0), r.1) else None
 
 abbrev pub code_at : List ℕ → Found ℤ
-code_at bytes = choose (behind (codes "-") bytes) (λ rest. number_at rest >>= below_zero) (number_at bytes >>= from_zero)
+code_at bytes =
+    choose (behind (codes "-") bytes) (λ rest. number_at rest >>= below_zero) (number_at bytes >>= from_zero)
 
 -- BYTES
 abbrev pub is_hex : ℕ → Bool
@@ -103,7 +110,8 @@ with_word more r = more r.1 >>= (λ words. Some (r.0 ∷ words.0, words.1))
 -- arguments up to an arrow, fewer than so many
 abbrev pub words_within : ℕ → List ℕ → Found (List (List ℕ))
 words_within zero bytes = None
-words_within (suc n) bytes = choose (behind arrow bytes) (λ rest. Some ([], rest)) (led_word_at bytes >>= with_word (words_within n))
+words_within (suc n) bytes =
+    choose (behind arrow bytes) (λ rest. Some ([], rest)) (led_word_at bytes >>= with_word (words_within n))
 
 -- there are fewer than there are bytes
 abbrev pub words_at : List ℕ → Found (List (List ℕ))
@@ -111,7 +119,8 @@ words_at bytes = words_within (suc (length bytes)) bytes
 
 -- ASKS, each with the arrow behind it
 abbrev pub spawn_at : List ℕ → Found Ask
-spawn_at bytes = text_at bytes >>= (λ program. words_at program.1 >>= (λ args. Some (Spawn program.0 args.0, args.1)))
+spawn_at bytes =
+    text_at bytes >>= (λ program. words_at program.1 >>= (λ args. Some (Spawn program.0 args.0, args.1)))
 
 abbrev pub child_at : List ℕ → Found ℕ
 child_at bytes = number_at bytes >>= then_arrow
@@ -133,7 +142,8 @@ ask_child_at bytes =
     (behind (codes "kill ") bytes >>= ask_of_child Kill)))
 
 abbrev pub ask_at : List ℕ → Found Ask
-ask_at bytes = choose (behind (codes "spawn ") bytes) spawn_at (choose (behind (codes "send ") bytes) send_at (ask_child_at bytes))
+ask_at bytes = choose (behind (codes "spawn ") bytes) spawn_at
+    (choose (behind (codes "send ") bytes) send_at (ask_child_at bytes))
 
 -- ANSWERS, each with the line's end behind it
 abbrev pub as_started : (next : ℕ) → ℕ × List ℕ → Found Answer
@@ -143,7 +153,8 @@ abbrev pub fixed : Answer → List ℕ → Found Answer
 fixed answer rest = Some (answer, rest)
 
 abbrev pub spawned_at : (next : ℕ) → List ℕ → Found Answer
-spawned_at next bytes = choose (behind (codes "refused\n") bytes) (fixed Refused) (behind (codes "started ") bytes >>= number_at >>= as_started next)
+spawned_at next bytes = choose (behind (codes "refused\n") bytes) (fixed Refused)
+    (behind (codes "started ") bytes >>= number_at >>= as_started next)
 
 abbrev pub as_bytes : List ℕ × List ℕ → Found Answer
 as_bytes r = if nat_le (length r.0) 4096 then then_end (Bytes r.0, r.1) else None
@@ -166,16 +177,19 @@ abbrev pub ended_at : List ℕ → Found Answer
 ended_at bytes =
     choose (behind (codes "code ") bytes) (λ rest. code_at rest >>= as_code)
     (choose (behind (codes "signal\n") bytes) (fixed Signal)
-    (choose (behind (codes "running\n") bytes) (fixed Running) (behind (codes "failed\n") bytes >>= fixed Failed)))
+    (choose (behind (codes "running\n") bytes) (fixed Running)
+    (behind (codes "failed\n") bytes >>= fixed Failed)))
 
 abbrev pub sent_at : List ℕ → Found Answer
-sent_at bytes = choose (behind (codes "sent\n") bytes) (fixed Sent) (behind (codes "broken\n") bytes >>= fixed Broken)
+sent_at bytes =
+    choose (behind (codes "sent\n") bytes) (fixed Sent) (behind (codes "broken\n") bytes >>= fixed Broken)
 
 abbrev pub closed_at : List ℕ → Found Answer
 closed_at bytes = behind (codes "closed\n") bytes >>= fixed Closed
 
 abbrev pub killed_at : List ℕ → Found Answer
-killed_at bytes = choose (behind (codes "killed\n") bytes) (fixed Killed) (behind (codes "failed\n") bytes >>= fixed Failed)
+killed_at bytes =
+    choose (behind (codes "killed\n") bytes) (fixed Killed) (behind (codes "failed\n") bytes >>= fixed Failed)
 
 abbrev pub answer_at : (next : ℕ) → Ask → List ℕ → Found Answer
 answer_at next (Spawn program args) bytes = spawned_at next bytes
@@ -187,7 +201,8 @@ answer_at next (Kill child) bytes = killed_at bytes
 
 -- LINES
 abbrev pub with_answer : (next : ℕ) → Ask × List ℕ → Found Exchange
-with_answer next r = answer_at next r.0 r.1 >>= (λ answer. Some ((record { ask = r.0; answer = answer.0 }), answer.1))
+with_answer next r =
+    answer_at next r.0 r.1 >>= (λ answer. Some ((record { ask = r.0; answer = answer.0 }), answer.1))
 
 abbrev pub line_at : (next : ℕ) → List ℕ → Found Exchange
 line_at next bytes = ask_at bytes >>= with_answer next
@@ -198,4 +213,5 @@ abbrev pub counted_off : ℕ × List ℕ → Found (List ℕ)
 counted_off r = if nat_le r.0 (length r.1) then Some (take r.0 r.1, drop r.0 r.1) else None
 
 abbrev pub claim_at : List ℕ → Found (List ℕ)
-claim_at bytes = behind (codes "lines ") bytes >>= (λ rest. number_at rest >>= (λ n. then_end n >>= counted_off))
+claim_at bytes =
+    behind (codes "lines ") bytes >>= (λ rest. number_at rest >>= (λ n. then_end n >>= counted_off))

@@ -1,13 +1,17 @@
 -- A host that answers as a list of exchanges has it: what it means, and what a call does to it.
-use Rattle.std.specs.Prelude.{◌≡◌, ℕ, ◌+◌, ◌≤◌, Bool, true, false, not, if◌then◌else◌, List, [], ◌∷◌, ◌++◌, length, take, slice_get, Some}
+use Rattle.std.specs.Prelude.{◌≡◌, ℕ, ◌+◌, ◌≤◌, Bool, true, false, not, if◌then◌else◌, List, [], ◌∷◌}
+use Rattle.std.specs.Prelude.{◌++◌, length, take, slice_get, Some}
 use Rattle.ek_types.specs.Io.{next_count}
-use Rattle.plain_machine.specs.Exchanges.{Ask, Answer, Exchange, Spawn, Read, AskEnd, Send, Close, Kill, Refused, Bytes, Broken, Closed, Failed, children_started, started_by}
+use Rattle.plain_machine.specs.Exchanges.{Ask, Answer, Exchange, Spawn, Read, AskEnd, Send, Close, Kill}
+use Rattle.plain_machine.specs.Exchanges.{Refused, Bytes, Broken, Closed, Failed, children_started}
+use Rattle.plain_machine.specs.Exchanges.{started_by}
 use Rattle.host_link.specs.Hosts.{HostState, is_fault}
 use Rattle.host_link.specs.Played.{kills_after}
 use Rattle.journal_text.specs.Allowed.{IsAnswerTo}
 
--- the exchanges that it answers by; how many of them it has answered; whether an ask has differed or found them used
--- up; which children were asked Kill; how many answers were faults; and the exchanges that were made
+-- the exchanges that it answers by; how many of them it has answered; whether an ask has differed or found
+-- them used up; which children were asked Kill; how many answers were faults; and the exchanges that were
+-- made
 pub record ReplayState : Type 0 where
   pub list : List Exchange
   pub matched : ℕ
@@ -34,7 +38,8 @@ HasRoom room (Bytes bytes) = length bytes ≤ room
 HasRoom room _ = Unit {0}
 
 -- an exchange comes next in the list, and an ask agrees with it
-pub record Agrees (strayed : Bool) (list : List Exchange) (at : ℕ) (ask : Ask) (room : ℕ) (x : Exchange) : Type 0 where
+pub record Agrees (strayed : Bool) (list : List Exchange) (at : ℕ) (ask : Ask) (room : ℕ)
+    (x : Exchange) : Type 0 where
   pub on : strayed ≡ false
   pub next : slice_get list at ≡ Some x
   pub same : x.ask ≡ ask
@@ -51,11 +56,14 @@ stray_answer (Kill child) = Failed
 
 -- the answer is the one of the next exchange, with which the ask agrees; or the ask strays
 abbrev pub IsReply : Bool → List Exchange → (at : ℕ) → Ask → (room : ℕ) → (follows : Bool) → Answer → Type 0
-IsReply strayed list at ask room true answer = (x : Exchange) × Agrees strayed list at ask room x × (answer ≡ x.answer)
-IsReply strayed list at ask room false answer = ((x : Exchange) → Agrees strayed list at ask room x → ⊥) × (answer ≡ stray_answer ask)
+IsReply strayed list at ask room true answer =
+    (x : Exchange) × Agrees strayed list at ask room x × (answer ≡ x.answer)
+IsReply strayed list at ask room false answer =
+    ((x : Exchange) → Agrees strayed list at ask room x → ⊥) × (answer ≡ stray_answer ask)
 
 -- what a reply comes to, and how many exchanges of the list are answered then
-pub record Replied (strayed : Bool) (list : List Exchange) (at : ℕ) (ask : Ask) (room : ℕ) (follows : Bool) (matched : ℕ) (answer : Answer) : Type 0 where
+pub record Replied (strayed : Bool) (list : List Exchange) (at : ℕ) (ask : Ask) (room : ℕ)
+    (follows : Bool) (matched : ℕ) (answer : Answer) : Type 0 where
   pub reply : IsReply strayed list at ask room follows answer
   pub matched_is : matched ≡ (if follows then at + 1 else at)
   pub within : matched ≤ length list

@@ -6,7 +6,8 @@ ghost use Rattle.plain_machine.specs.Grammar.{line_feeds};
 ghost use Rattle.journal_text.specs.Lines.{session, transcript};
 ghost use Rattle.journal_text.specs.Allowed.{IsJournal, AreAnswered};
 ghost use Rattle.journal_text.specs.Journals.{IsReadTo, HasNoJournal, IsFaultLine};
-ghost use Rattle.journal_text.specs.Transcripts.{IsTranscriptTo, IsPlaced, HasNoTranscript, IsLinedFront, IsTranscriptFault};
+ghost use Rattle.journal_text.specs.Transcripts.{IsTranscriptTo, IsPlaced, HasNoTranscript};
+ghost use Rattle.journal_text.specs.Transcripts.{IsLinedFront, IsTranscriptFault};
 
 use crate::exchange::exchange;
 use crate::pieces::{behind, claim};
@@ -99,8 +100,8 @@ pub struct Transcript {
     pub script: usize,
 }
 
-/// The parts of a transcript. Behind its journal stand the line `lines N`, N bytes of claimed lines, the line `script` and the
-/// script. At most 268,435,456 bytes are given. They are read in one go from left to right.
+/// The parts of a transcript. Behind its journal stand the line `lines N`, N bytes of claimed lines, the line
+/// `script` and the script. At most 268,435,456 bytes are given. They are read in one go from left to right.
 pub fn read_transcript(alloc: Global, bytes: &[u8]) -> Result<Transcript, JournalFault>
     requires { length bytes.now ≤ 268435456 }
     ensures read { IfOk result (λ t. IsTranscriptTo bytes.now (exchanges_of t.journal) t.from t.to t.script) }

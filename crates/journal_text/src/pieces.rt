@@ -42,7 +42,9 @@ fn begins_with_zero(digits: &[u8]) -> bool
 
 /// Whether digits are few enough, and have no leading zeros.
 fn is_short(digits: &[u8]) -> bool
-    ensures { result ≡ (nat_le 1 (length digits.now) && (nat_le (length digits.now) 10 && (length digits.now == 1 || not (begins_with (λ c. c == 48) digits.now)))) }
+    ensures { result ≡ (nat_le 1 (length digits.now) &&
+        (nat_le (length digits.now) 10 && (length digits.now == 1 ||
+        not (begins_with (λ c. c == 48) digits.now)))) }
 {
     1 <= digits.len() && digits.len() <= 10 && (digits.len() == 1 || !begins_with_zero(digits))
 }

@@ -23,10 +23,10 @@ use host_link::{
 use std::alloc::Global;
 use std::marker::Model;
 
-/// Answers the asks of a run as a list of exchanges has them, while they agree, and tells its own exchanges. From the first
-/// ask on that differs, or that finds the list used up, it answers `Refused`, `Failed`, `Broken` or `Closed` by the ask's
-/// kind. A read whose bytes are longer than the room that it gives is an ask that differs. The count of faults rises with
-/// each `Refused`, `Failed` and `Broken`, whether it stands in the list or not.
+/// Answers the asks of a run as a list of exchanges has them, while they agree, and tells its own exchanges. From the
+/// first ask on that differs, or that finds the list used up, it answers `Refused`, `Failed`, `Broken` or `Closed` by
+/// the ask's kind. A read whose bytes are longer than the room that it gives is an ask that differs. The count of
+/// faults rises with each `Refused`, `Failed` and `Broken`, whether it stands in the list or not.
 #[derive(Drop)]
 pub struct Replay {
     list: Exchanges,
@@ -69,8 +69,8 @@ fn add_child(kills: &mut Vec<bool>, spawned: Spawned)
 }
 
 impl Replay {
-    /// A host that has answered nothing yet, and takes its memory where `list` takes it. Each ask of the list has an answer
-    /// that it may have, and children are numbered from 0 in their order.
+    /// A host that has answered nothing yet, and takes its memory where `list` takes it. Each ask of the list has an
+    /// answer that it may have, and children are numbered from 0 in their order.
     pub fn new(list: Exchanges) -> Replay
         requires { AreAnswered 0 (exchanges_of list) }
         ensures { result ≡ new_replay (exchanges_of list) }

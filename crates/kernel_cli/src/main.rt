@@ -8,15 +8,21 @@ use host_link::{Host, Recorder};
 use kernel_top::{drill, drill_of};
 use shipped_run::{Failure, result_of, run_shipped};
 use std::env;
-use std::io::{self, Write};
+use std::io::{self, ErrorKind, Write};
 use std::process::ExitCode;
 use system_host::{Hand, Output, ReaderSource, RealHost, WriterSink};
 
-/// The words behind the program's name. One that isn't UTF-8 is none that the program knows.
+/// Why the words weren't had: one that isn't UTF-8 is none that the program knows, and all else is want of memory.
+fn refused(error: &io::Error) -> Failure {
+    match error.kind() {
+        ErrorKind::InvalidData => Failure::Usage,
+        _ => Failure::Memory,
+    }
+}
+
+/// The words behind the program's name.
 fn words(rt: &HostRuntime) -> Result<Vec<String>, Failure> {
-    let Ok(args) = env::args(rt) else {
-        return Err(Failure::Usage);
-    };
+    let args = env::args(rt).map_err(|error| refused(&error))?;
     args.skip(1)
         .collect(rt.alloc())
         .map_err(|_| Failure::Memory)

@@ -127,7 +127,8 @@ fn a_source_that_fails_writes_and_asks_nothing(rt: HostRuntime) {
     }
 }
 
-/// A run whose sink fails at a call has written a front of the lines, and leaves no child. Says whether it makes that call.
+/// A run whose sink fails at a call has written a front of the lines, and leaves no child. Says whether it makes that
+/// call.
 fn fails_to_write(rt: &impl Abort, alloc: Global, run: &Run, whole: &Exchanges, call: u32) -> bool {
     let to = Calls {
         piece: 1000,

@@ -32,7 +32,7 @@ fn list_of(rt: &impl Abort, alloc: Global, symbol: u32) -> Value {
 fn letter(rt: &impl Abort, alloc: Global, c: char) -> Value {
     let mut text = Chars::new(alloc);
     text.push(Ch::Scalar(c)).expect(rt, "memory");
-    Value::Str(Piece::plain(alloc, text))
+    Value::Str(Piece::plain(alloc, text).expect(rt, "memory"))
 }
 
 /// A native with no calls yet.

@@ -131,8 +131,8 @@ fn a_view_asks_what_the_run_asks(rt: HostRuntime) {
     }
 }
 
-/// A front of the view stands in a sink with so much room. The run was made whole before anything is written, so its child
-/// is killed, too.
+/// A front of the view stands in a sink with so much room. The run was made whole before anything is written, so its
+/// child is killed, too.
 fn is_cut(rt: &impl Abort, alloc: Global, room: usize) {
     let script = "(start-process \"c\" nil \"cat\")(insert \"view\")";
     let whole = run_script(rt, alloc, script, plays(rt, alloc, &KILLED), PLAIN);

@@ -10,8 +10,8 @@ use kernel_state::KernelState;
 use process_table::Processes;
 use std::alloc::Global;
 
-/// A kernel: all that a run keeps. It stands for the state of the plain machine (`state_of`), where of all bytes read from a
-/// process it keeps what may still become a character.
+/// A kernel: all that a run keeps. It stands for the state of the plain machine (`state_of`), where of all bytes read
+/// from a process it keeps what may still become a character.
 pub struct Kernel {
     pub(crate) state: KernelState,
 }

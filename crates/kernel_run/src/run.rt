@@ -19,13 +19,13 @@ use kernel_state::RunProgram;
 use kernel_steps::{Stop, run_script};
 
 impl Kernel {
-    /// Runs the forms of a script on a kernel that is new, kills the children that still run, and writes the lines and the
-    /// dump. The natives are handlers under their names, where the script has none of that name.
+    /// Runs the forms of a script on a kernel that is new, kills the children that still run, and writes the lines
+    /// and the dump. The natives are handlers under their names, where the script has none of that name.
     ///
-    /// Where it succeeds the lines are those of the plain machine's whole run, and the kernel stands for its last state. A
-    /// run that was broken off says how far the machine came; each child that lived then was asked to be killed, once.
-    /// Filters are entered with just what was read, sentinels come last, and undoing back to a kept boundary gives its
-    /// text back. The exchanges are the calls on the host.
+    /// Where it succeeds the lines are those of the plain machine's whole run, and the kernel stands for its last
+    /// state. A run that was broken off says how far the machine came; each child that lived then was asked to be
+    /// killed, once. Filters are entered with just what was read, sentinels come last, and undoing back to a kept
+    /// boundary gives its text back. The exchanges are the calls on the host.
     pub fn run_script<K: Sink, H: Host, N: Natives>(
         &mut self,
         script: &Script,

@@ -14,4 +14,5 @@ name_at s p = elim (process s p) [ Some x ↦ x.name | None ↦ [] ]
 
 -- the insertion of a text at the mark of a process; nothing without a live buffer
 abbrev pub text_prepared : State → (p : ℕ) → List Cell → Prepared
-text_prepared s p text = elim (process_buffer_of s p) [ None ↦ Nothing Nil | Some b ↦ prepare_output s.editor b (mark_of_process s p) text ]
+text_prepared s p text = elim (process_buffer_of s p)
+    [ None ↦ Nothing Nil | Some b ↦ prepare_output s.editor b (mark_of_process s p) text ]

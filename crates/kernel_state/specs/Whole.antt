@@ -14,7 +14,12 @@ Doing = ℕ → List Value → List Reply → Option (Prim × List Value)
 
 -- the script's handlers and the natives, under the names that the run has
 abbrev pub meant_of : {N : Type 0} → (N → Doing) → RunProgram N → Program
-meant_of does p = record { symbols = p.symbols; handlers = map handler_of (items_of p.handlers.now); natives = map number_of (items_of p.names.list); does = does p.natives.now }
+meant_of does p = record {
+  symbols = p.symbols;
+  handlers = map handler_of (items_of p.handlers.now);
+  natives = map number_of (items_of p.names.list);
+  does = does p.natives.now;
+}
 
 -- the program that a script makes with some natives
 abbrev pub program_with : {N : Type 0} → (N → List (List ℕ)) → (N → Doing) → Script → N → Program

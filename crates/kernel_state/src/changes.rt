@@ -28,8 +28,8 @@ fn fits(kernel: &KernelState, change: &Change) -> bool
         && change.to <= kernel.editor.size(change.buffer)
 }
 
-/// Keeps the ends of a change, which move with the text. A refusal leaves all as it was; it is answered, too, where the ends
-/// don't lie in the text: no call prepares such a change.
+/// Keeps the ends of a change, which move with the text. A refusal leaves all as it was; it is answered, too, where
+/// the ends don't lie in the text: no call prepares such a change.
 pub(crate) fn keep_ends(kernel: &mut KernelState, change: &Change) -> Mem<()>
     ensures ok { OnOk result (state_of kernel.new ≡
         begun (change_of change.now) (state_of kernel.old)) }

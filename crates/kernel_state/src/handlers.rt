@@ -70,8 +70,8 @@ fn clear_hooks(kernel: &mut KernelState, buffer: u32, before: bool)
     }
 }
 
-/// What the end of a handler does besides: a process leaves the list behind its sentinel, and a hook function that ended by a
-/// fault empties the list that it stands on.
+/// What the end of a handler does besides: a process leaves the list behind its sentinel, and a hook function that
+/// ended by a fault empties the list that it stands on.
 pub(crate) fn end_handler(kernel: &mut KernelState, kind: Kind, faulted: bool)
     ensures { state_of kernel.new ≡ ended_state (kind_of kind) faulted (state_of kernel.old) }
 {
@@ -154,7 +154,7 @@ fn filter_text(alloc: Global, args: &Values) -> Mem<Piece>
 {
     let mut text = Chars::new(alloc);
     append_told(&mut text, args)?;
-    Ok(Piece::plain(alloc, text))
+    Piece::plain(alloc, text)
 }
 
 /// Puts the name of a process behind other characters, if it was made. A refusal leaves a part of it there.
@@ -178,10 +178,11 @@ fn sentinel_text(kernel: &KernelState, p: u32, args: &Values) -> Mem<Piece>
     append_name(&mut text, kernel, p)?;
     text.extend_bytes(b" ")?;
     append_told(&mut text, args)?;
-    Ok(Piece::plain(kernel.alloc, text))
+    Piece::plain(kernel.alloc, text)
 }
 
-/// Prepares the insertion of a text at the mark of a process, whose buffer becomes current; nothing without a live buffer.
+/// Prepares the insertion of a text at the mark of a process, whose buffer becomes current; nothing without a live
+/// buffer.
 fn prepare_text(kernel: &mut KernelState, p: u32, text: Piece) -> Prepared
     ensures prepared { prepared_of result ≡ text_prepared (state_of kernel.old) p text }
     ensures state { state_of kernel.new ≡ default_state (OfFilter p) (state_of kernel.old) }

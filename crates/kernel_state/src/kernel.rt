@@ -14,8 +14,8 @@ use process_table::Processes;
 use std::alloc::Global;
 
 /// All that a run keeps: buffers with what stands beside them, hook functions, processes, the parameters of running
-/// handlers, and counts. It stands for the state of the plain machine (`state_of`), where of all bytes read from a process
-/// it keeps what may still become a character.
+/// handlers, and counts. It stands for the state of the plain machine (`state_of`), where of all bytes read from a
+/// process it keeps what may still become a character.
 pub struct KernelState {
     pub(crate) editor: Editor,
     pub(crate) hooks: Hooks,

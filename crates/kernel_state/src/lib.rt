@@ -1,4 +1,5 @@
-//! What a run keeps. Each question and each change that the steps of a run make is an equation on the machine's state here.
+//! What a run keeps. Each question and each change that the steps of a run make is an equation on the machine's state
+//! here.
 #![tactic(auto)]
 
 mod blocks;

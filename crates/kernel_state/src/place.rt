@@ -3,8 +3,8 @@ use buffer_table::BufferRoom;
 use marker_set::Room;
 use process_table::Place;
 
-/// All the memory that a start needs behind its child: for the process with its name, for its mark, and for its buffer where
-/// that is new.
+/// All the memory that a start needs behind its child: for the process with its name, for its mark, and for its
+/// buffer where that is new.
 pub struct StartPlace {
     pub process: Place,
     pub mark: Room,

@@ -24,6 +24,7 @@ impl kernel_steps::Kernel for KernelState {
 
     ghost has_place = { HasPlace };
 
+    #[inline(always)]
     fn manner(prim: Primitive) -> Manner {
         manner::manner(prim)
     }
@@ -32,6 +33,7 @@ impl kernel_steps::Kernel for KernelState {
         equal::are_equal(a, b)
     }
 
+    #[inline(always)]
     fn value(&self, name: Sym) -> Option<&Value> {
         match self.scopes.value(name) {
             Some(value) => Some(value),
@@ -45,9 +47,9 @@ impl kernel_steps::Kernel for KernelState {
         room
     }
 
+    #[inline(always)]
     fn give_room(&mut self, args: Values) {
         self.room = args;
-        self.room.clear();
     }
 
     fn assign(&mut self, name: Sym, value: Value) -> Mem<()> {
@@ -68,14 +70,17 @@ impl kernel_steps::Kernel for KernelState {
         blocks::restore(self, kept);
     }
 
+    #[inline(always)]
     fn query(&self, prim: Primitive, args: &Values) -> Mem<Reply> {
         editor_prims::query(&self.editor, prim, args)
     }
 
+    #[inline(always)]
     fn apply(&mut self, prim: Primitive, args: &Values) -> Mem<Reply> {
         editor_prims::apply(&mut self.editor, prim, args)
     }
 
+    #[inline(always)]
     fn prepare(&self, prim: Primitive, args: &Values) -> Mem<Prepared> {
         editor_prims::prepare(&self.editor, prim, args)
     }
@@ -84,10 +89,12 @@ impl kernel_steps::Kernel for KernelState {
         handlers::prepare_default(self, kind, args)
     }
 
+    #[inline(always)]
     fn keep_ends(&mut self, change: &Change) -> Mem<()> {
         changes::keep_ends(self, change)
     }
 
+    #[inline(always)]
     fn commit(&mut self, change: &Change) -> Mem<Committed> {
         changes::commit(self, change)
     }
@@ -161,6 +168,7 @@ impl kernel_steps::Kernel for KernelState {
         telling::tell_exit(self, symbols, handler, sink)
     }
 
+    #[inline(always)]
     fn tell_reply<K: Sink>(
         &self,
         symbols: &Symbols,

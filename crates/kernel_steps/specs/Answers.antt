@@ -36,24 +36,32 @@ abbrev pub IsAllowed : State → (p : ℕ) → Answer → Type 0
 IsAllowed s p answer = (x : Process) × (process s p ≡ Some x) × (may_hear x.drained answer ≡ true)
 
 -- WHAT THEY LEAD TO
-abbrev pub next_by : (drained : Bool) → State → Waiting → Target → List Item → (p : ℕ) → Process → Answer → Option Next
+abbrev pub next_by : (drained : Bool) → State → Waiting → Target → List Item → (p : ℕ) → Process →
+    Answer → Option Next
 next_by false s w target rest p x answer = read_answer s w target rest p x answer
 next_by true s w target rest p x answer = end_answer s w target rest p x answer
 
--- the machine takes an answer of a process, whatever wait asked it: this is entered, and the kernel stands for the state behind it
-pub record HeardIn (s : State) (p : ℕ) (x : Process) (answer : Answer) (known : State) (heard : Heard) : Type 0 where
+-- the machine takes an answer of a process, whatever wait asked it: this is entered, and the kernel stands
+-- for the state behind it
+pub record HeardIn (s : State) (p : ℕ) (x : Process) (answer : Answer) (known : State)
+    (heard : Heard) : Type 0 where
   pub now : State
   pub stands : Stands known now
-  pub goes : (w : Waiting) (target : Target) (rest : List Item) → next_by x.drained s w target rest p x answer ≡ Some (silent now (entering heard.entry (Wait (noted p heard.bytes w) target ∷ rest)))
+  pub goes : (w : Waiting) (target : Target) (rest : List Item) →
+      next_by x.drained s w target rest p x answer ≡
+      Some (silent now (entering heard.entry (Wait (noted p heard.bytes w) target ∷ rest)))
 
 abbrev pub HearsAnswer : (old new : State) → (p : ℕ) → Answer → Heard → Type 0
-HearsAnswer old new p answer heard = (s : State) (x : Process) → Stands old s → process s p ≡ Some x → HeardIn s p x answer new heard
+HearsAnswer old new p answer heard =
+    (s : State) (x : Process) → Stands old s → process s p ≡ Some x → HeardIn s p x answer new heard
 
 -- a process that runs was killed
 pub record KilledIn (s : State) (p : ℕ) (x : Process) (known : State) (entry : Entry) : Type 0 where
   pub now : State
   pub stands : Stands known now
-  pub goes : (rest : List Item) → ends s p x Signalled (codes "killed\n") rest ≡ silent now (entry_item entry ∷ rest)
+  pub goes : (rest : List Item) → ends s p x Signalled (codes "killed\n") rest ≡
+      silent now (entry_item entry ∷ rest)
 
 abbrev pub IsKilled : (old new : State) → (p : ℕ) → Entry → Type 0
-IsKilled old new p entry = (s : State) (x : Process) → Stands old s → process s p ≡ Some x → KilledIn s p x new entry
+IsKilled old new p entry =
+    (s : State) (x : Process) → Stands old s → process s p ≡ Some x → KilledIn s p x new entry

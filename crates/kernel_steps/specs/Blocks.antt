@@ -1,7 +1,9 @@
 -- What blocks of the code and what they keep stand for, and how calls go.
-use Rattle.editor_model.specs.Values.{Block, SaveExcursion, SaveRestriction, SaveCurrentBuffer, InhibitHooks, InhibitReadOnly}
+use Rattle.editor_model.specs.Values.{Block, SaveExcursion, SaveRestriction, SaveCurrentBuffer}
+use Rattle.editor_model.specs.Values.{InhibitHooks, InhibitReadOnly}
 use Rattle.editor_model.specs.Prims.{Manner, OnlyAsks, SetsState, ChangesText, ConcernsHandlers}
-use Rattle.plain_machine.specs.Items.{Kept, KeptExcursion, KeptRestriction, KeptBuffer, KeptInhibition, KeptLifting}
+use Rattle.plain_machine.specs.Items.{Kept, KeptExcursion, KeptRestriction, KeptBuffer, KeptInhibition}
+use Rattle.plain_machine.specs.Items.{KeptLifting}
 use Rattle.kernel_steps.specs.declared.kernel.Block as declared
 use Rattle.kernel_steps.specs.declared.kernel.Block.TheVariants as block
 use Rattle.kernel_steps.specs.declared.kernel.Kept as written

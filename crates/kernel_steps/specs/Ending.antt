@@ -1,5 +1,5 @@
--- The end of a run: children that run are killed, with a line for each and the dump, or in silence where the run was
--- broken off.
+-- The end of a run: children that run are killed, with a line for each and the dump, or in silence where
+-- the run was broken off.
 use Rattle.std.specs.Prelude.{◌≡◌, ℕ, ◌≤◌, ◌⊎◌, All, List, [], ◌∷◌, ◌++◌, drop, length, Result, Ok, Err}
 use Rattle.std.specs.Io.KnownBytes.{Appends}
 use Rattle.editor_model.specs.Values.{NoForms}
@@ -24,7 +24,8 @@ abbrev pub IsAnsweredKill : Exchange → Type 0
 IsAnsweredKill x = (x.answer ≡ Killed) ⊎ (x.answer ≡ Failed)
 
 -- The run was broken off, and of the children that live by the machine all but some are killed.
-pub record Halts (why : Stop) (program : Program) (before now : Outside) (from : Config) (left : List ℕ) : Type 0 where
+pub record Halts (why : Stop) (program : Program) (before now : Outside) (from : Config)
+    (left : List ℕ) : Type 0 where
   pub made : List Exchange
   pub kills : List Exchange
   pub said : List Said
@@ -45,33 +46,51 @@ pub record Halts (why : Stop) (program : Program) (before now : Outside) (from :
 
 -- HOW FAR A RUN CAME FROM WHERE IT BEGAN
 -- its forms are run, or it was broken off
-pub record CameSoFar {T : Type 0} (so_far : Result T Stop) (program : Program) (before now : World) (from : Config) : Type 0 where
-  pub comes : Comes (lifted so_far) program before now from (λ x s. working s (Top NoForms ∷ [])) (λ f s. working s (Top NoForms ∷ []))
+pub record CameSoFar {T : Type 0} (so_far : Result T Stop) (program : Program) (before now : World)
+    (from : Config) : Type 0 where
+  pub comes : Comes (lifted so_far) program before now from (λ x s. working s (Top NoForms ∷ []))
+      (λ f s. working s (Top NoForms ∷ []))
   pub cause : HasCause before.outside.sink.faults now.outside.sink.faults (so_far ≡ Err stop.WriteFault)
 
 -- processes below p are dealt with
-abbrev pub DealsWith : {T : Type 0} → Result T Stop → Program → (p : ℕ) → (before now : World) → (from : Config) → Type 0
+abbrev pub DealsWith : {T : Type 0} → Result T Stop → Program → (p : ℕ) → (before now : World) →
+    (from : Config) → Type 0
 DealsWith (Ok x) program p before now from = GoesTo program before now from (λ s. working s (Finish p ∷ []))
-DealsWith (Err why) program p before now from = Halts why program before.outside now.outside from (children (running (drop p now.state.processes)))
+DealsWith (Err why) program p before now from =
+    Halts why program before.outside now.outside from (children (running (drop p now.state.processes)))
 
-pub record IsAtEnd {T : Type 0} (so_far : Result T Stop) (program : Program) (p : ℕ) (before now : World) (from : Config) : Type 0 where
+pub record IsAtEnd {T : Type 0} (so_far : Result T Stop) (program : Program) (p : ℕ)
+    (before now : World) (from : Config) : Type 0 where
   pub deals : DealsWith so_far program p before now from
   pub cause : HasCause before.outside.sink.faults now.outside.sink.faults (so_far ≡ Err stop.WriteFault)
 
 -- the whole run has ended, or was broken off and no child is left
 abbrev pub Finishes : {T : Type 0} → Result T Stop → Program → (before now : World) → (from : Config) → Type 0
-Finishes (Ok x) program before now from = (last : Config) × (step program deepest last ≡ Ended) × Stands now.state last.state × Goes program before.outside now.outside from last
+Finishes (Ok x) program before now from =
+    (last : Config) × (step program deepest last ≡ Ended) × Stands now.state last.state ×
+    Goes program before.outside now.outside from last
 Finishes (Err why) program before now from = Halts why program before.outside now.outside from []
 
-pub record IsOver {T : Type 0} (result : Result T Stop) (program : Program) (before now : World) (from : Config) : Type 0 where
+pub record IsOver {T : Type 0} (result : Result T Stop) (program : Program) (before now : World)
+    (from : Config) : Type 0 where
   pub finishes : Finishes result program before now from
   pub cause : HasCause before.outside.sink.faults now.outside.sink.faults (result ≡ Err stop.WriteFault)
 
 -- where a run began: with the machine's new state, and with no call made on the host
-abbrev pub origin : {H : Type 0} → (H → HostState) → (H → H → Ask → ℕ → Answer → Type 0) → (start : H) → SinkState → World
-origin hosted made start sink = record { state = new_state; kills = (hosted start).kills; outside = outside sink (CallsSince hosted made start start) }
+abbrev pub origin : {H : Type 0} → (H → HostState) → (H → H → Ask → ℕ → Answer → Type 0) → (start : H) →
+    SinkState → World
+origin hosted made start sink =
+    record {
+      state = new_state;
+      kills = (hosted start).kills;
+      outside = outside sink (CallsSince hosted made start start);
+    }
 
 -- However a run began: if it had come so far, it comes on like this.
-abbrev pub ComesOn : {M H : Type 0} → (M → State) → (H → HostState) → (H → H → Ask → ℕ → Answer → Type 0) → (kernel : M) → (host host' : H) → (sink sink' : SinkState) → (so_far on : World → World → Config → Type 0) → Type 0
+abbrev pub ComesOn : {M H : Type 0} → (M → State) → (H → HostState) →
+    (H → H → Ask → ℕ → Answer → Type 0) → (kernel : M) → (host host' : H) → (sink sink' : SinkState) →
+    (so_far on : World → World → Config → Type 0) → Type 0
 ComesOn {H = H} state hosted made kernel host host' sink sink' so_far on =
-    (before : SinkState) (start : H) (from : Config) → so_far (origin hosted made start before) (world state hosted made start kernel host sink) from → on (origin hosted made start before) (world state hosted made start kernel host' sink') from
+    (before : SinkState) (start : H) (from : Config) →
+    so_far (origin hosted made start before) (world state hosted made start kernel host sink) from →
+    on (origin hosted made start before) (world state hosted made start kernel host' sink') from

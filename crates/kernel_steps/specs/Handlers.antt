@@ -1,5 +1,6 @@
 -- Handlers as the code finds, enters and leaves them.
-use Rattle.std.specs.Prelude.{ℕ, ◌+◌, Bool, true, false, List, [], ◌∷◌, ◌++◌, Option, Some, None, unwrap_or, Result, Ok, Err}
+use Rattle.std.specs.Prelude.{ℕ, ◌+◌, Bool, true, false, List, [], ◌∷◌, ◌++◌, Option, Some, None}
+use Rattle.std.specs.Prelude.{unwrap_or, Result, Ok, Err}
 use Rattle.editor_model.specs.Values.{Value, Nil, Prim, Reply}
 use Rattle.editor_model.specs.Answers.{Prepared, Nothing}
 use Rattle.editor_model.specs.TextCalls.{prepare_output}
@@ -11,7 +12,9 @@ use Rattle.plain_machine.specs.Arguments.{handler_def, native_from}
 use Rattle.plain_machine.specs.Hooks.{set_hook_list, before_change_functions, after_change_functions}
 use Rattle.plain_machine.specs.Forms.{if_live, current, bracket}
 use Rattle.plain_machine.specs.State.{change_process, hooks_of}
-use Rattle.plain_machine.specs.Handling.{bound_params, in_scope, default_handler, native_call, unlisted, without_hooks_item, process_buffer_of, mark_of_process, plain_text, second, sentinel_words}
+use Rattle.plain_machine.specs.Handling.{bound_params, in_scope, default_handler, native_call, unlisted}
+use Rattle.plain_machine.specs.Handling.{without_hooks_item, process_buffer_of, mark_of_process}
+use Rattle.plain_machine.specs.Handling.{plain_text, second, sentinel_words}
 use Rattle.kernel_steps.specs.Worlds.{World}
 use Rattle.kernel_steps.specs.Work.{Work, working, at_item, onwards, outwards}
 use Rattle.kernel_steps.specs.declared.kernel.Kind as declared
@@ -52,7 +55,8 @@ native_of program name = unwrap_or (native_from 0 program.natives name) 0
 -- ENTERING
 -- the state in which a handler's code begins
 abbrev pub entered : Program → Option ℕ → List Value → State → State
-entered program handler args s = in_scope (bound_params (params_of program handler) args) (record s { depth = s.depth + 1 })
+entered program handler args s =
+    in_scope (bound_params (params_of program handler) args) (record s { depth = s.depth + 1 })
 
 -- a default handler's buffer is current, and its insertion is prepared
 abbrev pub default_state : Kind → State → State
@@ -65,13 +69,28 @@ default_text (OfSentinel p) args s = sentinel_words s p (plain_text (second args
 default_text _ args s = plain_text (second args)
 
 abbrev pub default_prepared : Kind → List Value → State → Prepared
-default_prepared (OfFilter p) args s = elim (process_buffer_of s p) [ None ↦ Nothing Nil | Some b ↦ prepare_output s.editor b (mark_of_process s p) (default_text (OfFilter p) args s) ]
-default_prepared (OfSentinel p) args s = elim (process_buffer_of s p) [ None ↦ Nothing Nil | Some b ↦ prepare_output s.editor b (mark_of_process s p) (default_text (OfSentinel p) args s) ]
+default_prepared (OfFilter p) args s =
+    elim (process_buffer_of s p) [
+      | None ↦ Nothing Nil
+      | Some b ↦ prepare_output s.editor b
+          (mark_of_process s p) (default_text (OfFilter p) args s)
+    ]
+default_prepared (OfSentinel p) args s =
+    elim (process_buffer_of s p) [
+      | None ↦ Nothing Nil
+      | Some b ↦ prepare_output s.editor b
+          (mark_of_process s p) (default_text (OfSentinel p) args s)
+    ]
 default_prepared _ args s = Nothing Nil
 
 -- what is next of a handler whose scope was made
 abbrev pub named_code : Program → (name : ℕ) → List Value → State → List Item → Config
-named_code program name args s rest = elim (handler_def program.handlers name) [ Some d ↦ working s (Body d.body ∷ rest) | None ↦ working s (Native (native_of program name) args [] ∷ rest) ]
+named_code program name args s rest =
+    elim (handler_def program.handlers name) [
+      | Some d ↦ working s (Body d.body ∷ rest)
+      | None ↦ working s
+          (Native (native_of program name) args [] ∷ rest)
+    ]
 
 abbrev pub code_of : Program → Kind → Option ℕ → List Value → State → List Item → Config
 code_of program kind None args s rest = default_handler s kind args rest
@@ -92,23 +111,34 @@ ended_work _ faulted rest = rest
 -- WORK
 -- hook functions are to be entered, unless hooks are inhibited; they are meanwhile
 abbrev pub around : Kind → List Value → State → List Item → Config
-around kind args s rest = working (record s { inhibited = true }) (bracket s.inhibited kind (hook_names kind s) args rest)
+around kind args s rest =
+    working (record s { inhibited = true }) (bracket s.inhibited kind (hook_names kind s) args rest)
 
-abbrev pub HooksAround : {T : Type 0} → Result T Halt → Program → Kind → List Value → (before now : World) → Type 0
-HooksAround result program kind args before now = Work result program before now (around kind args) onwards outwards
+abbrev pub HooksAround : {T : Type 0} → Result T Halt → Program → Kind → List Value →
+    (before now : World) → Type 0
+HooksAround result program kind args before now =
+    Work result program before now (around kind args) onwards outwards
 
 -- a handler is entered, run and left
 abbrev pub Handles : Result Bool Halt → Program → Kind → Option ℕ → List Value → (before now : World) → Type 0
-Handles result program kind handler args before now = Work result program before now (at_item (Enter kind handler args)) (λ faulted s rest. working s (ended_work kind faulted rest)) outwards
+Handles result program kind handler args before now =
+    Work result program before now (at_item (Enter kind handler args))
+    (λ faulted s rest. working s (ended_work kind faulted rest)) outwards
 
 -- the code of a handler is run whose scope was made
-abbrev pub RunsCode : {T : Type 0} → Result T Halt → Program → Kind → Option ℕ → List Value → (before now : World) → Type 0
-RunsCode result program kind handler args before now = Work result program before now (code_of program kind handler args) onwards outwards
+abbrev pub RunsCode : {T : Type 0} → Result T Halt → Program → Kind → Option ℕ → List Value →
+    (before now : World) → Type 0
+RunsCode result program kind handler args before now =
+    Work result program before now (code_of program kind handler args) onwards outwards
 
 -- a native's call is made, and its reply kept behind the past ones
-abbrev pub RepliesTo : {T : Type 0} → Result T Halt → (T → Reply) → Program → Prim × List Value → (before now : World) → Type 0
+abbrev pub RepliesTo : {T : Type 0} → Result T Halt → (T → Reply) → Program → Prim × List Value →
+    (before now : World) → Type 0
 RepliesTo result reply program c before now =
-    (i : ℕ) (args : List Value) (past : List Reply) → Work result program before now (λ s rest. working s (native_call program s c ∷ Called i args past ∷ rest)) (λ x s rest. working s (Native i args (past ++ reply x ∷ []) ∷ rest)) outwards
+    (i : ℕ) (args : List Value) (past : List Reply) →
+    Work result program before now (λ s rest. working s
+    (native_call program s c ∷ Called i args past ∷ rest))
+    (λ x s rest. working s (Native i args (past ++ reply x ∷ []) ∷ rest)) outwards
 
 -- how a handler ended, by how its code did
 abbrev pub ended_by : {T : Type 0} → Result T Halt → Result Bool Stop

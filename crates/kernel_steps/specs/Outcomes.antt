@@ -1,5 +1,6 @@
 -- What the run of a script comes to: the bytes that it wrote, and the exchanges that it made.
-use Rattle.std.specs.Prelude.{◌≡◌, ℕ, ◌≤◌, true, false, All, List, ◌∷◌, ◌++◌, length, slice_get, Some, Result, Ok, Err}
+use Rattle.std.specs.Prelude.{◌≡◌, ℕ, ◌≤◌, true, false, All, List, ◌∷◌, ◌++◌, length, slice_get, Some}
+use Rattle.std.specs.Prelude.{Result, Ok, Err}
 use Rattle.editor_model.specs.Values.{Script}
 use Rattle.plain_machine.specs.Exchanges.{Exchange, children_started}
 use Rattle.plain_machine.specs.State.{State, Program}
@@ -14,34 +15,40 @@ use Rattle.kernel_steps.specs.Worlds.{Stands}
 use Rattle.kernel_steps.specs.Ending.{IsAnsweredKill}
 use Rattle.kernel_steps.specs.declared.stop.Stop.{Stop}
 
--- The filter of each process was entered with just what was read from its child, decoded as this state says. Process p is
--- the one whose child was started as number p, counted from 0.
+-- The filter of each process was entered with just what was read from its child, decoded as this state
+-- says. Process p is the one whose child was started as number p, counted from 0.
 abbrev pub AreHeard : State → List Exchange → List Said → Type 0
-AreHeard s exchanges said = (p child : ℕ) → slice_get (children_started exchanges) p ≡ Some child → entered p said ≡ heard (coding_in s p) child exchanges
+AreHeard s exchanges said = (p child : ℕ) → slice_get (children_started exchanges) p ≡ Some child →
+    entered p said ≡ heard (coding_in s p) child exchanges
 
 -- each process has at most one sentinel entry, and no filter entry behind it
 abbrev pub SentinelsComeLast : List Said → Type 0
 SentinelsComeLast said =
-    (before after : List Said) (x : Said) (p : ℕ) → said ≡ before ++ x ∷ after → is_entry true p x.event ≡ true → (has_entry true p after ≡ false) × (has_entry false p after ≡ false)
+    (before after : List Said) (x : Said) (p : ℕ) → said ≡ before ++ x ∷ after →
+    is_entry true p x.event ≡ true → (has_entry true p after ≡ false) × (has_entry false p after ≡ false)
 
--- Between any two moments of these exchanges: undoing back to a boundary that is still kept gave the text of the moment at which it
--- was pushed, with its properties.
+-- Between any two moments of these exchanges: undoing back to a boundary that is still kept gave the text
+-- of the moment at which it was pushed, with its properties.
 abbrev pub UndoGivesBack : Program → Script → List Exchange → Type 0
 UndoGivesBack program script exchanges =
-    (first second later : List Exchange) → exchanges ≡ first ++ (second ++ later) → UndoReturnsBetween program deepest (start script) first second
+    (first second later : List Exchange) → exchanges ≡ first ++ (second ++ later) →
+    UndoReturnsBetween program deepest (start script) first second
 
 -- A run that came to its end. The sink hasn't failed where it had room for what was written.
-pub record RanScript (program : Program) (script : Script) (exchanges : List Exchange) (written : List ℕ) (before now : SinkState) : Type 0 where
+pub record RanScript (program : Program) (script : Script) (exchanges : List Exchange)
+    (written : List ℕ) (before now : SinkState) : Type 0 where
   pub ran : Ran program deepest script exchanges written
   pub entries : AreHeard ran.last.state exchanges ran.said
   pub sentinels : SentinelsComeLast ran.said
   pub undo : UndoGivesBack program script exchanges
   pub roomy : length written ≤ before.room → now.faults ≡ before.faults
 
--- A run that was broken off. For want of memory what it wrote is whole lines: with all entries, for it isn't broken off between
--- a read and the entry that this causes. After a failed write it stopped at that line, and nothing was asked behind it but the
--- kills. The sink hasn't failed where it had room for all that was said.
-pub record StoppedScript (why : Stop) (program : Program) (script : Script) (exchanges : List Exchange) (written : List ℕ) (before now : SinkState) : Type 0 where
+-- A run that was broken off. For want of memory what it wrote is whole lines: with all entries, for it
+-- isn't broken off between a read and the entry that this causes. After a failed write it stopped at that
+-- line, and nothing was asked behind it but the kills. The sink hasn't failed where it had room for all
+-- that was said.
+pub record StoppedScript (why : Stop) (program : Program) (script : Script) (exchanges : List Exchange)
+    (written : List ℕ) (before now : SinkState) : Type 0 where
   pub broken : BrokenOff program deepest script exchanges written
   pub answered : All IsAnsweredKill broken.kills
   pub came : CameTo why program (start script) broken.made broken.said broken.last written
@@ -50,7 +57,11 @@ pub record StoppedScript (why : Stop) (program : Program) (script : Script) (exc
   pub undo : UndoGivesBack program script broken.made
   pub roomy : length (lines broken.said) ≤ before.room → now.faults ≡ before.faults
 
--- How the run of a script ended, by its result. One that came to its end left what stands for the machine's last state.
-abbrev pub EndsAs : {T : Type 0} → Result T Stop → Program → Script → List Exchange → (written : List ℕ) → (before now : SinkState) → (left : State) → Type 0
-EndsAs (Ok x) program script exchanges written before now left = (whole : RanScript program script exchanges written before now) × Stands left whole.ran.last.state
-EndsAs (Err why) program script exchanges written before now left = StoppedScript why program script exchanges written before now
+-- How the run of a script ended, by its result. One that came to its end left what stands for the machine's
+-- last state.
+abbrev pub EndsAs : {T : Type 0} → Result T Stop → Program → Script → List Exchange →
+    (written : List ℕ) → (before now : SinkState) → (left : State) → Type 0
+EndsAs (Ok x) program script exchanges written before now left =
+    (whole : RanScript program script exchanges written before now) × Stands left whole.ran.last.state
+EndsAs (Err why) program script exchanges written before now left =
+    StoppedScript why program script exchanges written before now

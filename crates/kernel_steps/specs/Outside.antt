@@ -1,5 +1,5 @@
--- What a run does to the outside while the machine goes on: the sink has just what it says, and the host was asked just
--- what it asks.
+-- What a run does to the outside while the machine goes on: the sink has just what it says, and the host
+-- was asked just what it asks.
 use Rattle.std.specs.Prelude.{◌≡◌, ℕ, ◌+◌, ◌≤◌, List, [], ◌∷◌, ◌++◌, length, Option, Some}
 use Rattle.std.specs.Io.KnownBytes.{Appends}
 use Rattle.plain_machine.specs.Exchanges.{Exchange, Answer}
@@ -44,7 +44,8 @@ pub record HasRoomLeft (old new : SinkState) (written : List ℕ) : Type 0 where
   pub faults : new.faults ≡ old.faults
   pub room : old.room ≤ new.room + length written
 
--- the machine goes from one configuration to another, and all that it says is written, with no failure where there is room for it
+-- the machine goes from one configuration to another, and all that it says is written, with no failure
+-- where there is room for it
 pub record Goes (program : Program) (old new : Outside) (from to : Config) : Type 0 where
   pub made : List Exchange
   pub said : List Said
@@ -57,13 +58,15 @@ pub record Goes (program : Program) (old new : Outside) (from to : Config) : Typ
 -- one step of the machine: it asks nothing, or makes the one exchange
 abbrev pub IsStep : Program → Config → List Exchange → Next → Type 0
 IsStep program c [] n = step program deepest c ≡ Steps n
-IsStep program c (x ∷ []) n = (next : Answer → Option Next) × (step program deepest c ≡ Asks x.ask next) × (next x.answer ≡ Some n)
+IsStep program c (x ∷ []) n =
+    (next : Answer → Option Next) × (step program deepest c ≡ Asks x.ask next) × (next x.answer ≡ Some n)
 IsStep program c _ n = ⊥
 
--- The run stopped at a line that it couldn't write: its last step said this line. `asked` and `whole` are what was asked and
--- said before that step, and `more` is the exchange of that step, if it makes one. So nothing was asked behind the line, and
--- what was said before it is written.
-pub record StopsAtLine (program : Program) (from : Config) (made : List Exchange) (said : List Said) (last : Config) (bytes : List ℕ) : Type 0 where
+-- The run stopped at a line that it couldn't write: its last step said this line. `asked` and `whole` are
+-- what was asked and said before that step, and `more` is the exchange of that step, if it makes one. So
+-- nothing was asked behind the line, and what was said before it is written.
+pub record StopsAtLine (program : Program) (from : Config) (made : List Exchange) (said : List Said)
+    (last : Config) (bytes : List ℕ) : Type 0 where
   pub asked : List Exchange
   pub whole : List Said
   pub there : Config
@@ -78,14 +81,15 @@ pub record StopsAtLine (program : Program) (from : Config) (made : List Exchange
   pub said_are : said ≡ whole ++ line ∷ []
   pub written : IsPrefixOf (lines whole) bytes
 
--- How far a run came that ended early: for want of memory, all that it said is written; after a failed write it stopped at
--- that line.
-abbrev pub CameTo : Stop → Program → (from : Config) → (made : List Exchange) → (said : List Said) → (last : Config) → (bytes : List ℕ) → Type 0
+-- How far a run came that ended early: for want of memory, all that it said is written; after a failed
+-- write it stopped at that line.
+abbrev pub CameTo : Stop → Program → (from : Config) → (made : List Exchange) → (said : List Said) →
+    (last : Config) → (bytes : List ℕ) → Type 0
 CameTo stop.NoMemory program from made said last bytes = bytes ≡ lines said
 CameTo stop.WriteFault program from made said last bytes = StopsAtLine program from made said last bytes
 
--- The run is broken off: the machine went somewhere, and what it said is written, or all lines but the last and a front of
--- that one. The sink didn't fail where there is room for all that was said.
+-- The run is broken off: the machine went somewhere, and what it said is written, or all lines but the last
+-- and a front of that one. The sink didn't fail where there is room for all that was said.
 pub record Breaks (why : Stop) (program : Program) (old new : Outside) (from : Config) : Type 0 where
   pub made : List Exchange
   pub said : List Said

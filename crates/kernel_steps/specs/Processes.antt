@@ -1,10 +1,15 @@
 -- Calls on hooks and processes that enter nothing: what each answers, and what it sets.
 use Rattle.std.specs.Prelude.{ℕ, ◌+◌, List, map, drop}
-use Rattle.editor_model.specs.Values.{Value, Sym, list, Prim, AddHook, RemoveHook, KillBuffer, StartProcess, ProcessList, GetProcess, SetProcessFilter, SetProcessSentinel, SetProcessBuffer, ProcessSendString, ProcessSendEof, DeleteProcess, AcceptProcessOutput, SetProcessCodingSystem}
+use Rattle.editor_model.specs.Values.{Value, Sym, list, Prim, AddHook, RemoveHook, KillBuffer}
+use Rattle.editor_model.specs.Values.{StartProcess, ProcessList, GetProcess, SetProcessFilter}
+use Rattle.editor_model.specs.Values.{SetProcessSentinel, SetProcessBuffer, ProcessSendString}
+use Rattle.editor_model.specs.Values.{ProcessSendEof, DeleteProcess, AcceptProcessOutput}
+use Rattle.editor_model.specs.Values.{SetProcessCodingSystem}
 use Rattle.editor_model.specs.Arguments.{arg, string_of, symbol_of}
 use Rattle.plain_machine.specs.State.{State, process, change_process}
 use Rattle.plain_machine.specs.Arguments.{encoded, filter_of, sentinel_of, coding_of, process_of}
-use Rattle.plain_machine.specs.Calls.{with_filter, with_sentinel, of_buffer, with_coding, process_buffer, told_of_one, get_process, listed}
+use Rattle.plain_machine.specs.Calls.{with_filter, with_sentinel, of_buffer, with_coding}
+use Rattle.plain_machine.specs.Calls.{process_buffer, told_of_one, get_process, listed}
 use Rattle.plain_machine.specs.Hooks.{set_hook_list, hook_added, hook_removed}
 
 -- calls that ask the host nothing and enter nothing
@@ -29,12 +34,18 @@ told_by s SetProcessCodingSystem args = arg args 1
 told_by s prim args = told_of_one prim (process s (process_of s (arg args 0)))
 
 abbrev pub set_by : Prim → List Value → State → State
-set_by AddHook args s = set_hook_list s.editor.current (symbol_of (arg args 0)) (hook_added s (arg args 0) (arg args 1)) s
-set_by RemoveHook args s = set_hook_list s.editor.current (symbol_of (arg args 0)) (hook_removed s (arg args 0) (arg args 1)) s
-set_by SetProcessFilter args s = change_process (process_of s (arg args 0)) (with_filter (filter_of (arg args 1))) s
-set_by SetProcessSentinel args s = change_process (process_of s (arg args 0)) (with_sentinel (sentinel_of (arg args 1))) s
-set_by SetProcessBuffer args s = change_process (process_of s (arg args 0)) (of_buffer (process_buffer s.editor (arg args 1))) s
-set_by SetProcessCodingSystem args s = change_process (process_of s (arg args 0)) (with_coding (coding_of (arg args 1))) s
+set_by AddHook args s =
+    set_hook_list s.editor.current (symbol_of (arg args 0)) (hook_added s (arg args 0) (arg args 1)) s
+set_by RemoveHook args s =
+    set_hook_list s.editor.current (symbol_of (arg args 0)) (hook_removed s (arg args 0) (arg args 1)) s
+set_by SetProcessFilter args s =
+    change_process (process_of s (arg args 0)) (with_filter (filter_of (arg args 1))) s
+set_by SetProcessSentinel args s =
+    change_process (process_of s (arg args 0)) (with_sentinel (sentinel_of (arg args 1))) s
+set_by SetProcessBuffer args s =
+    change_process (process_of s (arg args 0)) (of_buffer (process_buffer s.editor (arg args 1))) s
+set_by SetProcessCodingSystem args s =
+    change_process (process_of s (arg args 0)) (with_coding (coding_of (arg args 1))) s
 set_by prim args s = s
 
 -- the bytes that are sent, and the words of a program

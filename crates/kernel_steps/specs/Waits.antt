@@ -1,5 +1,6 @@
 -- Waits, deletions and the killing of buffers, as the code does them.
-use Rattle.std.specs.Prelude.{◌≡◌, ℕ, Bool, true, false, List, [], ◌∷◌, ◌++◌, map, Option, Some, None, option_map, Result}
+use Rattle.std.specs.Prelude.{◌≡◌, ℕ, Bool, true, false, List, [], ◌∷◌, ◌++◌, map, Option, Some, None}
+use Rattle.std.specs.Prelude.{option_map, Result}
 use Rattle.editor_model.specs.Values.{Value, Nil, T, Answered, Fault, Prim}
 use Rattle.editor_model.specs.Editor.{Editor, is_live, killed}
 use Rattle.editor_model.specs.Answers.{Applied, applied, first_fault}
@@ -45,7 +46,8 @@ IsHeardIf None = Unit {0}
 IsHeardIf (Some e) = IsHeard (kind_of e.kind)
 
 abbrev pub EntersIf : {A : Type 0} → Result A Halt → Program → Option Entry → (before now : World) → Type 0
-EntersIf result program entry before now = Work result program before now (λ s rest. working s (entering entry rest)) onwards outwards
+EntersIf result program entry before now =
+    Work result program before now (λ s rest. working s (entering entry rest)) onwards outwards
 
 -- REFUSALS
 -- why a call on hooks and processes is refused
@@ -78,20 +80,29 @@ AsksNow known w p v = (s : State) → Stands known s → Leads s w (Ask p) v
 -- one process is asked: what was heard is to be entered
 abbrev pub Hears : Result Heard Halt → Program → (p : ℕ) → (v : Waiting) → (before now : World) → Type 0
 Hears result program p v before now =
-    (w : Waiting) (target : Target) → AsksNow before.state w p v → Work result program before now (at_item (Wait w target)) (λ heard s rest. working s (entering heard.entry (Wait (noted p heard.bytes v) target ∷ rest))) outwards
+    (w : Waiting) (target : Target) → AsksNow before.state w p v →
+    Work result program before now (at_item (Wait w target))
+    (λ heard s rest. working s (entering heard.entry (Wait (noted p heard.bytes v) target ∷ rest))) outwards
 
 -- and was entered
-abbrev pub AsksIn : {A : Type 0} → Result A Halt → Program → (p : ℕ) → (v v2 : Waiting) → (before now : World) → Type 0
+abbrev pub AsksIn : {A : Type 0} → Result A Halt → Program → (p : ℕ) → (v v2 : Waiting) →
+    (before now : World) → Type 0
 AsksIn result program p v v2 before now =
-    (w : Waiting) (target : Target) → AsksNow before.state w p v → Work result program before now (at_item (Wait w target)) (λ x. at_item (Wait v2 target)) outwards
+    (w : Waiting) (target : Target) → AsksNow before.state w p v →
+    Work result program before now (at_item (Wait w target)) (λ x. at_item (Wait v2 target)) outwards
 
 -- a wait comes to its answer
-abbrev pub WaitsOn : {A : Type 0} → Result A Halt → (A → Value) → Program → Waiting → (before now : World) → Type 0
-WaitsOn result value program w before now = (target : Target) → Work result program before now (at_item (Wait w target)) (λ x s rest. given (Answered (value x)) target s rest) outwards
+abbrev pub WaitsOn : {A : Type 0} → Result A Halt → (A → Value) → Program → Waiting →
+    (before now : World) → Type 0
+WaitsOn result value program w before now =
+    (target : Target) → Work result program before now (at_item (Wait w target))
+    (λ x s rest. given (Answered (value x)) target s rest) outwards
 
 -- DELETIONS
 abbrev pub Kills : Result (Option Entry) Halt → Program → (p : ℕ) → (before now : World) → Type 0
-Kills result program p before now = Work result program before now (at_item (Delete p)) (λ entry s rest. working s (entering entry rest)) outwards
+Kills result program p before now =
+    Work result program before now (at_item (Delete p))
+    (λ entry s rest. working s (entering entry rest)) outwards
 
 abbrev pub deleting : List ℕ → State → List Item → Config
 deleting ps s rest = working s (map Delete ps ++ rest)
@@ -101,4 +112,8 @@ DeletesAll result program ps before now = Work result program before now (deleti
 
 -- a buffer is killed behind the deletions, unless it was meanwhile
 abbrev pub killed_by : Editor → (b : ℕ) → Applied
-killed_by e b = elim (is_live e b) [ true ↦ applied e (must_be_replaceable e b ∷ []) (killed b e) T | false ↦ record { editor = e; reply = Answered Nil } ]
+killed_by e b = elim (is_live e b) [
+  | true ↦ applied e (must_be_replaceable e b ∷ [])
+      (killed b e) T
+  | false ↦ record { editor = e; reply = Answered Nil }
+]

@@ -1,8 +1,11 @@
--- What a piece of a run's work comes to: the one form of contract of all functions that do an item of the machine.
+-- What a piece of a run's work comes to: the one form of contract of all functions that do an item of the
+-- machine.
 use Rattle.std.specs.Prelude.{◌≡◌, ℕ, List, [], ◌∷◌, Option, Some, None, Result, Ok, Err}
-use Rattle.editor_model.specs.Values.{Value, Reply, Answered, Refused, Fault, Prim, Call, Form, Do, Setq, Forms, NoForms}
+use Rattle.editor_model.specs.Values.{Value, Reply, Answered, Refused, Fault, Prim, Call, Form, Do}
+use Rattle.editor_model.specs.Values.{Setq, Forms, NoForms}
 use Rattle.plain_machine.specs.State.{State, Program}
-use Rattle.plain_machine.specs.Items.{Item, Top, DoForm, MakeCall, GiveAnswer, Refuse, Finish, WriteDump, Target, Nowhere, ToName, Config}
+use Rattle.plain_machine.specs.Items.{Item, Top, DoForm, MakeCall, GiveAnswer, Refuse, Finish}
+use Rattle.plain_machine.specs.Items.{WriteDump, Target, Nowhere, ToName, Config}
 use Rattle.plain_machine.specs.Forms.{dropped, kept_reply}
 use Rattle.plain_machine.specs.Handling.{without_hooks_item}
 use Rattle.plain_machine.specs.Run.{given}
@@ -55,9 +58,11 @@ pub record BreaksAt (program : Program) (before now : World) (from : Config) (wh
   pub left : children (running breaks.last.state.processes) ≡ children (running now.state.processes)
 
 -- by the result: the machine goes on by what came of the work, or by a fault, or the run is broken off
-abbrev pub Comes : {T : Type 0} → Result T Halt → Program → (before now : World) → (from : Config) → (T → State → Config) → (Fault → State → Config) → Type 0
+abbrev pub Comes : {T : Type 0} → Result T Halt → Program → (before now : World) → (from : Config) →
+    (T → State → Config) → (Fault → State → Config) → Type 0
 Comes (Ok x) program before now from to thrown = GoesTo program before now from (to x)
-Comes (Err (halt.Fault f)) program before now from to thrown = GoesTo program before now from (thrown (fault_of f))
+Comes (Err (halt.Fault f)) program before now from to thrown =
+    GoesTo program before now from (thrown (fault_of f))
 Comes (Err (halt.Stop why)) program before now from to thrown = BreaksAt program before now from why
 
 -- a result of work that no fault ends, as one of any work
@@ -72,12 +77,18 @@ Stays (Err (halt.Fault f)) before now = Keeps before now
 Stays (Err (halt.Stop why)) before now = Hosted now.state.processes now.kills
 
 -- From a configuration the machine comes to what the work comes to, in front of every rest of its list.
-pub record Path {T : Type 0} (result : Result T Halt) (program : Program) (before now : World) (from : State → List Item → Config) (to : T → State → List Item → Config) (thrown : Fault → State → List Item → Config) : Type 0 where
-  pub comes : (s : State) (rest : List Item) → Stands before.state s → IsBehind rest → Comes result program before now (from s rest) (λ x t. to x t rest) (λ f t. thrown f t rest)
-  pub cause : HasCause before.outside.sink.faults now.outside.sink.faults (result ≡ Err (halt.Stop stop.WriteFault))
+pub record Path {T : Type 0} (result : Result T Halt) (program : Program) (before now : World)
+    (from : State → List Item → Config) (to : T → State → List Item → Config)
+    (thrown : Fault → State → List Item → Config) : Type 0 where
+  pub comes : (s : State) (rest : List Item) → Stands before.state s → IsBehind rest →
+      Comes result program before now (from s rest) (λ x t. to x t rest) (λ f t. thrown f t rest)
+  pub cause : HasCause before.outside.sink.faults now.outside.sink.faults
+      (result ≡ Err (halt.Stop stop.WriteFault))
 
 -- a piece of work: its path, and what is so afterwards of children and of nesting
-pub record Work {T : Type 0} (result : Result T Halt) (program : Program) (before now : World) (from : State → List Item → Config) (to : T → State → List Item → Config) (thrown : Fault → State → List Item → Config) : Type 0 where
+pub record Work {T : Type 0} (result : Result T Halt) (program : Program) (before now : World)
+    (from : State → List Item → Config) (to : T → State → List Item → Config)
+    (thrown : Fault → State → List Item → Config) : Type 0 where
   pub path : Path result program before now from to thrown
   pub stays : Stays result before now
 
@@ -95,8 +106,11 @@ abbrev pub Does : {T : Type 0} → Result T Halt → Program → Item → (befor
 Does result program item before now = Work result program before now (at_item item) onwards outwards
 
 -- a call is made, whatever becomes of its answer
-abbrev pub Answers : {T : Type 0} → Result T Halt → (T → Value) → Program → Prim → List Value → (before now : World) → Type 0
-Answers result value program prim args before now = (target : Target) → Work result program before now (at_item (MakeCall prim args target)) (λ x s rest. given (Answered (value x)) target s rest) outwards
+abbrev pub Answers : {T : Type 0} → Result T Halt → (T → Value) → Program → Prim → List Value →
+    (before now : World) → Type 0
+Answers result value program prim args before now =
+    (target : Target) → Work result program before now (at_item (MakeCall prim args target))
+    (λ x s rest. given (Answered (value x)) target s rest) outwards
 
 -- the reply of a call is told
 abbrev pub reply_item : Reply → Target → Item
@@ -104,7 +118,9 @@ reply_item (Answered v) target = GiveAnswer v target
 reply_item (Refused f) target = Refuse f
 
 abbrev pub Tells : {T : Type 0} → Result T Halt → (T → Value) → Program → Reply → (before now : World) → Type 0
-Tells result value program reply before now = (target : Target) → Work result program before now (at_item (reply_item reply target)) (λ x s rest. given (Answered (value x)) target s rest) outwards
+Tells result value program reply before now =
+    (target : Target) → Work result program before now (at_item (reply_item reply target))
+    (λ x s rest. given (Answered (value x)) target s rest) outwards
 
 -- the form of a call, whose answer is kept under a name where there is one
 abbrev pub call_form : Option ℕ → Call → Form
@@ -116,8 +132,11 @@ target_of None = Nowhere
 target_of (Some name) = ToName name
 
 -- a call is made as a form
-abbrev pub AnswersForm : {T : Type 0} → Result T Halt → (T → Value) → Program → Call → (before now : World) → Type 0
-AnswersForm result value program c before now = (name : Option ℕ) → Work result program before now (at_item (DoForm (call_form name c))) (λ x s rest. given (Answered (value x)) (target_of name) s rest) outwards
+abbrev pub AnswersForm : {T : Type 0} → Result T Halt → (T → Value) → Program → Call →
+    (before now : World) → Type 0
+AnswersForm result value program c before now =
+    (name : Option ℕ) → Work result program before now (at_item (DoForm (call_form name c)))
+    (λ x s rest. given (Answered (value x)) (target_of name) s rest) outwards
 
 -- at the top level nothing stands behind
 abbrev pub at_top : Forms → State → List Item → Config
@@ -125,4 +144,5 @@ at_top forms s rest = working s (Top forms ∷ [])
 
 -- the forms of the top level are run; a fault ends its form alone
 abbrev pub RunsTop : {T : Type 0} → Result T Halt → Program → Forms → (before now : World) → Type 0
-RunsTop result program forms before now = Work result program before now (at_top forms) (λ x. at_top NoForms) outwards
+RunsTop result program forms before now =
+    Work result program before now (at_top forms) (λ x. at_top NoForms) outwards

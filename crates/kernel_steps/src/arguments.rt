@@ -37,6 +37,7 @@ fn fill<M: Kernel>(kernel: &M, args: &Args, room: Values) -> Mem<Option<Values>>
 }
 
 /// The values of all arguments, if each has one.
+#[inline(always)]
 pub(crate) fn values<M: Kernel>(kernel: &mut M, args: &Args) -> Mem<Option<Values>>
     ensures values { IfOk result (λ found. option_map (λ vs. map view (items_of vs)) found ≡
         evaluate (M.state kernel.old) (map arg_of (items_of args.now))) }

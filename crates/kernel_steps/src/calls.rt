@@ -51,6 +51,7 @@ fn set_editor<M: Kernel, P: Program, K: Sink>(
 
 /// Makes a call and writes the line of its reply.
 #[cycle(run)]
+#[inline(always)]
 pub(crate) fn call<M: Kernel, P: Program, H: Host, K: Sink>(
     kernel: &mut M,
     program: &P,

@@ -129,9 +129,10 @@ fn told<M: Kernel>(alloc: Global, change: &Change, made: Option<Made>) -> Mem<Va
     }
 }
 
-/// Enters the hook functions of a kind, unless hooks are inhibited. They are meanwhile. Where there is none, no list is made
-/// of what they would be told.
+/// Enters the hook functions of a kind, unless hooks are inhibited. They are meanwhile. Where there is none, no list
+/// is made of what they would be told.
 #[cycle(run)]
+#[inline(always)]
 fn run_bracket<M: Kernel, P: Program, H: Host, K: Sink>(
     kernel: &mut M,
     program: &P,

@@ -150,6 +150,7 @@ fn run_when<M: Kernel, P: Program, H: Host, K: Sink>(
 
 /// Evaluates the arguments of a call, and makes it.
 #[cycle(run)]
+#[inline(always)]
 fn run_call<M: Kernel, P: Program, H: Host, K: Sink>(
     kernel: &mut M,
     program: &P,

@@ -13,6 +13,7 @@ use ek_call::{Fault, Reply, Value};
 use ek_types::Sink;
 
 /// Writes the line of a reply. A refusal goes on outwards.
+#[inline(always)]
 pub(crate) fn tell<M: Kernel, P: Program, K: Sink>(
     kernel: &M,
     program: &P,

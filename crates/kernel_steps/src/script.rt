@@ -41,7 +41,8 @@ pub fn run_script<M: Kernel, P: Program, H: Host, K: Sink>(
     ensures cause { HasCause (K.state sink.old).faults (K.state sink.new).faults (result ≡
         Err Stop.WriteFault) }
 {
-    // Laws of all runs of the machine, by which the contract speaks of entries, sentinels, kills and undoing. They do nothing.
+    // Laws of all runs of the machine, by which the contract speaks of entries, sentinels, kills and undoing. They do
+    // nothing.
     machine_laws::kills_are_left();
     machine_laws::whole_runs_hear_all();
     machine_laws::broken_runs_hear_all();

@@ -1,4 +1,5 @@
--- What a check comes to: claimed lines beside those of the machine's run of a script on the exchanges of a journal.
+-- What a check comes to: claimed lines beside those of the machine's run of a script on the exchanges of a
+-- journal.
 pub use Rattle.trace_check.specs.Verdicts.{IsClaimed, DiffersIn}
 use Rattle.std.specs.Prelude.{◌≡◌, ℕ, ◌≤◌, ◌<◌, List, length, codes}
 use Rattle.editor_model.specs.Values.{Script}
@@ -35,7 +36,8 @@ pub record OfTranscript (read : List ℕ) (So : List Exchange → (claimed bytes
 -- its bytes are a script, and this is so of the journal, the claimed lines and the script
 abbrev pub OfCheck : (read : List ℕ) → (So : List Exchange → (claimed : List ℕ) → Script → Type 0) → Type 0
 OfCheck read So =
-    OfTranscript read (λ journal claimed bytes. (script : Script) × IsScript bytes script × So journal claimed script)
+    OfTranscript read (λ journal claimed bytes. (script : Script) × IsScript bytes script ×
+    So journal claimed script)
 
 -- the bytes are no transcript, and this is the line of the fault
 pub record IsNoTranscript (read : List ℕ) (line : ℕ) : Type 0 where

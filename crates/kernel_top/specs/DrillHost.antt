@@ -10,4 +10,5 @@ drill_play count = record { reads = map Bytes (drill_reads count) ++ End ∷ [];
 
 -- a new host in memory with this one child, of which no call fails
 abbrev pub drill_host : (count : ℕ) → MemoryHostState
-drill_host count = record { plays = drill_play count ∷ []; kills = []; fails = []; calls = 0; faults = 0; told = [] }
+drill_host count =
+    record { plays = drill_play count ∷ []; kills = []; fails = []; calls = 0; faults = 0; told = [] }

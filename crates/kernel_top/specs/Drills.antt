@@ -37,7 +37,8 @@ pub record AreCounts (said : List Said) (made : List Exchange) (last : State) (c
 abbrev pub line_of : (count : ℕ) → Counts → List ℕ
 line_of count counts =
     codes "drill " ++ (decimal count ++ (codes ": " ++ (decimal counts.lines ++ (codes " lines, " ++
-    (decimal counts.exchanges ++ (codes " exchanges, " ++ (decimal counts.characters ++ codes " characters\n")))))))
+    (decimal counts.exchanges ++ (codes " exchanges, " ++
+    (decimal counts.characters ++ codes " characters\n")))))))
 
 -- the drill's script was run and counted, or that run was broken off
 abbrev pub Counted : Result Counts Stop → Program → (count : ℕ) → List Exchange → Type 0

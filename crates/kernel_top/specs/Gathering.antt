@@ -1,6 +1,7 @@
--- What a line session comes to: its script is run with its two natives and its lines thrown away, and the text of the
--- buffer `*session*` is written.
-use Rattle.std.specs.Prelude.{◌≡◌, ℕ, ◌<◌, ◌≤◌, Bool, true, false, List, length, map, flat_map, if◌then◌else◌, Result, Ok, Err}
+-- What a line session comes to: its script is run with its two natives and its lines thrown away, and the
+-- text of the buffer `*session*` is written.
+use Rattle.std.specs.Prelude.{◌≡◌, ℕ, ◌<◌, ◌≤◌, Bool, true, false, List, length, map, flat_map}
+use Rattle.std.specs.Prelude.{if◌then◌else◌, Result, Ok, Err}
 use Rattle.text_model.specs.Characters.{Ch, encoded}
 use Rattle.text_model.specs.Properties.{Cell}
 use Rattle.editor_model.specs.Values.{Value, Script}
@@ -64,7 +65,8 @@ Gathered status.WriteFault last written before now = IsGatheredFront (gathered l
 Gathered _ last written before now = ⊥
 
 -- the script was run to its end over just these exchanges, and this became of its text
-pub record Gathers (answer : Status) (program : Program) (script : Script) (written : List ℕ) (exchanges : List Exchange) (before now : SinkState) : Type 0 where
+pub record Gathers (answer : Status) (program : Program) (script : Script) (written : List ℕ)
+    (exchanges : List Exchange) (before now : SinkState) : Type 0 where
   pub whole : IsWhole program script exchanges
   pub text : Gathered answer whole.ran.last.state written before now
 

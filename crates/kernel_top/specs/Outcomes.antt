@@ -1,5 +1,5 @@
--- What the top call claims, by its words and its status: of the bytes read, of the bytes written, and of the exchanges
--- made.
+-- What the top call claims, by its words and its status: of the bytes read, of the bytes written, and of
+-- the exchanges made.
 use Rattle.std.specs.Prelude.{◌≡◌, ℕ, ◌+◌, ◌<◌, ◌≤◌, ◌⊎◌, List, [], length, Option, Some, None, Result, Ok, Err}
 use Rattle.std.specs.Io.KnownBytes.{Consumes, Appends}
 use Rattle.editor_model.specs.Values.{Script}
@@ -62,16 +62,16 @@ pub record OfScript (read : List ℕ) (before now : Seen) (So : Script → Type 
   pub is : IsScript read script
   pub so : So script
 
--- these bytes are no script, though the source has ended or gave more than a script may have; nothing was written or
--- asked
+-- these bytes are no script, though the source has ended or gave more than a script may have; nothing was
+-- written or asked
 abbrev pub RefusesScript :
     (line : ℕ) → (read written : List ℕ) → List Exchange → (before now : Seen) → Type 0
 RefusesScript line read written exchanges before now =
     (HasEnded before.source.left now.source.left ⊎ (longest_script < length read)) ×
     HasNoScript read line × IsQuiet written exchanges before now
 
--- BY STATUS. `read` are the bytes taken from the source, and `written` those put in the sink. The program is that of a
--- script.
+-- BY STATUS. `read` are the bytes taken from the source, and `written` those put in the sink. The program
+-- is that of a script.
 -- a script is read: it was refused, or wasn't had, or this came of it
 abbrev pub OnScript :
     (So : Status → Script → (read written : List ℕ) → List Exchange → (before now : Seen) → Type 0) →
@@ -87,7 +87,8 @@ OnScript So answer read written exchanges before now =
 
 -- a script was run
 abbrev pub Runs :
-    (Script → Program) → Status → Script → (read written : List ℕ) → List Exchange → (before now : Seen) → Type 0
+    (Script → Program) → Status → Script → (read written : List ℕ) → List Exchange →
+    (before now : Seen) → Type 0
 Runs program status.Done script read written exchanges before now =
     RanScript (program script) script exchanges written before.sink now.sink
 Runs program status.WriteFault script read written exchanges before now =
@@ -98,7 +99,8 @@ Runs program _ script read written exchanges before now = ⊥
 
 -- a script was run, and its session written
 abbrev pub RunsAndRecords :
-    (Script → Program) → Status → Script → (read written : List ℕ) → List Exchange → (before now : Seen) → Type 0
+    (Script → Program) → Status → Script → (read written : List ℕ) → List Exchange →
+    (before now : Seen) → Type 0
 RunsAndRecords program status.NoMemory script read written exchanges before now =
     BreaksOffUnseen (program script) script written exchanges before.sink now.sink
 RunsAndRecords program answer script read written exchanges before now =
@@ -106,7 +108,8 @@ RunsAndRecords program answer script read written exchanges before now =
 
 -- a script was run, and its view written
 abbrev pub RunsAndViews :
-    (Script → Program) → Status → Script → (read written : List ℕ) → List Exchange → (before now : Seen) → Type 0
+    (Script → Program) → Status → Script → (read written : List ℕ) → List Exchange →
+    (before now : Seen) → Type 0
 RunsAndViews program answer script read written exchanges before now =
     Viewed answer (program script) script written exchanges before.sink now.sink
 
@@ -133,14 +136,16 @@ abbrev pub OnReplay :
     (Script → Program) → Status → (read written : List ℕ) → List Exchange → (before now : Seen) → Type 0
 OnReplay program answer read written exchanges before now =
     (exchanges ≡ []) × (now.host ≡ before.host) ×
-    ReadAnd (Replayed program) answer read written (HasEnded before.source.left now.source.left) before.sink now.sink
+    ReadAnd (Replayed program) answer read written
+    (HasEnded before.source.left now.source.left) before.sink now.sink
 
 -- the word `check`: the host is asked nothing
 abbrev pub OnCheck :
     (Script → Program) → Status → (read written : List ℕ) → List Exchange → (before now : Seen) → Type 0
 OnCheck program answer read written exchanges before now =
     (exchanges ≡ []) × (now.host ≡ before.host) ×
-    ReadAnd (Told program) answer read written (HasEnded before.source.left now.source.left) before.sink now.sink
+    ReadAnd (Told program) answer read written
+    (HasEnded before.source.left now.source.left) before.sink now.sink
 
 -- the summary was written, and the sink hasn't failed where it had room for it
 abbrev pub WritesSummary :
@@ -150,7 +155,8 @@ WritesSummary program count written exchanges before now =
     (length written ≤ before.sink.room → now.sink.faults ≡ before.sink.faults)
 
 -- a front of the summary was written, as the sink had no room for the whole
-pub record CutsSummary (program : Program) (count : ℕ) (written : List ℕ) (exchanges : List Exchange) (before : Seen) : Type 0 where
+pub record CutsSummary (program : Program) (count : ℕ) (written : List ℕ) (exchanges : List Exchange)
+    (before : Seen) : Type 0 where
   pub line : List ℕ
   pub sums : SumsUp program count exchanges line
   pub front : IsPrefixOf written line
@@ -158,7 +164,8 @@ pub record CutsSummary (program : Program) (count : ℕ) (written : List ℕ) (e
 
 -- the words `drill` and a number
 abbrev pub OnDrill :
-    (Script → Program) → (count : ℕ) → Status → (written : List ℕ) → List Exchange → (before now : Seen) → Type 0
+    (Script → Program) → (count : ℕ) → Status → (written : List ℕ) → List Exchange →
+    (before now : Seen) → Type 0
 OnDrill program count status.Done written exchanges before now =
     WritesSummary (program (drill_script count)) count written exchanges before now
 OnDrill program count status.WriteFault written exchanges before now =
@@ -177,9 +184,11 @@ OnGathering program script status.NoMemory written exchanges before now =
 OnGathering program script answer written exchanges before now =
     Gathers answer program script written exchanges before.sink now.sink
 
--- The words `session`, a number, a program and its words: besides, what is written are the lines of the exchanges, and
--- the child was started again at most so often, each time behind an end otherwise than by code 0.
-pub record OnSession (wanted : Wanted) (answer : Status) (written : List ℕ) (exchanges : List Exchange) (before now : Seen) : Type 0 where
+-- The words `session`, a number, a program and its words: besides, what is written are the lines of the
+-- exchanges, and the child was started again at most so often, each time behind an end otherwise than by
+-- code 0.
+pub record OnSession (wanted : Wanted) (answer : Status) (written : List ℕ) (exchanges : List Exchange)
+    (before now : Seen) : Type 0 where
   pub gathered : OnGathering (program_wanted wanted) (script_wanted wanted) answer written exchanges before now
   pub lined : Lined answer written exchanges
   pub starts : StartsInTurn wanted.limit exchanges
@@ -195,7 +204,8 @@ IsUnread read before now = (read ≡ []) × (now.source ≡ before.source)
 
 -- BY WHAT THE WORDS ASK FOR, which is nothing where the program doesn't know them
 abbrev pub Outcome :
-    (Script → Program) → Option Command → Status → (read written : List ℕ) → List Exchange → (before now : Seen) →
+    (Script → Program) → Option Command → Status → (read written : List ℕ) → List Exchange →
+    (before now : Seen) →
     Type 0
 Outcome program (Some command.Run) answer read written exchanges before now =
     OnRun program answer read written exchanges before now
@@ -220,9 +230,12 @@ most_read (Some command.Replay) = longest_session + 1
 most_read (Some command.Check) = longest_session + 1
 most_read _ = longest_script + 1
 
--- What a call came to, by what its words ask for. The bytes read and written are those that source and sink tell, where
--- they tell any. The exchanges are the calls that were made on the host, which tells them where it tells any.
-pub record Came {H : Type 0} (hosted : H → HostState) (made : H → H → Ask → ℕ → Answer → Type 0) (program : Script → Program) (asked : Option Command) (answer : Status) (start now : H) (source source' : SourceState) (sink sink' : SinkState) : Type 0 where
+-- What a call came to, by what its words ask for. The bytes read and written are those that source and sink
+-- tell, where they tell any. The exchanges are the calls that were made on the host, which tells them where
+-- it tells any.
+pub record Came {H : Type 0} (hosted : H → HostState) (made : H → H → Ask → ℕ → Answer → Type 0)
+    (program : Script → Program) (asked : Option Command) (answer : Status) (start now : H)
+    (source source' : SourceState) (sink sink' : SinkState) : Type 0 where
   pub read : List ℕ
   pub written : List ℕ
   pub exchanges : List Exchange
@@ -231,15 +244,19 @@ pub record Came {H : Type 0} (hosted : H → HostState) (made : H → H → Ask 
   pub put : Appends sink.held sink'.held written
   pub calls : CallsSince hosted made start now exchanges
   pub told : Tells (hosted start).told (hosted now).told exchanges
-  pub outcome : Outcome program asked answer read written exchanges (seen source sink (hosted start)) (seen source' sink' (hosted now))
+  pub outcome : Outcome program asked answer read written exchanges (seen source sink (hosted start))
+      (seen source' sink' (hosted now))
 
 -- What a call came to but for its source, whatever that is.
-pub record CameSo {H : Type 0} (hosted : H → HostState) (made : H → H → Ask → ℕ → Answer → Type 0) (start now : H) (sink sink' : SinkState) (So : (written : List ℕ) → List Exchange → (before now : Seen) → Type 0) : Type 0 where
+pub record CameSo {H : Type 0} (hosted : H → HostState) (made : H → H → Ask → ℕ → Answer → Type 0)
+    (start now : H) (sink sink' : SinkState)
+    (So : (written : List ℕ) → List Exchange → (before now : Seen) → Type 0) : Type 0 where
   pub written : List ℕ
   pub exchanges : List Exchange
   pub put : Appends sink.held sink'.held written
   pub calls : CallsSince hosted made start now exchanges
-  pub so : (source source' : SourceState) → So written exchanges (seen source sink (hosted start)) (seen source' sink' (hosted now))
+  pub so : (source source' : SourceState) →
+      So written exchanges (seen source sink (hosted start)) (seen source' sink' (hosted now))
 
 -- what became of bytes that were all that a source had
 abbrev pub OfBytes :
@@ -289,8 +306,9 @@ OnScriptUnlessFaults Ended source source' sink sink' =
     (bytes : List ℕ) (script : Script) → source.left ≡ Some bytes → IsScript bytes script →
     UnlessFaults Ended source source' sink sink'
 
--- Where neither source nor sink failed: a script is run to its end, and its session or its view written; a session or a
--- transcript is replayed, judged or refused; a drill or a line session is run to its end; or memory was wanting.
+-- Where neither source nor sink failed: a script is run to its end, and its session or its view written; a
+-- session or a transcript is replayed, judged or refused; a drill or a line session is run to its end; or
+-- memory was wanting.
 abbrev pub Completes :
     Option Command → Status → (source source' : SourceState) → (sink sink' : SinkState) → Type 0
 Completes (Some command.Run) answer source source' sink sink' =

@@ -21,13 +21,16 @@ use Rattle.kernel_top.specs.declared.status.Status.TheVariants as status
 
 -- RUNS ON A JOURNAL
 -- a front of the lines of the whole run was written, and the sink hasn't failed where it had room for them all
-pub record CutsLines (program : Program) (script : Script) (journal : List Exchange) (written : List ℕ) (before now : SinkState) : Type 0 where
+pub record CutsLines (program : Program) (script : Script) (journal : List Exchange) (written : List ℕ)
+    (before now : SinkState) : Type 0 where
   pub whole : IsWhole program script journal
   pub front : IsPrefixOf written whole.lines
   pub roomy : length whole.lines ≤ before.room → now.faults ≡ before.faults
 
--- Memory was wanting in the run, behind a front of the journal. All that it had said was written, so whole lines.
-pub record StopsBetweenLines (program : Program) (script : Script) (journal : List Exchange) (written : List ℕ) (before now : SinkState) : Type 0 where
+-- Memory was wanting in the run, behind a front of the journal. All that it had said was written, so whole
+-- lines.
+pub record StopsBetweenLines (program : Program) (script : Script) (journal : List Exchange)
+    (written : List ℕ) (before now : SinkState) : Type 0 where
   pub made : List Exchange
   pub others : List Exchange
   pub in_order : journal ≡ made ++ others
@@ -46,7 +49,8 @@ pub record OfSession (read : List ℕ) (So : List Exchange → (bytes : List ℕ
 
 -- the bytes of the session are a script, and this is so of the journal and of it
 abbrev pub OfReplay : (read : List ℕ) → (So : List Exchange → Script → Type 0) → Type 0
-OfReplay read So = OfSession read (λ journal bytes. (script : Script) × IsScript bytes script × So journal script)
+OfReplay read So =
+    OfSession read (λ journal bytes. (script : Script) × IsScript bytes script × So journal script)
 
 -- no front of the bytes is a journal with its last line, and this is the line of the fault
 pub record IsNoSession (read : List ℕ) (line : ℕ) : Type 0 where
@@ -71,12 +75,14 @@ Replayed program (status.Journal line) read written before now =
 Replayed program (status.Script line) read written before now =
     IsUnwritten written before now × OfSession read (λ journal bytes. HasNoScript bytes line)
 Replayed program (status.Strayed most) read written before now =
-    IsUnwritten written before now × OfReplay read (λ journal script. Strays (program script) script journal most)
+    IsUnwritten written before now × OfReplay read
+    (λ journal script. Strays (program script) script journal most)
 Replayed program _ read written before now = ⊥
 
 -- what a replay of a script over a journal came to, by its status
 abbrev pub ReplayedOn :
-    Program → Status → Script → (journal : List Exchange) → (written : List ℕ) → (before now : SinkState) → Type 0
+    Program → Status → Script → (journal : List Exchange) → (written : List ℕ) →
+    (before now : SinkState) → Type 0
 ReplayedOn program status.Done script journal written before now =
     RanScript program script journal written before now
 ReplayedOn program status.WriteFault script journal written before now =
@@ -87,7 +93,8 @@ ReplayedOn program (status.Strayed most) script journal written before now =
     IsUnwritten written before now × Strays program script journal most
 ReplayedOn program _ script journal written before now = ⊥
 
--- the source wasn't read to its end: it failed, memory was wanting, or it has more bytes than a session may have
+-- the source wasn't read to its end: it failed, memory was wanting, or it has more bytes than a session may
+-- have
 abbrev pub IsUnread : Status → (read : List ℕ) → Type 0
 IsUnread status.ReadFault read = Unit {0}
 IsUnread status.NoMemory read = Unit {0}
@@ -95,7 +102,8 @@ IsUnread (status.Journal line) read = (line ≡ 0) × (longest_session < length 
 IsUnread _ read = ⊥
 
 -- SOURCES
--- what became of the bytes read from a source, which has ended or was given up: this is so of them, or they weren't had
+-- what became of the bytes read from a source, which has ended or was given up: this is so of them, or they
+-- weren't had
 abbrev pub ReadAnd :
     (So : Status → (read written : List ℕ) → (before now : SinkState) → Type 0) →
     Status → (read written : List ℕ) → (Ended : Type 0) → (before now : SinkState) → Type 0
@@ -104,7 +112,8 @@ ReadAnd So answer read written Ended before now =
     (IsUnwritten written before now × IsUnread answer read)
 
 -- what the session or the transcript that a source holds came to
-pub record SourceSettled (So : Status → (read written : List ℕ) → (before now : SinkState) → Type 0) (answer : Status) (source source' : SourceState) (sink sink' : SinkState) : Type 0 where
+pub record SourceSettled (So : Status → (read written : List ℕ) → (before now : SinkState) → Type 0)
+    (answer : Status) (source source' : SourceState) (sink sink' : SinkState) : Type 0 where
   pub read : List ℕ
   pub written : List ℕ
   pub taken : Consumes source.left source'.left read

@@ -1,4 +1,5 @@
--- The session of a run, and what became of it: the exchanges of the run as a journal, and behind it the bytes of the script.
+-- The session of a run, and what became of it: the exchanges of the run as a journal, and behind it the
+-- bytes of the script.
 use Rattle.std.specs.Prelude.{◌≡◌, ℕ, ◌<◌, ◌≤◌, nat_le, Bool, List, [], length}
 use Rattle.editor_model.specs.Values.{Script}
 use Rattle.plain_machine.specs.Exchanges.{Exchange}
@@ -42,15 +43,17 @@ Written status.WriteFault bytes written before now = IsCut bytes written before
 Written status.JournalFull bytes written before now = IsTooLong bytes written before now
 Written _ bytes written before now = ⊥
 
--- The script was run to its end over just these exchanges, and this became of its session. Each exchange has a line, and children are
--- numbered in order behind those that were started before.
-pub record Records (answer : Status) (program : Program) (script : Script) (read written : List ℕ) (exchanges : List Exchange) (children : List Bool) (before now : SinkState) : Type 0 where
+-- The script was run to its end over just these exchanges, and this became of its session. Each exchange
+-- has a line, and children are numbered in order behind those that were started before.
+pub record Records (answer : Status) (program : Program) (script : Script) (read written : List ℕ)
+    (exchanges : List Exchange) (children : List Bool) (before now : SinkState) : Type 0 where
   pub whole : IsWhole program script exchanges
   pub lines : AreLines (length children) exchanges
   pub session : Written answer (session exchanges read) written before now
 
 -- the run of the script was broken off for want of memory, and nothing was written
-pub record BreaksOffUnseen (program : Program) (script : Script) (written : List ℕ) (exchanges : List Exchange) (before now : SinkState) : Type 0 where
+pub record BreaksOffUnseen (program : Program) (script : Script) (written : List ℕ)
+    (exchanges : List Exchange) (before now : SinkState) : Type 0 where
   pub broken : IsBrokenOff program script exchanges
   pub nothing : written ≡ []
   pub same : now ≡ before

@@ -1,5 +1,5 @@
--- What the word `view` comes to: a script is run with its lines thrown away, and its last current buffer is written as it would
--- be seen.
+-- What the word `view` comes to: a script is run with its lines thrown away, and its last current buffer is
+-- written as it would be seen.
 use Rattle.std.specs.Prelude.{◌≡◌, ℕ, ◌<◌, ◌≤◌, ◌⊎◌, List, [], length, flat_map, Result, Ok, Err}
 use Rattle.text_model.specs.Characters.{encoded}
 use Rattle.editor_model.specs.Values.{Script}
@@ -20,32 +20,39 @@ use Rattle.kernel_top.specs.declared.status.Status.TheVariants as status
 abbrev pub view_of : Editor → List ℕ
 view_of e = flat_map encoded (shown e e.current)
 
--- The script has run to its end over just these exchanges, and the view of its last state was written. The sink hasn't failed
--- where it had room for it.
-pub record ShowsView (program : Program) (script : Script) (written : List ℕ) (exchanges : List Exchange) (before now : SinkState) : Type 0 where
+-- The script has run to its end over just these exchanges, and the view of its last state was written. The
+-- sink hasn't failed where it had room for it.
+pub record ShowsView (program : Program) (script : Script) (written : List ℕ)
+    (exchanges : List Exchange) (before now : SinkState) : Type 0 where
   pub lines : List ℕ
   pub ran : Ran program deepest script exchanges lines
   pub is : written ≡ view_of ran.last.state.editor
   pub roomy : length written ≤ before.room → now.faults ≡ before.faults
 
 -- the same, but a front of the view was written, as the sink had no room for the whole
-pub record CutsView (program : Program) (script : Script) (written : List ℕ) (exchanges : List Exchange) (before : SinkState) : Type 0 where
+pub record CutsView (program : Program) (script : Script) (written : List ℕ) (exchanges : List Exchange)
+    (before : SinkState) : Type 0 where
   pub lines : List ℕ
   pub ran : Ran program deepest script exchanges lines
   pub front : IsPrefixOf written (view_of ran.last.state.editor)
   pub room : before.room < length (view_of ran.last.state.editor)
 
 -- memory was wanting in the run of the script, or behind its end, and nothing was written
-pub record ShowsNothing (program : Program) (script : Script) (written : List ℕ) (exchanges : List Exchange) (before now : SinkState) : Type 0 where
+pub record ShowsNothing (program : Program) (script : Script) (written : List ℕ)
+    (exchanges : List Exchange) (before now : SinkState) : Type 0 where
   pub came : IsWhole program script exchanges ⊎ IsBrokenOff program script exchanges
   pub nothing : written ≡ []
   pub same : now ≡ before
 
 -- what became of a script that was run to be viewed, by the status
-abbrev pub Viewed : Status → Program → Script → (written : List ℕ) → List Exchange → (before now : SinkState) → Type 0
-Viewed status.Done program script written exchanges before now = ShowsView program script written exchanges before now
-Viewed status.WriteFault program script written exchanges before now = CutsView program script written exchanges before
-Viewed status.NoMemory program script written exchanges before now = ShowsNothing program script written exchanges before now
+abbrev pub Viewed : Status → Program → Script → (written : List ℕ) → List Exchange →
+    (before now : SinkState) → Type 0
+Viewed status.Done program script written exchanges before now =
+    ShowsView program script written exchanges before now
+Viewed status.WriteFault program script written exchanges before now =
+    CutsView program script written exchanges before
+Viewed status.NoMemory program script written exchanges before now =
+    ShowsNothing program script written exchanges before now
 Viewed _ program script written exchanges before now = ⊥
 
 -- the status of a view, by how its writing ended

@@ -159,7 +159,7 @@ fn string(alloc: Global, bytes: &[u8]) -> Mem<Arg>
 {
     let mut text = Chars::new(alloc);
     text.extend_bytes(bytes)?;
-    Ok(Arg::Const(Value::Str(Piece::plain(alloc, text))))
+    Ok(Arg::Const(Value::Str(Piece::plain(alloc, text)?)))
 }
 
 /// The start of the child.

@@ -19,7 +19,7 @@ pub fn bare_text(rt: &impl Abort, alloc: Global, size: usize) -> Piece {
     for _ in 0..size {
         text.push(Ch::Scalar('x')).expect(rt, "memory");
     }
-    Piece::plain(alloc, text)
+    Piece::plain(alloc, text).expect(rt, "memory")
 }
 
 /// The set with a face, or none where it is 0.

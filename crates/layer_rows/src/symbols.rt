@@ -12,8 +12,8 @@ fn number(rt: &impl Abort, symbols: &mut Symbols, name: &str) -> u32 {
     symbol.0
 }
 
-// The names of `(defhandler h (b e) (delete-region 1 2)) (add-hook 'before-change-functions 'h) (setq m (copy-marker 2))`,
-// the words for calls left out.
+// The names of `(defhandler h (b e) (delete-region 1 2)) (add-hook 'before-change-functions 'h) (setq m (copy-marker
+// 2))`, the words for calls left out.
 #[test]
 fn the_names_of_a_script_are_numbered_in_their_order(rt: HostRuntime) {
     let mut symbols = Symbols::new(rt.alloc()).expect(&rt, "memory");

@@ -25,7 +25,8 @@ is_open (c ∷ d ∷ text) = is_open (d ∷ text)
 
 -- what was heard of a child, its last line closed where the child has ended
 abbrev pub closed : (child : ℕ) → List Exchange → List Ch
-closed child exchanges = heard Utf8 child exchanges ++ (if has_ended child exchanges && is_open (heard Utf8 child exchanges) then Scalar 10 ∷ [] else [])
+closed child exchanges = heard Utf8 child exchanges ++
+    (if has_ended child exchanges && is_open (heard Utf8 child exchanges) then Scalar 10 ∷ [] else [])
 
 -- of all children, in the order of their starts
 abbrev pub session_lines : List Exchange → List Ch

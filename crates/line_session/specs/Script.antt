@@ -2,7 +2,9 @@
 use Rattle.std.specs.Prelude.{ℕ, List, [], ◌∷◌, ◌++◌, map, codes, replicate}
 use Rattle.text_model.specs.Decoding.{all_characters}
 use Rattle.text_model.specs.Names.{first_symbols}
-use Rattle.editor_model.specs.Values.{Value, Sym, plain, Const, Name, Form, Do, Setq, Script, StartProcess, SetProcessFilter, SetProcessSentinel, AcceptProcessOutput}
+use Rattle.editor_model.specs.Values.{Value, Sym, plain, Const, Name, Form, Do, Setq, Script}
+use Rattle.editor_model.specs.Values.{StartProcess, SetProcessFilter, SetProcessSentinel}
+use Rattle.editor_model.specs.Values.{AcceptProcessOutput}
 use Rattle.plain_machine.specs.Drill.{call, in_order}
 use Rattle.line_session.specs.Handlers.{ascii}
 
@@ -12,7 +14,8 @@ word_value word = plain (all_characters word)
 
 -- the arguments of each start
 abbrev pub command_of : (program : List ℕ) → (args : List (List ℕ)) → List Value
-command_of program args = ascii (codes "session") ∷ ascii (codes "*session*") ∷ word_value program ∷ map word_value args
+command_of program args =
+    ascii (codes "session") ∷ ascii (codes "*session*") ∷ word_value program ∷ map word_value args
 
 -- its names, numbered behind the first symbols: p, session-filter, session-sentinel
 abbrev pub p : ℕ
@@ -39,7 +42,8 @@ waiting_forms waits command =
     replicate waits wait_form
 
 abbrev pub script_with : (waits : ℕ) → (command : List Value) → Script
-script_with waits command = record { symbols = session_symbols; handlers = []; forms = in_order (waiting_forms waits command) }
+script_with waits command =
+    record { symbols = session_symbols; handlers = []; forms = in_order (waiting_forms waits command) }
 
 abbrev pub session_script : (command : List Value) → Script
 session_script command = script_with 65536 command

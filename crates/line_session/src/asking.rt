@@ -16,7 +16,7 @@ pub(crate) fn ascii(alloc: Global, bytes: &[u8]) -> Mem<Value>
 {
     let mut text = Chars::new(alloc);
     text.extend_bytes(bytes)?;
-    Ok(Value::Str(Piece::plain(alloc, text)))
+    Ok(Value::Str(Piece::plain(alloc, text)?))
 }
 
 /// A call with two arguments.

@@ -29,10 +29,11 @@ fn word_value(alloc: Global, word: &str) -> Mem<Value>
     ensures { IfOk result (λ v. view v ≡ word_value word.now) }
 {
     let text = decoded(alloc, word.as_bytes())?;
-    Ok(Value::Str(Piece::plain(alloc, text)))
+    Ok(Value::Str(Piece::plain(alloc, text)?))
 }
 
-/// The arguments of each start of the child: the name of the process and that of its buffer, and then the program and its words.
+/// The arguments of each start of the child: the name of the process and that of its buffer, and then the program and
+/// its words.
 pub(crate) fn command(alloc: Global, program: &str, args: &[String]) -> Mem<Values>
     ensures { IfOk result (λ values. values_of values ≡
         command_of program.now (map string_bytes args.now)) }

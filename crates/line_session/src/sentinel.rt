@@ -17,7 +17,8 @@ use ek_call::{Primitive, Reply, Value, Values};
 use ek_types::Mem;
 use handler_code::{Next, ask_with, copied};
 
-/// What the sentinel does next: it closes the last line, and starts the child again. `command` has the arguments of the start.
+/// What the sentinel does next: it closes the last line, and starts the child again. `command` has the arguments of
+/// the start.
 pub(crate) fn next_call(limit: u32, command: &Values, args: &Values, past: &[Reply]) -> Mem<Next>
     ensures { IfOk result (λ next. asked_of next ≡ session_sentinel limit (values_of command.now)
         (process_of args.now) (told_of args.now) (replies_of past.now)) }

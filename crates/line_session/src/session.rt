@@ -12,8 +12,8 @@ use ek_types::Mem;
 use handler_code::{Natives, Next};
 use std::alloc::Global;
 
-/// A session: a program that is run, and started again while it ends otherwise than with code 0. As `Natives` it has the filter and
-/// the sentinel by which its script runs.
+/// A session: a program that is run, and started again while it ends otherwise than with code 0. As `Natives` it has
+/// the filter and the sentinel by which its script runs.
 #[derive(Drop)]
 pub struct LineSession {
     limit: u32,

@@ -1,4 +1,5 @@
--- Brackets: what is raised while a handler runs, a block stands or a change is under way, and is as before behind it.
+-- Brackets: what is raised while a handler runs, a block stands or a change is under way, and is as before
+-- behind it.
 use Rattle.std.specs.Prelude.{◌≡◌, ℕ, Bool, true, false, List, [], ◌∷◌, length, map, Option}
 use Rattle.text_model.specs.Marks.{Saved, Excursion, Restriction, Pending}
 use Rattle.editor_model.specs.Values.{Value, Reply, Prim, SetBuffer, Script}
@@ -19,8 +20,8 @@ shape (Pending b from to) = (2, b)
 abbrev pub shapes : List Saved → List (ℕ × ℕ)
 shapes saved = map shape saved
 
--- how many handlers run, how many scopes there are, whether hooks are inhibited, whether nothing counts as read-only,
--- which places are kept
+-- how many handlers run, how many scopes there are, whether hooks are inhibited, whether nothing counts as
+-- read-only, which places are kept
 pub record Levels : Type 0 where
   pub depth : ℕ
   pub scopes : ℕ
@@ -29,7 +30,13 @@ pub record Levels : Type 0 where
   pub kept : List (ℕ × ℕ)
 
 abbrev pub levels : State → Levels
-levels s = record { depth = s.depth; scopes = length s.scopes; inhibited = s.inhibited; lifted = s.editor.lifted; kept = shapes s.editor.marks.saved }
+levels s = record {
+  depth = s.depth;
+  scopes = length s.scopes;
+  inhibited = s.inhibited;
+  lifted = s.editor.lifted;
+  kept = shapes s.editor.marks.saved;
+}
 
 -- THE TOP LEVEL
 -- the forms of the top level are next, or what stands behind them
@@ -50,7 +57,8 @@ pub record NothingLeft (s : State) : Type 0 where
 -- Whenever a run comes to the top level, no handler, no block and no change has left anything over.
 abbrev pub TopIsClear : Program → ℕ → Config → Type 0
 TopIsClear program bound from =
-    (exchanges : List Exchange) (said : List Said) (c : Config) → Reaches program bound from exchanges said c → IsTop c.work → NothingLeft c.state
+    (exchanges : List Exchange) (said : List Said) (c : Config) →
+    Reaches program bound from exchanges said c → IsTop c.work → NothingLeft c.state
 
 -- CALLS AND HANDLERS, wherever a run comes to them, with whatever handlers between
 -- the one call that makes the buffer current that it names
@@ -64,12 +72,16 @@ CurrentAgain s t = is_live t.editor s.editor.current ≡ true → t.editor.curre
 
 abbrev pub CallsBracket : Program → ℕ → Config → Type 0
 CallsBracket program bound from =
-    (before exchanges : List Exchange) (earlier said : List Said) (s t : State) (prim : Prim) (args : List Value) (target : Target) (rest : List Item) (reply : Reply) →
+    (before exchanges : List Exchange) (earlier said : List Said) (s t : State) (prim : Prim)
+    (args : List Value) (target : Target) (rest : List Item) (reply : Reply) →
     Reaches program bound from before earlier (record { state = s; work = MakeCall prim args target ∷ rest }) →
-    Calls program bound prim args s exchanges said reply t → (levels t ≡ levels s) × (names_current prim ≡ false → CurrentAgain s t)
+    Calls program bound prim args s exchanges said reply t → (levels t ≡ levels s) ×
+    (names_current prim ≡ false → CurrentAgain s t)
 
 abbrev pub HandlersBracket : Program → ℕ → Config → Type 0
 HandlersBracket program bound from =
-    (before exchanges : List Exchange) (earlier said : List Said) (s t : State) (kind : Kind) (handler : Option ℕ) (args : List Value) (rest : List Item) (faulted : Bool) →
+    (before exchanges : List Exchange) (earlier said : List Said) (s t : State) (kind : Kind)
+    (handler : Option ℕ) (args : List Value) (rest : List Item) (faulted : Bool) →
     Reaches program bound from before earlier (record { state = s; work = Enter kind handler args ∷ rest }) →
-    Handles program bound kind handler args s exchanges said faulted t → (levels t ≡ levels s) × CurrentAgain s t
+    Handles program bound kind handler args s exchanges said faulted t → (levels t ≡ levels s) ×
+    CurrentAgain s t

@@ -1,5 +1,6 @@
 -- Children: which of them live, which are killed, and how many exchanges are made, in every run.
-use Rattle.std.specs.Prelude.{◌≡◌, ◌≤◌, ◌+◌, ℕ, Bool, true, false, List, [], ◌∷◌, ◌++◌, map, filter, drop, slice_get, Some, not, length}
+use Rattle.std.specs.Prelude.{◌≡◌, ◌≤◌, ◌+◌, ℕ, Bool, true, false, List, [], ◌∷◌, ◌++◌, map, filter}
+use Rattle.std.specs.Prelude.{drop, slice_get, Some, not, length}
 use Rattle.plain_machine.specs.Exchanges.{Ask, Kill, Exchange, children_started, rising, gone, living}
 use Rattle.plain_machine.specs.State.{Process, Program}
 use Rattle.plain_machine.specs.Items.{Finish, WriteDump, Said, Config}
@@ -10,8 +11,8 @@ use Rattle.plain_machine.specs.Run.{Reaches}
 abbrev pub running_children : List Process → List ℕ
 running_children list = rising (map (λ x. x.child) (filter (λ x. runs x.status) list))
 
--- the children that would have to be killed if the run stopped here: those of the processes that run, but for those
--- whose kills at the end of the script are made
+-- the children that would have to be killed if the run stopped here: those of the processes that run, but
+-- for those whose kills at the end of the script are made
 abbrev pub to_kill : Config → List ℕ
 to_kill c = elim c.work [
   | [] ↦ []
@@ -25,12 +26,14 @@ to_kill c = elim c.work [
 -- they are the children that live by the exchanges
 abbrev pub KillsLeft : Program → ℕ → Config → Type 0
 KillsLeft program bound from =
-    (exchanges : List Exchange) (said : List Said) (c : Config) → Reaches program bound from exchanges said c → living exchanges ≡ to_kill c
+    (exchanges : List Exchange) (said : List Said) (c : Config) →
+    Reaches program bound from exchanges said c → living exchanges ≡ to_kill c
 
 -- a child that is asked to be killed was started, has not ended, and was not asked so before
 abbrev pub KillsOnce : Program → ℕ → Config → Type 0
 KillsOnce program bound from =
-    (before after : List Exchange) (x : Exchange) (said : List Said) (c : Config) (child : ℕ) → Reaches program bound from (before ++ x ∷ after) said c → x.ask ≡ Kill child →
+    (before after : List Exchange) (x : Exchange) (said : List Said) (c : Config) (child : ℕ) →
+    Reaches program bound from (before ++ x ∷ after) said c → x.ask ≡ Kill child →
     ((n : ℕ) × (slice_get (children_started before) n ≡ Some child)) × (gone child before ≡ false)
 
 abbrev pub is_kill : Ask → Bool
@@ -40,9 +43,12 @@ is_kill _ = false
 -- no more exchanges are made than may be, but for kills
 abbrev pub FewExchanges : Program → ℕ → Config → Type 0
 FewExchanges program bound from =
-    (exchanges : List Exchange) (said : List Said) (c : Config) → Reaches program bound from exchanges said c → length (filter (λ x. not (is_kill x.ask)) exchanges) ≤ most_exchanges
+    (exchanges : List Exchange) (said : List Said) (c : Config) →
+    Reaches program bound from exchanges said c →
+    length (filter (λ x. not (is_kill x.ask)) exchanges) ≤ most_exchanges
 
 -- nor more than these and a kill of each of the processes that may be
 abbrev pub FewInAll : Program → ℕ → Config → Type 0
 FewInAll program bound from =
-    (exchanges : List Exchange) (said : List Said) (c : Config) → Reaches program bound from exchanges said c → length exchanges ≤ most_exchanges + most_processes
+    (exchanges : List Exchange) (said : List Said) (c : Config) →
+    Reaches program bound from exchanges said c → length exchanges ≤ most_exchanges + most_processes

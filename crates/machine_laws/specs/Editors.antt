@@ -14,15 +14,19 @@ EndsInRecord [] = Unit {0}
 EndsInRecord (e ∷ []) = is_boundary e.what ≡ false
 EndsInRecord (e ∷ f ∷ entries) = EndsInRecord (f ∷ entries)
 
--- In each live buffer: the bounds are in order and lie in the text, and so do point, markers, overlays and kept places; its
--- property sets are in order; its undo records have falling serial numbers, and none where recording is off. Its list of
--- records doesn't end in a boundary. Names of live buffers differ, and the current buffer lives.
+-- In each live buffer: the bounds are in order and lie in the text, and so do point, markers, overlays and
+-- kept places; its property sets are in order; its undo records have falling serial numbers, and none where
+-- recording is off. Its list of records doesn't end in a boundary. Names of live buffers differ, and the
+-- current buffer lives.
 pub record Sound (e : Editor) : Type 0 where
-  pub each : (id : ℕ) (l : Live) → live e id ≡ Some l → GoodSite id (record { buffer = l.buffer; marks = e.marks })
+  pub each : (id : ℕ) (l : Live) → live e id ≡ Some l →
+      GoodSite id (record { buffer = l.buffer; marks = e.marks })
   pub records : (id : ℕ) (l : Live) → live e id ≡ Some l → EndsInRecord l.buffer.undo.entries
-  pub names : (id other : ℕ) (l m : Live) → live e id ≡ Some l → live e other ≡ Some m → l.name ≡ m.name → id ≡ other
+  pub names : (id other : ℕ) (l m : Live) → live e id ≡ Some l → live e other ≡ Some m →
+      l.name ≡ m.name → id ≡ other
   pub here : is_live e e.current ≡ true
 
 abbrev pub EditorsAreSound : Program → ℕ → Config → Type 0
 EditorsAreSound program bound from =
-    (exchanges : List Exchange) (said : List Said) (c : Config) → Reaches program bound from exchanges said c → Sound c.state.editor
+    (exchanges : List Exchange) (said : List Said) (c : Config) →
+    Reaches program bound from exchanges said c → Sound c.state.editor

@@ -1,10 +1,12 @@
 -- Entries: what the filters and sentinels of a process are entered with, in every run.
-use Rattle.std.specs.Prelude.{◌≡◌, ◌⊎◌, ℕ, Bool, true, false, ◌==◌, List, [], ◌∷◌, ◌++◌, map, flat_map, slice_get, if◌then◌else◌, Some, None}
+use Rattle.std.specs.Prelude.{◌≡◌, ◌⊎◌, ℕ, Bool, true, false, ◌==◌, List, [], ◌∷◌, ◌++◌, map, flat_map}
+use Rattle.std.specs.Prelude.{slice_get, if◌then◌else◌, Some, None}
 use Rattle.std.specs.List.{list_any}
 use Rattle.text_model.specs.Characters.{Ch}
 use Rattle.text_model.specs.Codings.{Coding, Utf8, decoded, all_decoded}
 use Rattle.editor_model.specs.Values.{Script}
-use Rattle.plain_machine.specs.Exchanges.{Ask, Read, AskEnd, Kill, Answer, Bytes, End, Exchange, children_started}
+use Rattle.plain_machine.specs.Exchanges.{Ask, Read, AskEnd, Kill, Answer, Bytes, End, Exchange}
+use Rattle.plain_machine.specs.Exchanges.{children_started}
 use Rattle.plain_machine.specs.State.{State, Process, Program, process}
 use Rattle.plain_machine.specs.Lines.{OfFilter, OfSentinel, Event, Entered}
 use Rattle.plain_machine.specs.Items.{Said, Config}
@@ -42,7 +44,8 @@ output_ended child exchanges = list_any (λ x. is_end child x.ask x.answer) exch
 
 -- what was heard of it, in a coding
 abbrev pub heard : Coding → (child : ℕ) → List Exchange → List Ch
-heard coding child exchanges = if output_ended child exchanges then all_decoded coding (read child exchanges) else decoded coding (read child exchanges)
+heard coding child exchanges = if output_ended child exchanges
+    then all_decoded coding (read child exchanges) else decoded coding (read child exchanges)
 
 -- how the output of a process is decoded
 abbrev pub coding_in : State → (p : ℕ) → Coding
@@ -61,31 +64,38 @@ has_entry sentinel p said = list_any (λ x. is_entry sentinel p x.event) said
 -- what the filters were entered with is the decoding of what was read
 abbrev pub Entries : Program → ℕ → Config → Type 0
 Entries program bound from =
-    (exchanges : List Exchange) (said : List Said) (c : Config) → Reaches program bound from exchanges said c → IsBetweenEntries c →
+    (exchanges : List Exchange) (said : List Said) (c : Config) →
+    Reaches program bound from exchanges said c → IsBetweenEntries c →
     (p : ℕ) (x : Process) → process c.state p ≡ Some x → entered p said ≡ heard x.coding x.child exchanges
 
 -- the same by the exchanges and the lines: process p is the one whose child was started as number p
 abbrev pub EntriesOfChildren : Program → ℕ → Config → Type 0
 EntriesOfChildren program bound from =
-    (exchanges : List Exchange) (said : List Said) (c : Config) → Reaches program bound from exchanges said c → IsBetweenEntries c →
-    (p child : ℕ) → slice_get (children_started exchanges) p ≡ Some child → entered p said ≡ heard (coding_in c.state p) child exchanges
+    (exchanges : List Exchange) (said : List Said) (c : Config) →
+    Reaches program bound from exchanges said c → IsBetweenEntries c →
+    (p child : ℕ) → slice_get (children_started exchanges) p ≡ Some child →
+    entered p said ≡ heard (coding_in c.state p) child exchanges
 
 -- once bytes were read of a process its coding stays
 abbrev pub CodingsStay : Program → ℕ → Config → Type 0
 CodingsStay program bound from =
-    (before after : List Exchange) (said more : List Said) (c d : Config) → Reaches program bound from before said c → Reaches program bound c after more d →
-    (p : ℕ) (x : Process) → process c.state p ≡ Some x → (read x.child before ≡ [] → ⊥) → (y : Process) × (process d.state p ≡ Some y) × (y.coding ≡ x.coding)
+    (before after : List Exchange) (said more : List Said) (c d : Config) →
+    Reaches program bound from before said c → Reaches program bound c after more d →
+    (p : ℕ) (x : Process) → process c.state p ≡ Some x → (read x.child before ≡ [] → ⊥) →
+    (y : Process) × (process d.state p ≡ Some y) × (y.coding ≡ x.coding)
 
 -- at most one sentinel entry, and no filter entry of the process after it
 abbrev pub Sentinels : Program → ℕ → Config → Type 0
 Sentinels program bound from =
-    (exchanges : List Exchange) (before after : List Said) (x : Said) (c : Config) (p : ℕ) → Reaches program bound from exchanges (before ++ x ∷ after) c →
+    (exchanges : List Exchange) (before after : List Said) (x : Said) (c : Config) (p : ℕ) →
+    Reaches program bound from exchanges (before ++ x ∷ after) c →
     is_entry true p x.event ≡ true → (has_entry true p after ≡ false) × (has_entry false p after ≡ false)
 
 -- the end of a child is asked after a read of it that was answered by its end
 abbrev pub EndsAfterOutput : Program → ℕ → Config → Type 0
 EndsAfterOutput program bound from =
-    (before after : List Exchange) (x : Exchange) (said : List Said) (c : Config) (child : ℕ) → Reaches program bound from (before ++ x ∷ after) said c → x.ask ≡ AskEnd child →
+    (before after : List Exchange) (x : Exchange) (said : List Said) (c : Config) (child : ℕ) →
+    Reaches program bound from (before ++ x ∷ after) said c → x.ask ≡ AskEnd child →
     output_ended child before ≡ true
 
 -- whether the child was asked to be killed
@@ -96,7 +106,8 @@ asks_kill child _ = false
 abbrev pub killed : (child : ℕ) → List Exchange → Bool
 killed child exchanges = list_any (λ x. asks_kill child x.ask) exchanges
 
--- A process whose sentinel was entered runs no more: its child was killed, or a read of it was answered by its end before.
+-- A process whose sentinel was entered runs no more: its child was killed, or a read of it was answered by
+-- its end before.
 abbrev pub SentinelsAfterOutput : Program → ℕ → Config → Type 0
 SentinelsAfterOutput program bound from =
     (exchanges : List Exchange) (said : List Said) (c : Config) → Reaches program bound from exchanges said c →
@@ -107,8 +118,13 @@ SentinelsAfterOutput program bound from =
 -- Of a whole run, and of one that was broken off: what the filters were entered with is what was read, decoded.
 abbrev pub RanEntries : Program → ℕ → Script → Type 0
 RanEntries program bound script =
-    (exchanges : List Exchange) (written : List ℕ) (r : Ran program bound script exchanges written) (p child : ℕ) → slice_get (children_started exchanges) p ≡ Some child → entered p r.said ≡ heard (coding_in r.last.state p) child exchanges
+    (exchanges : List Exchange) (written : List ℕ) (r : Ran program bound script exchanges written)
+    (p child : ℕ) → slice_get (children_started exchanges) p ≡ Some child →
+    entered p r.said ≡ heard (coding_in r.last.state p) child exchanges
 
 abbrev pub BrokenEntries : Program → ℕ → Script → Type 0
 BrokenEntries program bound script =
-    (exchanges : List Exchange) (written : List ℕ) (r : BrokenOff program bound script exchanges written) (p child : ℕ) → slice_get (children_started r.made) p ≡ Some child → entered p r.said ≡ heard (coding_in r.last.state p) child r.made
+    (exchanges : List Exchange) (written : List ℕ)
+    (r : BrokenOff program bound script exchanges written) (p child : ℕ) →
+    slice_get (children_started r.made) p ≡ Some child →
+    entered p r.said ≡ heard (coding_in r.last.state p) child r.made

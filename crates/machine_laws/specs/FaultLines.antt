@@ -4,4 +4,5 @@ use Rattle.plain_machine.specs.Grammar.{IsFaultLine}
 
 -- no bytes have two
 abbrev pub OneFaultLine : Type 0
-OneFaultLine = (bytes : List ℕ) (line other : ℕ) → IsFaultLine bytes line → IsFaultLine bytes other → line ≡ other
+OneFaultLine =
+    (bytes : List ℕ) (line other : ℕ) → IsFaultLine bytes line → IsFaultLine bytes other → line ≡ other

@@ -2,7 +2,8 @@
 use Rattle.std.specs.Prelude.{◌≡◌, ℕ, ◌≤◌, ◌<◌, true, false, List, [], ◌∷◌}
 use Rattle.text_model.specs.Properties.{Cell}
 use Rattle.text_model.specs.Ordered.{AreOrdered}
-use Rattle.text_model.specs.Undo.{Rec, Inserted, Deleted, Prop, Entry, Undo, boundary_at, newer_than, rewind, pending}
+use Rattle.text_model.specs.Undo.{Rec, Inserted, Deleted, Prop, Entry, Undo, boundary_at, newer_than}
+use Rattle.text_model.specs.Undo.{rewind, pending}
 use Rattle.text_model.specs.Commit.{Buffer}
 
 -- the places of a record are in order, and so are the sets of what it keeps
@@ -23,7 +24,8 @@ OffIsEmpty u = u.on ≡ false → u.entries ≡ []
 
 -- undoing the pending records down to a boundary comes to the same text as undoing all records down to it
 abbrev pub PendingAgrees : Undo → List Cell → Type 0
-PendingAgrees u text = (serial : ℕ) → serial < u.pending_below → boundary_at serial u.entries ≡ true → rewind (newer_than serial (pending u)) text ≡ rewind (newer_than serial u.entries) text
+PendingAgrees u text = (serial : ℕ) → serial < u.pending_below → boundary_at serial u.entries ≡ true →
+    rewind (newer_than serial (pending u)) text ≡ rewind (newer_than serial u.entries) text
 
 -- a buffer as each change leaves it
 pub record Good (b : Buffer) : Type 0 where

@@ -1,10 +1,12 @@
--- Refused calls, with whatever handlers between: what is left of one is what these did, and the exchanges, and nothing else.
+-- Refused calls, with whatever handlers between: what is left of one is what these did, and the exchanges,
+-- and nothing else.
 use Rattle.std.specs.Prelude.{◌≡◌, ℕ, Bool, true, false, nat_lt, nat_le, List, [], ◌∷◌, ◌++◌, Option, Some}
 use Rattle.std.specs.List.{list_all}
 use Rattle.editor_model.specs.Values.{Value, Fault, Prim}
 use Rattle.editor_model.specs.Editor.{is_live}
 use Rattle.plain_machine.specs.Exchanges.{Ask, AskEnd, Kill, Answer, Code, Signal, Killed, Failed, Exchange}
-use Rattle.plain_machine.specs.State.{State, Process, Status, Exited, Signalled, Lost, Program, process, change_process}
+use Rattle.plain_machine.specs.State.{State, Process, Status, Exited, Signalled, Lost, Program, process}
+use Rattle.plain_machine.specs.State.{change_process}
 use Rattle.plain_machine.specs.Lines.{Kind, Event, Replied, Entered, Left}
 use Rattle.plain_machine.specs.Items.{Item, MakeCall, Refuse, Enter, Exit, Target, Said, Config}
 use Rattle.plain_machine.specs.Forms.{popped}
@@ -15,8 +17,9 @@ use Rattle.machine_laws.specs.Brackets.{levels}
 use Rattle.machine_laws.specs.Refusals.{Leaves}
 
 -- HANDLERS
--- A handler that was entered in the one state and left in the other, whatever it did. Its end makes the buffer of its entry
--- current again, if this lives, and takes back what the entry raised; a hook list that a fault emptied is empty.
+-- A handler that was entered in the one state and left in the other, whatever it did. Its end makes the
+-- buffer of its entry current again, if this lives, and takes back what the entry raised; a hook list that
+-- a fault emptied is empty.
 pub record Handled (program : Program) (bound : ℕ) (s t : State) (exchanges : List Exchange) : Type 0 where
   pub kind : Kind
   pub handler : Option ℕ
@@ -25,17 +28,19 @@ pub record Handled (program : Program) (bound : ℕ) (s t : State) (exchanges : 
   pub rest : List Item
   pub said : List Said
   pub last : State
-  pub way : Reaches program bound (record { state = s; work = Enter kind handler args ∷ rest }) exchanges said (record { state = last; work = Exit kind handler s.editor.current faulted ∷ rest })
+  pub way : Reaches program bound (record { state = s; work = Enter kind handler args ∷ rest })
+      exchanges said (record { state = last; work = Exit kind handler s.editor.current faulted ∷ rest })
   pub end : t ≡ (ended_handler kind faulted (left_state last s.editor.current) rest).state
   pub bracket : levels t ≡ levels s
   pub current : is_live t.editor s.editor.current ≡ true → t.editor.current ≡ s.editor.current
 
 -- PROCESSES THAT END
 abbrev pub EndedAs : (child : ℕ) → Status → State → State → Type 0
-EndedAs child status s t = (p : ℕ) × (x : Process) × (process s p ≡ Some x) × (x.child ≡ child) × (t ≡ change_process p (λ y. record y { status = status }) s)
+EndedAs child status s t = (p : ℕ) × (x : Process) × (process s p ≡ Some x) × (x.child ≡ child) ×
+    (t ≡ change_process p (λ y. record y { status = status }) s)
 
--- An exchange by which a process ends, and its sentinel is entered: its end was told to a wait, or it was killed before its
--- buffer is.
+-- An exchange by which a process ends, and its sentinel is entered: its end was told to a wait, or it was
+-- killed before its buffer is.
 abbrev pub Ends : Ask → Answer → State → State → Type 0
 Ends (AskEnd child) (Code n) s t = EndedAs child (Exited n) (asked_more s) t
 Ends (AskEnd child) Signal s t = EndedAs child Signalled (asked_more s) t
@@ -49,14 +54,22 @@ Ends _ _ s t = ⊥
 abbrev pub without_change : State → State
 without_change s = popped (record s { inhibited = false })
 
--- What a call that isn't answered yet has made of a state, over these exchanges: what exchanges left, and what handlers did
--- that were entered in it; the functions before a change are entered with this change under way.
+-- What a call that isn't answered yet has made of a state, over these exchanges: what exchanges left, and
+-- what handlers did that were entered in it; the functions before a change are entered with this change
+-- under way.
 pub data LeftByCall (program : Program) (bound : ℕ) (s : State) : List Exchange → State → Type 0 where
   nothing : LeftByCall program bound s [] s
-  exchanged : (x : Exchange) (exchanges : List Exchange) (u t : State) → LeftByCall program bound s exchanges u → Leaves x.ask x.answer u t → LeftByCall program bound s (exchanges ++ x ∷ []) t
-  ended : (x : Exchange) (exchanges : List Exchange) (u t : State) → LeftByCall program bound s exchanges u → Ends x.ask x.answer u t → LeftByCall program bound s (exchanges ++ x ∷ []) t
-  handled : (first second : List Exchange) (u t : State) → LeftByCall program bound s first u → Handled program bound u t second → LeftByCall program bound s (first ++ second) t
-  hooked : (first second : List Exchange) (u v w : State) → LeftByCall program bound s first u → without_change v ≡ u → Handled program bound v w second → LeftByCall program bound s (first ++ second) (without_change w)
+  exchanged : (x : Exchange) (exchanges : List Exchange) (u t : State) →
+      LeftByCall program bound s exchanges u → Leaves x.ask x.answer u t →
+      LeftByCall program bound s (exchanges ++ x ∷ []) t
+  ended : (x : Exchange) (exchanges : List Exchange) (u t : State) →
+      LeftByCall program bound s exchanges u → Ends x.ask x.answer u t →
+      LeftByCall program bound s (exchanges ++ x ∷ []) t
+  handled : (first second : List Exchange) (u t : State) → LeftByCall program bound s first u →
+      Handled program bound u t second → LeftByCall program bound s (first ++ second) t
+  hooked : (first second : List Exchange) (u v w : State) → LeftByCall program bound s first u →
+      without_change v ≡ u → Handled program bound v w second →
+      LeftByCall program bound s (first ++ second) (without_change w)
 
 -- a line of a handler that was entered at this depth, or of what ran in it
 abbrev pub is_within : (depth : ℕ) → Event → Bool
@@ -68,7 +81,10 @@ is_within d _ = false
 -- From a call that a run comes to, to its refusal: all lines between are those of handlers that ran in it.
 abbrev pub RefusedCallsLeave : Program → ℕ → Config → Type 0
 RefusedCallsLeave program bound from =
-    (before exchanges : List Exchange) (earlier said : List Said) (s t : State) (prim : Prim) (args : List Value) (target : Target) (rest more : List Item) (fault : Fault) →
+    (before exchanges : List Exchange) (earlier said : List Said) (s t : State) (prim : Prim)
+    (args : List Value) (target : Target) (rest more : List Item) (fault : Fault) →
     Reaches program bound from before earlier (record { state = s; work = MakeCall prim args target ∷ rest }) →
-    Reaches program bound (record { state = s; work = MakeCall prim args target ∷ rest }) exchanges said (record { state = t; work = Refuse fault ∷ more }) →
-    list_all (λ x. is_within s.depth x.event) said ≡ true → t.depth ≡ s.depth → LeftByCall program bound s exchanges t
+    Reaches program bound (record { state = s; work = MakeCall prim args target ∷ rest }) exchanges said
+    (record { state = t; work = Refuse fault ∷ more }) →
+    list_all (λ x. is_within s.depth x.event) said ≡ true → t.depth ≡ s.depth →
+    LeftByCall program bound s exchanges t

@@ -56,7 +56,8 @@ pub fn runs_are_computed()
     ensures { (program : Program) (bound : ℕ) (from : Config) → RunsAreComputed program bound from }
 {}
 
-/// Over each list of exchanges the run ends, waits for one more or is off after finitely many steps, from any configuration.
+/// Over each list of exchanges the run ends, waits for one more or is off after finitely many steps, from any
+/// configuration.
 #[tactic(auto, using(crate::proofs::Stopping::run_stops))]
 pub fn runs_stop()
     ensures { (program : Program) (bound : ℕ) (from : Config) → RunStops program bound from }
@@ -211,8 +212,8 @@ pub fn recording_keeps_boundaries()
     ensures { RecordingKeeps }
 {}
 
-/// In every run of every script: undoing back to a boundary that is still kept gives the text of the moment at which it was
-/// pushed, with its properties, by however many calls.
+/// In every run of every script: undoing back to a boundary that is still kept gives the text of the moment at which
+/// it was pushed, with its properties, by however many calls.
 pub fn undo_returns()
     ensures { (program : Program) (bound : ℕ) (script : Script) →
         UndoReturns program bound (start script) }
@@ -231,7 +232,8 @@ pub fn nothing_is_left_at_the_top()
 
 /// Behind a call, answered or refused, whatever handlers ran in it: as many handlers run as before,
 /// there are as many scopes, hooks are inhibited or not as before, so are the tests for what is
-/// read-only lifted, and the same places are kept below. The buffer that was current is so again, unless it was killed, or the call names one.
+/// read-only lifted, and the same places are kept below. The buffer that was current is so again, unless it was
+/// killed, or the call names one.
 pub fn calls_bracket()
     ensures { (program : Program) (bound : ℕ) (script : Script) →
         CallsBracket program bound (start script) }
@@ -255,7 +257,8 @@ pub fn editors_stay_sound()
 
 // REFUSALS
 
-/// A call that is refused leaves the state as it was, but for what exchanges left and for what handlers did that ran in it.
+/// A call that is refused leaves the state as it was, but for what exchanges left and for what handlers did that ran
+/// in it.
 #[tactic(auto, using(crate::proofs::Refusing::refusals_leave))]
 pub fn refusals_leave_the_state()
     ensures { (program : Program) (bound : ℕ) → RefusalsLeave program bound }

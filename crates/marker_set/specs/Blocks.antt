@@ -1,5 +1,6 @@
 -- What is seen of a part: its markers, each in a cell, at their places.
-use Rattle.std.specs.Prelude.{◌≡◌, ℕ, ◌+◌, ◌-◌, ◌≤◌, ◌<◌, Bool, ◌==◌, ◌||◌, if◌then◌else◌, List, length, map, All, Option, Some, None, option_map, slice_index_or, slice_set}
+use Rattle.std.specs.Prelude.{◌≡◌, ℕ, ◌+◌, ◌-◌, ◌≤◌, ◌<◌, Bool, ◌==◌, ◌||◌, if◌then◌else◌, List, length}
+use Rattle.std.specs.Prelude.{map, All, Option, Some, None, option_map, slice_index_or, slice_set}
 use Rattle.text_model.specs.Places.{after_insert}
 use Rattle.text_model.specs.Marks.{Spot}
 use Rattle.marker_set.specs.Changes.{move_of, all_of, CanMove}
@@ -40,11 +41,13 @@ spot_in b o = option_map (λ c. record { buffer = b.buffer; place = c.place }) o
 
 -- A CHANGE
 abbrev pub moved_cell : Change → (advances : Bool) → Cell → Cell
-moved_cell change advances c = record { number = c.number; place = move_of change (advances || all_of change) c.place }
+moved_cell change advances c =
+    record { number = c.number; place = move_of change (advances || all_of change) c.place }
 
 -- the same, its place counted from one offset before and from another behind that
 abbrev pub rebased : (from to : ℕ) → (advances : Bool) → Change → Cell → Cell
-rebased from to advances change c = record { number = c.number; place = move_of change (advances || all_of change) (from + c.place) - to }
+rebased from to advances change c =
+    record { number = c.number; place = move_of change (advances || all_of change) (from + c.place) - to }
 
 -- the same, among cells whose offset stays as text is put in
 abbrev pub pushed : (at n : ℕ) → (advances : Bool) → Cell → Cell
@@ -55,7 +58,8 @@ CanPush n None = Unit {0}
 CanPush n (Some c) = n + c.place ≤ 0xffff_ffff_ffff_ffff
 
 abbrev pub moved_block : (buffer : ℕ) → Change → Block → Block
-moved_block buffer change b = if b.buffer == buffer then record b { cells = map (option_map (moved_cell change b.advances)) b.cells } else b
+moved_block buffer change b = if b.buffer == buffer
+    then record b { cells = map (option_map (moved_cell change b.advances)) b.cells } else b
 
 abbrev pub CanMoveCell : Change → Option Cell → Type 0
 CanMoveCell change None = Unit {0}
@@ -69,4 +73,8 @@ pub record Taken (number : ℕ) (advances : Bool) (spot : ℕ × ℕ) (old now :
   pub within : cell < length old.cells
   pub free : cell_at old cell ≡ None
   pub alike : (i : ℕ) (c : Cell) → cell_at old i ≡ Some c → (old.buffer ≡ spot.0) × (old.advances ≡ advances)
-  pub is : now ≡ record { buffer = spot.0; advances = advances; cells = slice_set old.cells cell (Some (record { number = number; place = spot.1 })) }
+  pub is : now ≡ record {
+    buffer = spot.0;
+    advances = advances;
+    cells = slice_set old.cells cell (Some (record { number = number; place = spot.1 }));
+  }

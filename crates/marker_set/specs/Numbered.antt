@@ -1,5 +1,6 @@
 -- Markers by number.
-use Rattle.std.specs.Prelude.{◌≡◌, ℕ, ◌+◌, ◌≤◌, ◌==◌, ◌&&◌, nat_le, if◌then◌else◌, Bool, false, List, Option, Some, None, IfSome, slice_get, option_map, unwrap_or}
+use Rattle.std.specs.Prelude.{◌≡◌, ℕ, ◌+◌, ◌≤◌, ◌==◌, ◌&&◌, nat_le, if◌then◌else◌, Bool, false, List}
+use Rattle.std.specs.Prelude.{Option, Some, None, IfSome, slice_get, option_map, unwrap_or}
 use Rattle.std.specs.List.{filter_map, enumerate_from}
 use Rattle.text_model.specs.Marks.{Marker, Spot}
 
@@ -31,7 +32,8 @@ numbered_if test n = if test n.1 then Some n.0 else None
 
 -- the markers that stand there, by rising number
 abbrev pub numbers_within : (buffer from to : ℕ) → List Marker → List ℕ
-numbers_within buffer from to markers = filter_map (numbered_if (stands_within buffer from to)) (enumerate_from 0 markers)
+numbers_within buffer from to markers =
+    filter_map (numbered_if (stands_within buffer from to)) (enumerate_from 0 markers)
 
 -- n characters more keep a marker of the buffer within the range of places
 abbrev pub HasRoomFor : (buffer n : ℕ) → Marker → Type 0

@@ -92,8 +92,8 @@ impl Markers {
         }
     }
 
-    /// Makes a marker that points nowhere and doesn't advance, in the room that was reserved for it, and gives its number. It
-    /// takes no memory.
+    /// Makes a marker that points nowhere and doesn't advance, in the room that was reserved for it, and gives its
+    /// number. It takes no memory.
     pub fn make_reserved(&mut self, room: Room) -> u32
         requires few { length self.old < 2 ^ 32 - 1 }
         requires fits { length self.old < room }
@@ -426,8 +426,8 @@ impl Markers {
         self.note(buffer, Change::Insertion { at, n, all });
     }
 
-    /// The part from `from` to `to` of a buffer was deleted: its markers in the part go to `from`, and those behind it come
-    /// nearer.
+    /// The part from `from` to `to` of a buffer was deleted: its markers in the part go to `from`, and those behind
+    /// it come nearer.
     pub fn note_delete(&mut self, buffer: u32, from: usize, to: usize)
         requires { from ≤ to }
         ensures { self.new ≡ map (move_marker buffer false (deletion from to)) self.old }

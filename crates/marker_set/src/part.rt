@@ -25,7 +25,7 @@ pub(crate) const CELLS: usize = 128;
 pub(crate) struct Part {
     buffer: u32,
     advances: bool,
-    /// Whether a marker left since the bounds were found, so that there may be closer ones.
+    /// Whether there may be closer bounds, since a marker left or came behind others.
     loose: bool,
     taken: usize,
     /// A cell that may be free.
@@ -150,18 +150,18 @@ impl Part {
         self.cells[cell] = None;
     }
 
-    /// Puts a marker into a free cell, and gives that. An empty part is of any buffer. There is none where the part is
-    /// full, or for other markers.
+    /// Puts a marker into a free cell, and gives that. An empty part is of any buffer, and whether it is empty is asked
+    /// only where it was of another one. There is no cell where the part is full, or for other markers.
     pub(crate) fn take(&mut self, number: u32, advances: bool, spot: (u32, usize)) -> Option<usize>
         ensures { MatchOption result (self.new ≡ self.old)
             (λ cell. Taken number advances spot self.old self.new cell) }
     {
         let cell = self.free()?;
-        if self.taken == 0 && self.is_empty() {
-            self.begin(cell, number, advances, spot);
-            Some(cell)
-        } else if self.buffer == spot.0 && self.advances == advances {
+        if self.buffer == spot.0 && self.advances == advances {
             self.add(cell, number, spot.1);
+            Some(cell)
+        } else if self.taken == 0 && self.is_empty() {
+            self.begin(cell, number, advances, spot);
             Some(cell)
         } else {
             None
@@ -224,6 +224,8 @@ impl Part {
         });
         self.least = self.least.min(place);
         self.most = self.most.max(place);
+        // The bounds of markers that are gone are far from one that comes behind them.
+        self.loose = self.loose || self.taken == 0;
         self.taken = self.taken.saturating_add(1);
         self.vacant = cell.saturating_add(1);
     }

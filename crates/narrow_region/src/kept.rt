@@ -138,8 +138,8 @@ impl SavedStack {
         }
     }
 
-    /// The part from `from` to `to` of a buffer was deleted: its kept places in the part go to `from`, and those behind it
-    /// come nearer.
+    /// The part from `from` to `to` of a buffer was deleted: its kept places in the part go to `from`, and those
+    /// behind it come nearer.
     pub fn note_delete(&mut self, buffer: u32, from: usize, to: usize)
         requires { from ≤ to }
         ensures { self.new ≡ map (move_saved buffer (deletion from to)) self.old }

@@ -1,5 +1,6 @@
 -- The overlays that stand somewhere, as the tree keeps them: in any order, each once.
-use Rattle.std.specs.Prelude.{All, ◌≡◌, ℕ, ◌+◌, ◌%◌, ◌^◌, ◌≤◌, ◌<◌, Bool, true, ◌==◌, ◌&&◌, not, List, [], ◌∷◌, ◌++◌, map, filter, Option, Some, None}
+use Rattle.std.specs.Prelude.{All, ◌≡◌, ℕ, ◌+◌, ◌%◌, ◌^◌, ◌≤◌, ◌<◌, Bool, true, ◌==◌, ◌&&◌, not, List}
+use Rattle.std.specs.Prelude.{[], ◌∷◌, ◌++◌, map, filter, Option, Some, None}
 use Rattle.std.specs.List.{sum_by}
 use Rattle.text_model.specs.Marks.{Overlay, Span}
 use Rattle.text_model.specs.OverlayQuestions.{span_passes, ends_of_span}
@@ -28,7 +29,8 @@ abbrev pub HoldSame : List Entry → List Entry → Type 0
 HoldSame xs ys = (f : Entry → ℕ) → sum_by f xs ≡ sum_by f ys
 
 abbrev pub is_same : Entry → Entry → Bool
-is_same a b = (a.number == b.number) && ((a.stretch.0 == b.stretch.0) && ((a.stretch.1 == b.stretch.1) && (a.stretch.2 == b.stretch.2)))
+is_same a b = (a.number == b.number) &&
+    ((a.stretch.0 == b.stretch.0) && ((a.stretch.1 == b.stretch.1) && (a.stretch.2 == b.stretch.2)))
 
 abbrev pub without : Entry → List Entry → List Entry
 without gone entries = filter (λ e. not (is_same e gone)) entries
@@ -52,7 +54,10 @@ ends_at buffer e = ends_of_span buffer (Some (span_at e.stretch))
 -- THE TREE
 -- an entry whose places are counted from a shift, modulo 2^64
 abbrev pub raised : (by : ℕ) → Entry → Entry
-raised by e = record { number = e.number; stretch = (e.stretch.0, (e.stretch.1 + by) % 2 ^ 64, (e.stretch.2 + by) % 2 ^ 64) }
+raised by e = record {
+  number = e.number;
+  stretch = (e.stretch.0, (e.stretch.1 + by) % 2 ^ 64, (e.stretch.2 + by) % 2 ^ 64);
+}
 
 abbrev pub InRange : Entry → Type 0
 InRange e = (e.stretch.1 < 2 ^ 64) × (e.stretch.2 < 2 ^ 64)
@@ -61,7 +66,8 @@ abbrev pub Within : Range → ℕ → Type 0
 Within r n = (r.least ≤ n) × (n ≤ r.most)
 
 abbrev pub Holds : Bounds → Entry → Type 0
-Holds b e = Within b.numbers e.number × Within b.buffers e.stretch.0 × Within b.starts e.stretch.1 × Within b.ends e.stretch.2 × (e.stretch.1 ≡ e.stretch.2 → b.hollow ≡ true)
+Holds b e = Within b.numbers e.number × Within b.buffers e.stretch.0 × Within b.starts e.stretch.1 ×
+    Within b.ends e.stretch.2 × (e.stretch.1 ≡ e.stretch.2 → b.hollow ≡ true)
 
 -- the entries of a node, with those in front of it and behind it
 abbrev pub entries_in : Node → List Entry

@@ -8,9 +8,9 @@ use Rattle.overlay_set.specs.declared.slot.Change.{Change}
 use Rattle.overlay_set.specs.declared.slot.Change.TheVariants.{Insertion, Deletion, Killed}
 use Rattle.overlay_set.specs.declared.bounds.Entry.{Entry}
 
--- Whether a change may move a stretch of its buffer, or take it out. This spares work and decides nothing: an overlay in
--- any other stretch stays by the rules for moves themselves (`stays`, a clause of `Entry::is_touched`), and one in such a
--- stretch goes where they say.
+-- Whether a change may move a stretch of its buffer, or take it out. This spares work and decides nothing:
+-- an overlay in any other stretch stays by the rules for moves themselves (`stays`, a clause of
+-- `Entry::is_touched`), and one in such a stretch goes where they say.
 abbrev pub can_touch : Change → (start end : ℕ) → Bool
 can_touch (Insertion at n all) start end = nat_le at start || nat_le at end
 can_touch (Deletion from to) start end = nat_lt from start || (nat_lt from end || (start == end))

@@ -1,5 +1,6 @@
 -- Overlays by number, as callers give and read them. Places count from 0 here, positions from 1.
-use Rattle.std.specs.Prelude.{◌≡◌, ℕ, ◌+◌, ◌≤◌, false, List, [], map, Option, Some, None, IfSome, slice_get, option_map, unwrap_or, min, max}
+use Rattle.std.specs.Prelude.{◌≡◌, ℕ, ◌+◌, ◌≤◌, false, List, [], map, Option, Some, None, IfSome}
+use Rattle.std.specs.Prelude.{slice_get, option_map, unwrap_or, min, max}
 use Rattle.text_model.specs.Properties.{PropVal, given}
 use Rattle.text_model.specs.Marks.{Overlay, Span}
 
@@ -36,4 +37,5 @@ previous_or first (Some place) = max first (place + 1)
 
 -- n characters more keep both places of an overlay of the buffer within the range of places
 abbrev pub HasRoomFor : (buffer n : ℕ) → Overlay → Type 0
-HasRoomFor buffer n o = IfSome o.span (λ s. s.buffer ≡ buffer → (n + s.start ≤ 0xffff_ffff_ffff_ffff) × (n + s.end ≤ 0xffff_ffff_ffff_ffff))
+HasRoomFor buffer n o = IfSome o.span
+    (λ s. s.buffer ≡ buffer → (n + s.start ≤ 0xffff_ffff_ffff_ffff) × (n + s.end ≤ 0xffff_ffff_ffff_ffff))

@@ -10,8 +10,10 @@ abbrev pub wins_over : (o other : ℕ × Overlay) → Bool
 wins_over o other =
     int_lt (rank other.1) (rank o.1) || (int_eq (rank other.1) (rank o.1) &&
     (nat_lt (start_of other.1.span) (start_of o.1.span) || ((start_of other.1.span == start_of o.1.span) &&
-    (nat_lt (end_of o.1.span) (end_of other.1.span) || ((end_of o.1.span == end_of other.1.span) && nat_lt other.0 o.0)))))
+    (nat_lt (end_of o.1.span) (end_of other.1.span) ||
+    ((end_of o.1.span == end_of other.1.span) && nat_lt other.0 o.0)))))
 
 -- the overlays at a position of a buffer that have a property, each with its number
 abbrev pub rivals : (buffer position name : ℕ) → List Overlay → List (ℕ × Overlay)
-rivals buffer p name overlays = filter (λ o. is_some (get o.1.props name)) (overlays_where buffer (covers p) overlays)
+rivals buffer p name overlays =
+    filter (λ o. is_some (get o.1.props name)) (overlays_where buffer (covers p) overlays)

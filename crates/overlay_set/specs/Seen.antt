@@ -12,4 +12,6 @@ span_in (e ∷ es) k = if e.number == k then Some (span_at e.stretch) else span_
 -- slots, of which the first has a number
 abbrev pub seen_from : List Entry → (k : ℕ) → List Slot → List Overlay
 seen_from entries k [] = []
-seen_from entries k (s ∷ ss) = record { span = span_in entries k; front_advance = s.front; rear_advance = s.rear; props = s.props } ∷ seen_from entries (k + 1) ss
+seen_from entries k (s ∷ ss) = record
+    { span = span_in entries k; front_advance = s.front; rear_advance = s.rear; props = s.props } ∷
+    seen_from entries (k + 1) ss

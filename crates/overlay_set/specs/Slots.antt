@@ -32,7 +32,8 @@ CanMove (Deletion from to) place = from ≤ to
 CanMove Killed place = Unit {0}
 
 abbrev pub CanMoveIn : (buffer : ℕ) → Change → Overlay → Type 0
-CanMoveIn buffer change o = IfSome o.span (λ s. s.buffer ≡ buffer → CanMove change s.start × CanMove change s.end)
+CanMoveIn buffer change o =
+    IfSome o.span (λ s. s.buffer ≡ buffer → CanMove change s.start × CanMove change s.end)
 
 -- what is asked of an overlay's span
 abbrev pub test_of : Question → Span → Bool

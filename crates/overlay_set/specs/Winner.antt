@@ -1,5 +1,5 @@
--- The winner of some overlays, in whatever order they come: how the code finds it. Over all entries it is the winner of
--- the definitions, which is all that the clause of `Overlays::winner` says.
+-- The winner of some overlays, in whatever order they come: how the code finds it. Over all entries it is
+-- the winner of the definitions, which is all that the clause of `Overlays::winner` says.
 use Rattle.std.specs.Prelude.{ℕ, Bool, not, nat_lt, List, filter, if◌then◌else◌, Option, Some, None, is_some}
 use Rattle.std.specs.List.{fold}
 use Rattle.text_model.specs.Properties.{get}
@@ -17,7 +17,8 @@ standing os e = with_span (overlay_at os e.number) e.stretch
 
 -- of two that are equal in all else the higher number wins
 abbrev pub is_stronger : List Overlay → (e other : Entry) → Bool
-is_stronger os e other = if nat_lt other.number e.number then outranks (standing os e) (standing os other) else not (outranks (standing os other) (standing os e))
+is_stronger os e other = if nat_lt other.number e.number
+    then outranks (standing os e) (standing os other) else not (outranks (standing os other) (standing os e))
 
 abbrev pub stronger : List Overlay → Option Entry → Entry → Entry
 stronger os None e = e
@@ -31,4 +32,5 @@ abbrev pub contenders : (buffer i name : ℕ) → List Overlay → List Entry �
 contenders buffer i name os entries = filter (has_property name os) (filter (passes buffer (At i)) entries)
 
 abbrev pub strongest : (buffer i name : ℕ) → List Overlay → Option Entry → List Entry → Option Entry
-strongest buffer i name os best entries = fold (λ b e. Some (stronger os b e)) best (contenders buffer i name os entries)
+strongest buffer i name os best entries =
+    fold (λ b e. Some (stronger os b e)) best (contenders buffer i name os entries)

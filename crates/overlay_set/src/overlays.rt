@@ -98,8 +98,8 @@ impl Overlays {
         Ok(number)
     }
 
-    /// Puts overlay `k` from place `from` to place `to` of a buffer. It keeps its properties, and whether its ends advance.
-    /// A refusal leaves it where it was.
+    /// Puts overlay `k` from place `from` to place `to` of a buffer. It keeps its properties, and whether its ends
+    /// advance. A refusal leaves it where it was.
     pub fn shift(&mut self, k: u32, buffer: u32, from: usize, to: usize) -> Mem<()>
         requires made { k < length self.old }
         requires ordered { from ≤ to }
@@ -236,9 +236,9 @@ impl Overlays {
         self.tree.prev_change(buffer, i)
     }
 
-    /// `n` characters were put in at `at` of a buffer: the starts and ends of its overlays behind `at` go on by `n`, and so
-    /// do those just there which advance, or all of these where `all` is said. The start of an empty overlay doesn't leave
-    /// its end behind.
+    /// `n` characters were put in at `at` of a buffer: the starts and ends of its overlays behind `at` go on by `n`,
+    /// and so do those just there which advance, or all of these where `all` is said. The start of an empty overlay
+    /// doesn't leave its end behind.
     pub fn note_insert(&mut self, buffer: u32, at: usize, n: usize, all: bool)
         requires { All (HasRoomFor buffer n) self.old }
         ensures { self.new ≡ map (move_overlay buffer all (insertion at n)) self.old }
@@ -246,9 +246,9 @@ impl Overlays {
         self.note(buffer, Change::Insertion { at, n, all });
     }
 
-    /// The part from `from` to `to` of a buffer was deleted: the starts and ends of its overlays in the part go to `from`,
-    /// and those behind it come nearer. Its overlays that are empty then and evaporate are taken out of it ("Overlay
-    /// Properties").
+    /// The part from `from` to `to` of a buffer was deleted: the starts and ends of its overlays in the part go to
+    /// `from`, and those behind it come nearer. Its overlays that are empty then and evaporate are taken out of it
+    /// ("Overlay Properties").
     pub fn note_delete(&mut self, buffer: u32, from: usize, to: usize)
         requires { from ≤ to }
         ensures { self.new ≡ map (λ o. evaporated buffer

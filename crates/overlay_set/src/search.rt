@@ -104,8 +104,8 @@ impl Tree {
         Some(best?.number)
     }
 
-    /// Puts in the place of the best so far the one that wins of it and the entries that cover a place of a buffer and have
-    /// a property, where places are counted from a base.
+    /// Puts in the place of the best so far the one that wins of it and the entries that cover a place of a buffer
+    /// and have a property, where places are counted from a base.
     fn winner_from(
         &self,
         slots: &[Slot],

@@ -21,8 +21,8 @@ const PRIORITY: Sym = Sym(3);
 /// A buffer with two places in it.
 pub type Stretch = (u32, usize, usize);
 
-/// What an overlay has besides its stretch: whether its ends advance, and its properties (GNU Emacs Lisp Reference Manual,
-/// Overlays). The key leads to it in the tree, where it stands somewhere.
+/// What an overlay has besides its stretch: whether its ends advance, and its properties (GNU Emacs Lisp Reference
+/// Manual, Overlays). The key leads to it in the tree, where it stands somewhere.
 #[derive(Drop)]
 pub struct Slot {
     pub key: usize,

@@ -1,5 +1,7 @@
 -- Handlers and processes as arguments of calls. GNU Emacs Lisp Reference Manual, chapter "Processes".
-use Rattle.std.specs.Prelude.{ℕ, zero, suc, ◌+◌, Bool, true, false, ◌&&◌, ◌||◌, not, ◌==◌, List, [], ◌∷◌, map, flat_map, filter, length, if◌then◌else◌, Option, Some, None, is_some, unwrap_or}
+use Rattle.std.specs.Prelude.{ℕ, zero, suc, ◌+◌, Bool, true, false, ◌&&◌, ◌||◌, not, ◌==◌, List, []}
+use Rattle.std.specs.Prelude.{◌∷◌, map, flat_map, filter, length, if◌then◌else◌, Option, Some, None}
+use Rattle.std.specs.Prelude.{is_some, unwrap_or}
 use Rattle.std.specs.List.{list_all, enumerate_from}
 use Rattle.text_model.specs.Characters.{Scalar, Raw}
 use Rattle.text_model.specs.Characters as Characters
@@ -8,7 +10,8 @@ use Rattle.text_model.specs.Codings.{Coding, Utf8, Utf8Dos, Latin1}
 use Rattle.editor_model.specs.Values.{Value, Nil, T, Sym, Str, TheBuffer, TheProcess, HandlerDef}
 use Rattle.editor_model.specs.Editor.{Editor, Name, same_name, find, numbered_name}
 use Rattle.editor_model.specs.Arguments.{string_of, name_of}
-use Rattle.plain_machine.specs.State.{State, Process, Status, Runs, Filter, Default, Off, Named, Program, process}
+use Rattle.plain_machine.specs.State.{State, Process, Status, Runs, Filter, Default, Off, Named}
+use Rattle.plain_machine.specs.State.{Program, process}
 
 -- HANDLERS
 abbrev pub handler_def : List HandlerDef → ℕ → Option HandlerDef
@@ -21,7 +24,8 @@ native_from i (n ∷ names) name = elim (n == name) [ true ↦ Some i | false �
 
 -- a name in a handler's place names the script's handler, else the native of least number
 abbrev pub is_handler : Program → ℕ → Bool
-is_handler program name = is_some (handler_def program.handlers name) || is_some (native_from 0 program.natives name)
+is_handler program name =
+    is_some (handler_def program.handlers name) || is_some (native_from 0 program.natives name)
 
 -- of symbols alone it is asked that they name a handler
 abbrev pub is_handler_argument : Program → Value → Bool
@@ -124,7 +128,8 @@ stands_in b x = elim x.buffer [ Some c ↦ c == b | None ↦ false ]
 
 -- the running processes of a buffer, by rising number
 abbrev pub running_in : State → (buffer : ℕ) → List ℕ
-running_in s b = map (λ x. x.0) (filter (λ x. runs x.1.status && stands_in b x.1) (enumerate_from 0 s.processes))
+running_in s b =
+    map (λ x. x.0) (filter (λ x. runs x.1.status && stands_in b x.1) (enumerate_from 0 s.processes))
 
 -- TEXTS
 abbrev pub encoded : List Cell → List ℕ
@@ -165,4 +170,5 @@ free_name (suc tries) n list name = elim (is_some (find_process 0 list (numbered
 ]
 
 abbrev pub process_name : List Process → Name → Name
-process_name list name = elim (is_some (find_process 0 list name)) [ true ↦ free_name (length list) 1 list name | false ↦ name ]
+process_name list name =
+    elim (is_some (find_process 0 list name)) [ true ↦ free_name (length list) 1 list name | false ↦ name ]

@@ -1,10 +1,13 @@
 -- Constants and names in the arguments of a call, by their words.
-use Rattle.std.specs.Prelude.{◌≡◌, ◌⊎◌, ℕ, ◌+◌, ◌≤◌, ℤ, pos, List, [], ◌∷◌, ◌++◌, map, length, codes, not, ◌==◌, IsTrue, slice_get, Option, Some}
+use Rattle.std.specs.Prelude.{◌≡◌, ◌⊎◌, ℕ, ◌+◌, ◌≤◌, ℤ, pos, List, [], ◌∷◌, ◌++◌, map, length, codes}
+use Rattle.std.specs.Prelude.{not, ◌==◌, IsTrue, slice_get, Option, Some}
 use Rattle.std.specs.List.{list_any}
 use Rattle.text_model.specs.Characters.{Ch}
 use Rattle.text_model.specs.Properties.{Cell, PropSet, PropVal, put, bare}
-use Rattle.editor_model.specs.Values.{Value, Values, Nil, T, Int, Sym, Str, Items, End, More, as_prop, Arg, Const, Name}
-use Rattle.plain_machine.specs.Words.{Word, Plain, Named, opening, closing, quote, hash, is_name, IsInt, IsString}
+use Rattle.editor_model.specs.Values.{Value, Values, Nil, T, Int, Sym, Str, Items, End, More, as_prop}
+use Rattle.editor_model.specs.Values.{Arg, Const, Name}
+use Rattle.plain_machine.specs.Words.{Word, Plain, Named, opening, closing, quote, hash, is_name, IsInt}
+use Rattle.plain_machine.specs.Words.{IsString}
 
 -- the words of a thing with others behind them
 abbrev pub Joined : (List Word → Type 0) → (List Word → Type 0) → List Word → Type 0
@@ -15,7 +18,8 @@ InParentheses Inside words = (inside : List Word) × (words ≡ opening ∷ (ins
 
 -- a name that stands for this symbol
 abbrev pub IsSymbol : (symbols : List (List ℕ)) → (s : ℕ) → List Word → Type 0
-IsSymbol symbols s words = (name : List ℕ) × (words ≡ Named name ∷ []) × IsTrue (is_name name) × (slice_get symbols s ≡ Some name)
+IsSymbol symbols s words =
+    (name : List ℕ) × (words ≡ Named name ∷ []) × IsTrue (is_name name) × (slice_get symbols s ≡ Some name)
 
 abbrev pub IsNumber : ℤ → List Word → Type 0
 IsNumber i words = (word : List ℕ) × (words ≡ Plain word ∷ []) × IsInt word i
@@ -53,13 +57,14 @@ pub data IsPropertyList : (seen : List ℕ) → Values → PropSet → Type 0 wh
       IsNew name seen → as_prop v ≡ Some value → IsPropertyList (name ∷ seen) more set →
       IsPropertyList seen (More (Sym name) (More v more)) (put set name value)
 
--- Triples of two numbers and a property list, by rising places: each gives the characters from the one place to the
--- other its set, and all others have none.
+-- Triples of two numbers and a property list, by rising places: each gives the characters from the one
+-- place to the other its set, and all others have none.
 pub data AreRuns (symbols : List (List ℕ)) : (at : ℕ) → List Cell → List Word → Type 0 where
   no_run : {at : ℕ} (left : List Ch) → AreRuns symbols at (bare left) []
   run : {at : ℕ} (gap chars : List Ch) (list : Values) (set : PropSet) (from to inside : List Word)
       {rest : List Cell} {words : List Word} →
-      1 ≤ length chars → IsNumber (pos (at + length gap)) from → IsNumber (pos (at + length gap + length chars)) to →
+      1 ≤ length chars → IsNumber (pos (at + length gap)) from →
+      IsNumber (pos (at + length gap + length chars)) to →
       AreItems symbols list inside → IsPropertyList [] list set →
       AreRuns symbols (at + length gap + length chars) rest words →
       AreRuns symbols at (bare gap ++ (map (λ c. (c, set)) chars ++ rest))

@@ -1,22 +1,37 @@
--- The step of a call. Calls on the editor go by its table; those that concern hooks and processes stand here. GNU Emacs
--- Lisp Reference Manual, sections "Asynchronous Processes", "Deleting Processes", "Process Information",
--- "Input to Processes", "Accepting Output".
-use Rattle.std.specs.Prelude.{ℕ, ◌+◌, pos, Bool, true, false, not, ◌==◌, List, [], ◌∷◌, ◌++◌, map, filter, length, drop, if◌then◌else◌, Option, Some, None}
+-- The step of a call. Calls on the editor go by its table; those that concern hooks and processes stand
+-- here. GNU Emacs Lisp Reference Manual, sections "Asynchronous Processes", "Deleting Processes", "Process
+-- Information", "Input to Processes", "Accepting Output".
+use Rattle.std.specs.Prelude.{ℕ, ◌+◌, pos, Bool, true, false, not, ◌==◌, List, [], ◌∷◌, ◌++◌, map}
+use Rattle.std.specs.Prelude.{filter, length, drop, if◌then◌else◌, Option, Some, None}
 use Rattle.std.specs.List.{list_any, enumerate_from}
 use Rattle.text_model.specs.Marks.{Spot}
 use Rattle.text_model.specs.Codings.{Coding, Utf8}
-use Rattle.editor_model.specs.Values.{Value, Nil, Int, Sym, Str, TheBuffer, TheMarker, TheProcess, list, is_nil, plain, truth, Fault, BrokenPipe, SpawnFailed, Reply, Answered, Prim, KillBuffer, AddHook, RemoveHook, StartProcess, ProcessList, GetProcess, ProcessName, ProcessStatus, ProcessBuffer, ProcessMark, ProcessLiveP, ProcessExitStatus, ProcessFilter, ProcessSentinel, SetProcessFilter, SetProcessSentinel, SetProcessBuffer, ProcessSendString, ProcessSendEof, DeleteProcess, AcceptProcessOutput, SetProcessCodingSystem, ProcessCodingSystem}
+use Rattle.editor_model.specs.Values.{Value, Nil, Int, Sym, Str, TheBuffer, TheMarker, TheProcess, list}
+use Rattle.editor_model.specs.Values.{is_nil, plain, truth, Fault, BrokenPipe, SpawnFailed, Reply}
+use Rattle.editor_model.specs.Values.{Answered, Prim, KillBuffer, AddHook, RemoveHook, StartProcess}
+use Rattle.editor_model.specs.Values.{ProcessList, GetProcess, ProcessName, ProcessStatus}
+use Rattle.editor_model.specs.Values.{ProcessBuffer, ProcessMark, ProcessLiveP, ProcessExitStatus}
+use Rattle.editor_model.specs.Values.{ProcessFilter, ProcessSentinel, SetProcessFilter}
+use Rattle.editor_model.specs.Values.{SetProcessSentinel, SetProcessBuffer, ProcessSendString}
+use Rattle.editor_model.specs.Values.{ProcessSendEof, DeleteProcess, AcceptProcessOutput}
+use Rattle.editor_model.specs.Values.{SetProcessCodingSystem, ProcessCodingSystem}
 use Rattle.editor_model.specs.Editor.{Editor, buffer_at, with_buffer, with_marker}
 use Rattle.editor_model.specs.Arguments.{arg, string_of, name_of, buffer_of, symbol_of}
 use Rattle.editor_model.specs.Prims.{Manner, OnlyAsks, SetsState, ChangesText, ConcernsHandlers, manner_of}
 use Rattle.editor_model.specs.Answers.{Test, first_fault}
-use Rattle.editor_model.specs.Table.{Applied, query, apply, prepare, Prepared, Changes, Quiet, Nothing, Barred, commit}
+use Rattle.editor_model.specs.Table.{Applied, query, apply, prepare, Prepared, Changes, Quiet, Nothing}
+use Rattle.editor_model.specs.Table.{Barred, commit}
 use Rattle.plain_machine.specs.Exchanges.{Spawn, Send, Close, Answer, Started, Sent, Broken, Closed}
-use Rattle.plain_machine.specs.State.{State, Process, Status, Runs, Exited, Signalled, Lost, Filter, Default, Program, process, change_process}
+use Rattle.plain_machine.specs.State.{State, Process, Status, Runs, Exited, Signalled, Lost, Filter}
+use Rattle.plain_machine.specs.State.{Default, Program, process, change_process}
 use Rattle.plain_machine.specs.Hooks.{set_hook_list, hook_added, hook_removed}
 use Rattle.plain_machine.specs.Refusals.{process_tests, rounds_of}
-use Rattle.plain_machine.specs.Arguments.{filter_of, filter_value, sentinel_of, sentinel_value, coding_of, coding_value, find_process, process_of, runs, child_of, is_closed, running_in, encoded, is_new_name, process_name}
-use Rattle.plain_machine.specs.Items.{Item, GiveAnswer, Refuse, MakeChange, Wait, Delete, Target, Waiting, Next, Step, Goes, Asks}
+use Rattle.plain_machine.specs.Arguments.{filter_of, filter_value, sentinel_of, sentinel_value}
+use Rattle.plain_machine.specs.Arguments.{coding_of, coding_value, find_process, process_of, runs}
+use Rattle.plain_machine.specs.Arguments.{child_of, is_closed, running_in, encoded, is_new_name}
+use Rattle.plain_machine.specs.Arguments.{process_name}
+use Rattle.plain_machine.specs.Items.{Item, GiveAnswer, Refuse, MakeChange, Wait, Delete, Target}
+use Rattle.plain_machine.specs.Items.{Waiting, Next, Step, Goes, Asks}
 
 -- a step that says nothing
 abbrev pub silent : State → List Item → Next
@@ -43,7 +58,8 @@ with_editor e s = record s { editor = e }
 -- HOOKS
 abbrev pub set_hook : State → Target → List Item → (hook : Value) → List ℕ → Step
 set_hook s target rest hook names =
-    on (set_hook_list s.editor.current (symbol_of hook) names s) (GiveAnswer (list (map Sym names)) target ∷ rest)
+    on (set_hook_list s.editor.current (symbol_of hook) names s)
+    (GiveAnswer (list (map Sym names)) target ∷ rest)
 
 -- STARTING A PROCESS
 -- the buffer of a new process, made where the name is unknown
@@ -87,14 +103,16 @@ abbrev pub is_new_child : State → ℕ → Bool
 is_new_child s child = not (list_any (λ x. x.child == child) s.processes)
 
 -- the first answer of a host for a child that it started before is none
-abbrev pub spawned_child : (is_new : Bool) → State → Target → List Item → (name b : Value) → (child : ℕ) → Option Next
+abbrev pub spawned_child : (is_new : Bool) → State → Target → List Item → (name b : Value) →
+    (child : ℕ) → Option Next
 spawned_child false s target rest name b child = None
 spawned_child true s target rest name b child =
     Some (silent (started s name b child) (GiveAnswer (TheProcess (length s.processes)) target ∷ rest))
 
 abbrev pub spawned : State → Target → List Item → (name b : Value) → Answer → Option Next
 spawned s target rest name b (Started child) = spawned_child (is_new_child s child) s target rest name b child
-spawned s target rest name b Answer.Refused = Some (silent (record s { asked = s.asked + 1 }) (Refuse SpawnFailed ∷ rest))
+spawned s target rest name b Answer.Refused =
+    Some (silent (record s { asked = s.asked + 1 }) (Refuse SpawnFailed ∷ rest))
 spawned s target rest name b _ = None
 
 -- SETTING
@@ -122,7 +140,8 @@ sent_answer s target rest size _ = None
 -- an empty text asks nothing
 abbrev pub send : State → Target → List Item → (child : ℕ) → (bytes : List ℕ) → Step
 send s target rest child [] = on s (GiveAnswer Nil target ∷ rest)
-send s target rest child (b ∷ bytes) = Asks (Send child (b ∷ bytes)) (sent_answer s target rest (length (b ∷ bytes)))
+send s target rest child (b ∷ bytes) =
+    Asks (Send child (b ∷ bytes)) (sent_answer s target rest (length (b ∷ bytes)))
 
 abbrev pub with_input_closed : Process → Process
 with_input_closed x = record x { closed = true }
@@ -140,9 +159,16 @@ send_eof s target rest p false = Asks (Close (child_of s p)) (closed_answer s ta
 
 -- WAITING
 abbrev pub waiting : State → (p n flag : Value) → Waiting
-waiting s Nil n flag = record { target = None; just = false; rounds = rounds_of n; asking = []; counted = false }
+waiting s Nil n flag =
+    record { target = None; just = false; rounds = rounds_of n; asking = []; counted = false }
 waiting s p n flag =
-    record { target = Some (process_of s p); just = not (is_nil flag); rounds = rounds_of n; asking = []; counted = false }
+    record {
+      target = Some (process_of s p);
+      just = not (is_nil flag);
+      rounds = rounds_of n;
+      asking = [];
+      counted = false;
+    }
 
 -- ASKING ABOUT PROCESSES
 -- the symbols `run`, `exit`, `signal`, `failed`
@@ -192,8 +218,10 @@ listed s = map (λ x. TheProcess x.0) (filter (λ x. x.1.listed) (enumerate_from
 -- THE TABLE
 -- what each does where nothing is refused
 abbrev pub process_effect : State → Target → List Item → Prim → List Value → Step
-process_effect s target rest AddHook args = set_hook s target rest (arg args 0) (hook_added s (arg args 0) (arg args 1))
-process_effect s target rest RemoveHook args = set_hook s target rest (arg args 0) (hook_removed s (arg args 0) (arg args 1))
+process_effect s target rest AddHook args =
+    set_hook s target rest (arg args 0) (hook_added s (arg args 0) (arg args 1))
+process_effect s target rest RemoveHook args =
+    set_hook s target rest (arg args 0) (hook_removed s (arg args 0) (arg args 1))
 process_effect s target rest KillBuffer args =
     let b : ℕ = buffer_of s.editor (arg args 0) in
     on s (map Delete (running_in s b) ++ (Item.KillBuffer b target ∷ rest))
@@ -218,7 +246,8 @@ process_effect s target rest ProcessSendString args =
     send s target rest (child_of s (process_of s (arg args 0))) (encoded (string_of (arg args 1)))
 process_effect s target rest ProcessSendEof args =
     send_eof s target rest (process_of s (arg args 0)) (is_closed s (process_of s (arg args 0)))
-process_effect s target rest DeleteProcess args = on s (Delete (process_of s (arg args 0)) ∷ GiveAnswer Nil target ∷ rest)
+process_effect s target rest DeleteProcess args =
+    on s (Delete (process_of s (arg args 0)) ∷ GiveAnswer Nil target ∷ rest)
 process_effect s target rest AcceptProcessOutput args =
     on s (Wait (waiting s (arg args 0) (arg args 1) (arg args 2)) target ∷ rest)
 process_effect s target rest prim args =
@@ -230,7 +259,8 @@ process_call program bound s target rest prim args =
 
 abbrev pub change_call : State → Target → List Item → Prepared → Step
 change_call s target rest (Changes c) = on s (MakeChange c ∷ GiveAnswer c.reply target ∷ rest)
-change_call s target rest (Quiet c) = on (with_editor (commit s.editor c).editor s) (GiveAnswer c.reply target ∷ rest)
+change_call s target rest (Quiet c) =
+    on (with_editor (commit s.editor c).editor s) (GiveAnswer c.reply target ∷ rest)
 change_call s target rest (Nothing v) = on s (GiveAnswer v target ∷ rest)
 change_call s target rest (Barred f) = on s (Refuse f ∷ rest)
 
@@ -241,8 +271,10 @@ set_call s target rest a = answered (with_editor a.editor s) target a.reply rest
 abbrev pub call_by : Manner → Program → (bound : ℕ) → State → Target → List Item → Prim → List Value → Step
 call_by OnlyAsks program bound s target rest prim args = answered s target (query s.editor prim args) rest
 call_by SetsState program bound s target rest prim args = set_call s target rest (apply s.editor prim args)
-call_by ChangesText program bound s target rest prim args = change_call s target rest (prepare s.editor prim args)
-call_by ConcernsHandlers program bound s target rest prim args = process_call program bound s target rest prim args
+call_by ChangesText program bound s target rest prim args =
+    change_call s target rest (prepare s.editor prim args)
+call_by ConcernsHandlers program bound s target rest prim args =
+    process_call program bound s target rest prim args
 
 abbrev pub call : Program → (bound : ℕ) → State → Target → List Item → Prim → List Value → Step
 call program bound s target rest prim args = call_by (manner_of prim) program bound s target rest prim args

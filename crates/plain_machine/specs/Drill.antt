@@ -1,9 +1,16 @@
--- The words of the command line, and the drill: a script and a child that the program brings along to measure itself.
-use Rattle.std.specs.Prelude.{ℕ, zero, suc, ◌+◌, ◌%◌, Bool, true, false, ◌&&◌, ◌==◌, nat_le, List, [], ◌∷◌, ◌++◌, map, filter, take, drop, length, replicate, codes, decimal, Option, Some, None}
+-- The words of the command line, and the drill: a script and a child that the program brings along to
+-- measure itself.
+use Rattle.std.specs.Prelude.{ℕ, zero, suc, ◌+◌, ◌%◌, Bool, true, false, ◌&&◌, ◌==◌, nat_le, List, []}
+use Rattle.std.specs.Prelude.{◌∷◌, ◌++◌, map, filter, take, drop, length, replicate, codes, decimal}
+use Rattle.std.specs.Prelude.{Option, Some, None}
 use Rattle.std.specs.List.{list_all}
 use Rattle.text_model.specs.Characters.{Scalar}
 use Rattle.text_model.specs.Names.{first_symbols, same_word}
-use Rattle.editor_model.specs.Values.{Sym, Str, Prim, Arg, Const, Name, Call, Form, Do, Setq, Forms, NoForms, Then, HandlerDef, Script, ProcessBuffer, SetBuffer, ProcessMark, GotoChar, Insert, PointAt, PutTextProperty, SetMarker, UndoBoundary, StartProcess, SetProcessFilter, SetProcessSentinel, AcceptProcessOutput}
+use Rattle.editor_model.specs.Values.{Sym, Str, Prim, Arg, Const, Name, Call, Form, Do, Setq, Forms}
+use Rattle.editor_model.specs.Values.{NoForms, Then, HandlerDef, Script, ProcessBuffer, SetBuffer}
+use Rattle.editor_model.specs.Values.{ProcessMark, GotoChar, Insert, PointAt, PutTextProperty}
+use Rattle.editor_model.specs.Values.{SetMarker, UndoBoundary, StartProcess, SetProcessFilter}
+use Rattle.editor_model.specs.Values.{SetProcessSentinel, AcceptProcessOutput}
 use Rattle.editor_model.specs.Editor.{characters_in}
 use Rattle.plain_machine.specs.Exchanges.{Exchange}
 use Rattle.plain_machine.specs.State.{State}
@@ -37,7 +44,8 @@ output_from k (suc n) = 0xC3 ∷ 0xA9 ∷ 32 ∷ (decimal k ++ 10 ∷ output_fro
 abbrev pub pieces : (turns size : ℕ) → List ℕ → List (List ℕ)
 pieces zero size bytes = []
 pieces (suc turns) size [] = []
-pieces (suc turns) size (b ∷ bytes) = take size (b ∷ bytes) ∷ pieces turns (size % 7 + 1) (drop size (b ∷ bytes))
+pieces (suc turns) size (b ∷ bytes) =
+    take size (b ∷ bytes) ∷ pieces turns (size % 7 + 1) (drop size (b ∷ bytes))
 
 abbrev pub drill_reads : ℕ → List (List ℕ)
 drill_reads n = let output : List ℕ = output_from 0 n in pieces (length output) 1 output
@@ -107,7 +115,8 @@ drill_script count = record {
   handlers = drill_handlers;
   forms = in_order (
       Setq p (call StartProcess (string (codes "drill") ∷ string (codes "out") ∷ string (codes "drill") ∷ [])) ∷
-      Do (call SetProcessFilter (Name p ∷ Const (Sym f) ∷ [])) ∷ Do (call SetProcessSentinel (Name p ∷ Const (Sym g) ∷ [])) ∷
+      Do (call SetProcessFilter (Name p ∷ Const (Sym f) ∷ [])) ∷
+      Do (call SetProcessSentinel (Name p ∷ Const (Sym g) ∷ [])) ∷
       replicate (length (drill_reads count) + 1) (Do (call AcceptProcessOutput (Name p ∷ []))));
 }
 

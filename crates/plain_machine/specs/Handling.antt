@@ -1,7 +1,8 @@
--- Handlers: how they are entered, run and left. A handler is a filter or sentinel of a process or a hook function of a
--- buffer: a body of the script, a native, or the default one. GNU Emacs Lisp Reference Manual, sections "Filter Functions",
--- "Sentinels", "Change Hooks".
-use Rattle.std.specs.Prelude.{ℕ, ◌+◌, ◌-◌, Bool, true, false, nat_lt, List, [], ◌∷◌, ◌++◌, map, length, drop, codes, Option, Some, None, unwrap_or}
+-- Handlers: how they are entered, run and left. A handler is a filter or sentinel of a process or a hook
+-- function of a buffer: a body of the script, a native, or the default one. GNU Emacs Lisp Reference
+-- Manual, sections "Filter Functions", "Sentinels", "Change Hooks".
+use Rattle.std.specs.Prelude.{ℕ, ◌+◌, ◌-◌, Bool, true, false, nat_lt, List, [], ◌∷◌, ◌++◌, map, length}
+use Rattle.std.specs.Prelude.{drop, codes, Option, Some, None, unwrap_or}
 use Rattle.text_model.specs.Characters.{Scalar}
 use Rattle.text_model.specs.Properties.{Cell, bare}
 use Rattle.editor_model.specs.Values.{Value, Nil, Str, Prim, WrongType, Reply, HandlerDef}
@@ -10,7 +11,8 @@ use Rattle.editor_model.specs.Answers.{Prepared, Changes, Barred}
 use Rattle.editor_model.specs.TextCalls.{prepare_output}
 use Rattle.plain_machine.specs.State.{State, Scope, Process, Program, process, change_process}
 use Rattle.plain_machine.specs.Lines.{Kind, OfFilter, OfSentinel, OfBefore, OfAfter, Entered, Left, line}
-use Rattle.plain_machine.specs.Items.{Item, Body, MakeCall, Refuse, MakeChange, Hooks, Native, Called, Exit, ToNative, Config, Next, Step}
+use Rattle.plain_machine.specs.Items.{Item, Body, MakeCall, Refuse, MakeChange, Hooks, Native, Called}
+use Rattle.plain_machine.specs.Items.{Exit, ToNative, Config, Next, Step}
 use Rattle.plain_machine.specs.Hooks.{before_change_functions, after_change_functions, set_hook_list}
 use Rattle.plain_machine.specs.Arguments.{handler_def, native_from}
 use Rattle.plain_machine.specs.Natives.{normal, is_callable}
@@ -77,11 +79,15 @@ abbrev pub named_body : Program → State → Option HandlerDef → (name : ℕ)
 named_body program s (Some d) name args rest =
     record { state = in_scope (bound_params d.params args) s; work = Body d.body ∷ rest }
 named_body program s None name args rest =
-    record { state = in_scope [] s; work = Native (unwrap_or (native_from 0 program.natives name) 0) args [] ∷ rest }
+    record {
+      state = in_scope [] s;
+      work = Native (unwrap_or (native_from 0 program.natives name) 0) args [] ∷ rest;
+    }
 
 abbrev pub body_of : Program → State → Kind → Option ℕ → List Value → List Item → Config
 body_of program s kind None args rest = default_handler (in_scope [] s) kind args rest
-body_of program s kind (Some name) args rest = named_body program s (handler_def program.handlers name) name args rest
+body_of program s kind (Some name) args rest =
+    named_body program s (handler_def program.handlers name) name args rest
 
 abbrev pub enter : Program → State → Kind → Option ℕ → List Value → List Item → Next
 enter program s kind handler args rest = record {
@@ -89,7 +95,8 @@ enter program s kind handler args rest = record {
     event = Entered s.depth kind handler args;
     line = line program.symbols s (Entered s.depth kind handler args);
   } ∷ [];
-  config = body_of program (record s { depth = s.depth + 1 }) kind handler args (Exit kind handler s.editor.current false ∷ rest);
+  config = body_of program (record s { depth = s.depth + 1 }) kind handler args
+      (Exit kind handler s.editor.current false ∷ rest);
 }
 
 -- a native's call: one that no script might make is refused before all else
@@ -104,10 +111,12 @@ abbrev pub native_next : (goes_on : Bool) → Option (Prim × List Value) → Pr
     List Reply → List Item → Step
 native_next false c program s i args past rest = on s rest
 native_next true None program s i args past rest = on s rest
-native_next true (Some c) program s i args past rest = on s (native_call program s c ∷ Called i args past ∷ rest)
+native_next true (Some c) program s i args past rest =
+    on s (native_call program s c ∷ Called i args past ∷ rest)
 
 abbrev pub native : Program → State → ℕ → List Value → List Reply → List Item → Step
-native program s i args past rest = native_next (nat_lt (length past) 256) (program.does i args past) program s i args past rest
+native program s i args past rest =
+    native_next (nat_lt (length past) 256) (program.does i args past) program s i args past rest
 
 abbrev pub without_hooks_item : List Item → List Item
 without_hooks_item (Hooks kind names args ∷ rest) = rest
@@ -121,7 +130,10 @@ abbrev pub ended_handler : Kind → (faulted : Bool) → State → List Item →
 ended_handler (OfFilter p) faulted s rest = record { state = s; work = rest }
 ended_handler (OfSentinel p) faulted s rest = record { state = change_process p unlisted s; work = rest }
 ended_handler (OfBefore b) true s rest =
-    record { state = if_live s b (set_hook_list b before_change_functions [] s); work = without_hooks_item rest }
+    record {
+      state = if_live s b (set_hook_list b before_change_functions [] s);
+      work = without_hooks_item rest;
+    }
 ended_handler (OfAfter b) true s rest =
     record { state = if_live s b (set_hook_list b after_change_functions [] s); work = without_hooks_item rest }
 ended_handler _ faulted s rest = record { state = s; work = rest }
@@ -137,6 +149,9 @@ entered s d args = record s { depth = s.depth + 1; scopes = bound_params d.param
 
 abbrev pub exit : Program → State → Kind → Option ℕ → ℕ → Bool → List Item → Next
 exit program s kind handler c faulted rest = record {
-  said = record { event = Left (s.depth - 1) handler; line = line program.symbols s (Left (s.depth - 1) handler) } ∷ [];
+  said = record {
+    event = Left (s.depth - 1) handler;
+    line = line program.symbols s (Left (s.depth - 1) handler);
+  } ∷ [];
   config = ended_handler kind faulted (left_state s c) rest;
 }

@@ -1,10 +1,18 @@
 -- The bytes of lines and of the dump: what a user sees of a run. Values are printed as Lisp prints them.
-use Rattle.std.specs.Prelude.{ℕ, zero, suc, ◌+◌, ◌/◌, ◌%◌, ℤ, pos, negsuc, ◌||◌, ◌==◌, nat_lt, List, [], ◌∷◌, ◌++◌, map, flat_map, codes, decimal, encode_utf8, slice_get, if◌then◌else◌, Option, Some, None, unwrap_or}
+use Rattle.std.specs.Prelude.{ℕ, zero, suc, ◌+◌, ◌/◌, ◌%◌, ℤ, pos, negsuc, ◌||◌, ◌==◌, nat_lt, List, []}
+use Rattle.std.specs.Prelude.{◌∷◌, ◌++◌, map, flat_map, codes, decimal, encode_utf8, slice_get}
+use Rattle.std.specs.Prelude.{if◌then◌else◌, Option, Some, None, unwrap_or}
 use Rattle.std.specs.List.{enumerate_from}
 use Rattle.text_model.specs.Characters.{Ch, Scalar, Raw}
 use Rattle.text_model.specs.Properties.{Cell, PropSet, PropVal, stretches, same_set}
 use Rattle.text_model.specs.Marks.{Marker}
-use Rattle.editor_model.specs.Values.{Value, Values, Nil, T, Int, Sym, Str, Items, Dotted, TheBuffer, TheMarker, TheOverlay, TheProcess, End, More, Reply, Answered, Refused, Fault, ArgsOutOfRange, WrongType, VoidVariable, NoSuchBuffer, BufferKilled, NoFurtherUndo, UndoOutside, UndoDisabled, NoSuchProcess, ProcessEnded, BrokenPipe, SpawnFailed, Nesting, ExchangesSpent, BufferFull, TooMany, CodingFixed, BufferReadOnly, TextReadOnly}
+use Rattle.editor_model.specs.Values.{Value, Values, Nil, T, Int, Sym, Str, Items, Dotted, TheBuffer}
+use Rattle.editor_model.specs.Values.{TheMarker, TheOverlay, TheProcess, End, More, Reply, Answered}
+use Rattle.editor_model.specs.Values.{Refused, Fault, ArgsOutOfRange, WrongType, VoidVariable}
+use Rattle.editor_model.specs.Values.{NoSuchBuffer, BufferKilled, NoFurtherUndo, UndoOutside}
+use Rattle.editor_model.specs.Values.{UndoDisabled, NoSuchProcess, ProcessEnded, BrokenPipe}
+use Rattle.editor_model.specs.Values.{SpawnFailed, Nesting, ExchangesSpent, BufferFull, TooMany}
+use Rattle.editor_model.specs.Values.{CodingFixed, BufferReadOnly, TextReadOnly}
 use Rattle.editor_model.specs.Editor.{Editor, Name, Live, live}
 use Rattle.editor_model.specs.Arguments.{marker_of}
 use Rattle.plain_machine.specs.State.{State, Status, Runs, Exited, Signalled, Lost, process}
@@ -90,7 +98,8 @@ shown_marker e k =
     let m : Marker = marker_of e k in
     codes "#<marker " ++ ((if m.advances then codes "(moves after insertion) " else []) ++
     (elim m.spot [
-      | Some s ↦ codes "at " ++ (decimal (s.place + 1) ++ (codes " in " ++ (buffer_name e s.buffer ++ codes ">")))
+      | Some s ↦ codes "at " ++ (decimal (s.place + 1) ++
+          (codes " in " ++ (buffer_name e s.buffer ++ codes ">")))
       | None ↦ codes "in no buffer>"
     ]))
 
@@ -106,7 +115,8 @@ shown_overlay e k = elim (slice_get e.marks.overlays k) [
 ]
 
 abbrev pub shown_process : State → ℕ → List ℕ
-shown_process s p = elim (process s p) [ Some x ↦ codes "#<process " ++ (shown_name x.name ++ codes ">") | None ↦ [] ]
+shown_process s p =
+    elim (process s p) [ Some x ↦ codes "#<process " ++ (shown_name x.name ++ codes ">") | None ↦ [] ]
 
 abbrev mutual
   pub shown : List (List ℕ) → State → Value → List ℕ
@@ -116,7 +126,8 @@ abbrev mutual
   shown symbols s (Sym n) = symbol_name symbols n
   shown symbols s (Str text) = shown_text symbols text
   shown symbols s (Items vs) = bracketed (spaced (shown_each symbols s vs))
-  shown symbols s (Dotted vs v) = bracketed (spaced (shown_each symbols s vs) ++ (codes " . " ++ shown symbols s v))
+  shown symbols s (Dotted vs v) = bracketed
+      (spaced (shown_each symbols s vs) ++ (codes " . " ++ shown symbols s v))
   shown symbols s (TheBuffer b) = shown_buffer s.editor b
   shown symbols s (TheMarker k) = shown_marker s.editor k
   shown symbols s (TheOverlay k) = shown_overlay s.editor k
@@ -212,7 +223,8 @@ abbrev pub line : List (List ℕ) → State → Event → List ℕ
 line symbols s (Replied depth (Answered v)) = indented depth (codes "= " ++ shown symbols s v)
 line symbols s (Replied depth (Refused f)) = indented depth (codes "! " ++ fault_words f)
 line symbols s (Entered depth kind handler args) =
-    indented depth (codes "> " ++ spaced (kind_word kind ∷ handler_word symbols handler ∷ map (shown symbols s) args))
+    indented depth (codes "> " ++ spaced
+    (kind_word kind ∷ handler_word symbols handler ∷ map (shown symbols s) args))
 line symbols s (Left depth handler) = indented depth (codes "< " ++ handler_word symbols handler)
 line symbols s (KilledLast p) = codes "kill " ++ (shown_process s p ++ 10 ∷ [])
 line symbols s Dumped = dump symbols s

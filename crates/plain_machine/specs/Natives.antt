@@ -1,9 +1,10 @@
--- Handlers that aren't written in the script but in the program: what their calls may hold. A native is seen as a
--- function of its arguments and of the replies that its calls have had so far.
+-- Handlers that aren't written in the script but in the program: what their calls may hold. A native is
+-- seen as a function of its arguments and of the replies that its calls have had so far.
 use Rattle.std.specs.Prelude.{ℕ, Bool, true, ◌&&◌, nat_lt, nat_le, List, length}
 use Rattle.std.specs.List.{list_all}
 use Rattle.text_model.specs.Properties.{PropSet, PropVal, Symbol, Symbols}
-use Rattle.editor_model.specs.Values.{Value, Values, Nil, Sym, Str, Items, Dotted, TheBuffer, TheMarker, TheOverlay, TheProcess, End, More, Prim}
+use Rattle.editor_model.specs.Values.{Value, Values, Nil, Sym, Str, Items, Dotted, TheBuffer, TheMarker}
+use Rattle.editor_model.specs.Values.{TheOverlay, TheProcess, End, More, Prim}
 use Rattle.editor_model.specs.Prims.{arity}
 use Rattle.plain_machine.specs.State.{State, Program}
 
@@ -52,6 +53,7 @@ abbrev mutual
 abbrev pub takes : Prim → ℕ → Bool
 takes prim n = nat_le (arity prim).0 n && nat_le n (arity prim).1
 
--- a native's call is one that the script might make: as many arguments as it takes, and nothing that was never made
+-- a native's call is one that the script might make: as many arguments as it takes, and nothing that was
+-- never made
 abbrev pub is_callable : Program → State → Prim × List Value → Bool
 is_callable program s c = takes c.0 (length c.1) && list_all (was_made program s) c.1

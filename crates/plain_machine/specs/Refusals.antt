@@ -1,13 +1,25 @@
 -- What the calls that concern hooks and processes refuse, and in which order.
-use Rattle.std.specs.Prelude.{ℕ, ◌+◌, pos, Bool, true, false, ◌&&◌, ◌||◌, not, ◌==◌, nat_lt, nat_le, List, [], ◌∷◌, ◌++◌, map, length, drop, None}
-use Rattle.editor_model.specs.Values.{Value, Nil, Int, TheBuffer, is_nil, ArgsOutOfRange, WrongType, VoidVariable, BufferKilled, NoSuchProcess, ProcessEnded, Nesting, ExchangesSpent, TooMany, CodingFixed, Prim, KillBuffer, AddHook, RemoveHook, StartProcess, ProcessList, GetProcess, SetProcessFilter, SetProcessSentinel, SetProcessBuffer, ProcessSendString, ProcessSendEof, DeleteProcess, AcceptProcessOutput, SetProcessCodingSystem}
+use Rattle.std.specs.Prelude.{ℕ, ◌+◌, pos, Bool, true, false, ◌&&◌, ◌||◌, not, ◌==◌, nat_lt, nat_le}
+use Rattle.std.specs.Prelude.{List, [], ◌∷◌, ◌++◌, map, length, drop, None}
+use Rattle.editor_model.specs.Values.{Value, Nil, Int, TheBuffer, is_nil, ArgsOutOfRange, WrongType}
+use Rattle.editor_model.specs.Values.{VoidVariable, BufferKilled, NoSuchProcess, ProcessEnded, Nesting}
+use Rattle.editor_model.specs.Values.{ExchangesSpent, TooMany, CodingFixed, Prim, KillBuffer, AddHook}
+use Rattle.editor_model.specs.Values.{RemoveHook, StartProcess, ProcessList, GetProcess}
+use Rattle.editor_model.specs.Values.{SetProcessFilter, SetProcessSentinel, SetProcessBuffer}
+use Rattle.editor_model.specs.Values.{ProcessSendString, ProcessSendEof, DeleteProcess}
+use Rattle.editor_model.specs.Values.{AcceptProcessOutput, SetProcessCodingSystem}
 use Rattle.editor_model.specs.Editor.{Editor, is_live, live_from}
 use Rattle.editor_model.specs.Limits.{most_buffers, most_markers}
 use Rattle.editor_model.specs.Answers.{Test, refuse}
-use Rattle.editor_model.specs.Arguments.{arg, string_of, buffer_of, must_be_string, must_be_symbol, must_be_name, must_be_buffer_or_nil, buffer_there, must_be_fewer, must_be_short}
+use Rattle.editor_model.specs.Arguments.{arg, string_of, buffer_of, must_be_string, must_be_symbol}
+use Rattle.editor_model.specs.Arguments.{must_be_name, must_be_buffer_or_nil, buffer_there}
+use Rattle.editor_model.specs.Arguments.{must_be_fewer, must_be_short}
 use Rattle.plain_machine.specs.State.{State, Program}
 use Rattle.plain_machine.specs.Hooks.{is_hook, most_hooks, hook_added}
-use Rattle.plain_machine.specs.Arguments.{is_handler_argument, is_handler_place, is_filter_place, is_process, is_process_there, is_coding, process_of, is_running, is_closed, is_fed, running_in, encoded, is_word, is_empty, is_process_buffer, is_new_name}
+use Rattle.plain_machine.specs.Arguments.{is_handler_argument, is_handler_place, is_filter_place}
+use Rattle.plain_machine.specs.Arguments.{is_process, is_process_there, is_coding, process_of}
+use Rattle.plain_machine.specs.Arguments.{is_running, is_closed, is_fed, running_in, encoded, is_word}
+use Rattle.plain_machine.specs.Arguments.{is_empty, is_process_buffer, is_new_name}
 
 -- LIMITS
 abbrev pub most_exchanges : ℕ
@@ -100,7 +112,8 @@ process_tests program bound s StartProcess args =
     must_be_word (arg args 2) ∷ map must_be_word (drop 3 args) ++
     must_live_or_be_named s.editor (arg args 1) ∷
     must_be_short (arg args 0) ∷ only_where new (must_be_short (arg args 1)) ∷
-    must_be_fewer most_processes (length s.processes) ∷ must_be_fewer most_markers (length s.editor.marks.markers) ∷
+    must_be_fewer most_processes (length s.processes) ∷
+    must_be_fewer most_markers (length s.editor.marks.markers) ∷
     only_where new (must_be_fewer most_buffers (length s.editor.buffers)) ∷
     must_ask s ∷ []
 process_tests program bound s ProcessList args = []

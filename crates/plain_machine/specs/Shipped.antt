@@ -1,8 +1,12 @@
--- The three handlers that the program brings along: insert-filter, drop-filter, note-sentinel. The first does by calls
--- what the Reference Manual's example of a filter does (section "Filter Functions").
-use Rattle.std.specs.Prelude.{ℕ, zero, suc, ℤ, pos, negsuc, ◌+ℤ◌, ◌-ℤ◌, int_lt, int_le, Bool, true, false, ◌&&◌, List, [], ◌∷◌, ◌++◌, map, codes, if◌then◌else◌, Option, Some, None}
+-- The three handlers that the program brings along: insert-filter, drop-filter, note-sentinel. The first
+-- does by calls what the Reference Manual's example of a filter does (section "Filter Functions").
+use Rattle.std.specs.Prelude.{ℕ, zero, suc, ℤ, pos, negsuc, ◌+ℤ◌, ◌-ℤ◌, int_lt, int_le, Bool, true}
+use Rattle.std.specs.Prelude.{false, ◌&&◌, List, [], ◌∷◌, ◌++◌, map, codes, if◌then◌else◌, Option, Some}
+use Rattle.std.specs.Prelude.{None}
 use Rattle.text_model.specs.Characters.{Scalar}
-use Rattle.editor_model.specs.Values.{Value, Int, Str, TheBuffer, TheMarker, Reply, Answered, Refused, Prim, GetBufferCreate, SetBuffer, PointAt, PointMax, GotoChar, Insert, ProcessBuffer, ProcessMark, MarkerPosition, SetMarker}
+use Rattle.editor_model.specs.Values.{Value, Int, Str, TheBuffer, TheMarker, Reply, Answered, Refused}
+use Rattle.editor_model.specs.Values.{Prim, GetBufferCreate, SetBuffer, PointAt, PointMax, GotoChar}
+use Rattle.editor_model.specs.Values.{Insert, ProcessBuffer, ProcessMark, MarkerPosition, SetMarker}
 use Rattle.editor_model.specs.Arguments.{arg}
 
 abbrev pub NativeCall : Type 0
@@ -27,9 +31,10 @@ pub record Line : Type 0 where
 abbrev pub line : Wanted → (List Value → NativeCall) → Line
 line wanted made = record { wanted = wanted; made = made }
 
--- Down the list by the replies so far: done at a fault, and at an answer of another kind. At the end of the list
--- the answers and the replies that are left give the rest.
-abbrev pub along : List Line → (answers : List Value) → List Reply → (List Value → List Reply → Option NativeCall) →
+-- Down the list by the replies so far: done at a fault, and at an answer of another kind. At the end of the
+-- list the answers and the replies that are left give the rest.
+abbrev pub along : List Line → (answers : List Value) → List Reply →
+    (List Value → List Reply → Option NativeCall) →
     Option NativeCall
 along [] answers past rest = rest answers past
 along (l ∷ lines) answers [] rest = Some (l.made answers)

@@ -1,5 +1,5 @@
--- A script's whole run, and a run that was broken off: what the top call claims of the bytes that it wrote and of the
--- exchanges that it made.
+-- A script's whole run, and a run that was broken off: what the top call claims of the bytes that it wrote
+-- and of the exchanges that it made.
 use Rattle.std.specs.Prelude.{◌≡◌, ℕ, List, [], ◌∷◌, ◌++◌}
 use Rattle.editor_model.specs.Values.{Script}
 use Rattle.plain_machine.specs.Exchanges.{Exchange, Kill, living}
@@ -17,7 +17,8 @@ IsBetweenEntries c = elim c.work [
 ]
 
 -- the run has ended with these exchanges used up, and said this
-pub record Ran (program : Program) (bound : ℕ) (script : Script) (exchanges : List Exchange) (written : List ℕ) : Type 0 where
+pub record Ran (program : Program) (bound : ℕ) (script : Script) (exchanges : List Exchange)
+    (written : List ℕ) : Type 0 where
   pub said : List Said
   pub last : Config
   pub run : Reaches program bound (start script) exchanges said last

@@ -1,6 +1,7 @@
--- The bytes of a script as words with blanks between them. The grammar is a relation between bytes and a script, and no
--- way of reading one.
-use Rattle.std.specs.Prelude.{◌≡◌, ◌⊎◌, ℕ, ◌+◌, ◌*◌, ◌-◌, ℤ, pos, neg_ℤ, Bool, true, false, ◌&&◌, ◌||◌, not, ◌==◌, nat_lt, nat_le, IsTrue, List, [], ◌∷◌, ◌++◌, length, codes}
+-- The bytes of a script as words with blanks between them. The grammar is a relation between bytes and a
+-- script, and no way of reading one.
+use Rattle.std.specs.Prelude.{◌≡◌, ◌⊎◌, ℕ, ◌+◌, ◌*◌, ◌-◌, ℤ, pos, neg_ℤ, Bool, true, false, ◌&&◌, ◌||◌}
+use Rattle.std.specs.Prelude.{not, ◌==◌, nat_lt, nat_le, IsTrue, List, [], ◌∷◌, ◌++◌, length, codes}
 use Rattle.std.specs.List.{list_all}
 use Rattle.text_model.specs.Characters.{Ch, Scalar, Raw}
 use Rattle.text_model.specs.Decoding.{all_characters}
@@ -37,12 +38,14 @@ HasNoLineFeed bytes = IsTrue (list_all (λ c. not (c == 10)) bytes)
 pub data IsBlanks : List ℕ → Type 0 where
   none : IsBlanks []
   blank : {c : ℕ} {rest : List ℕ} → IsTrue (is_blank c) → IsBlanks rest → IsBlanks (c ∷ rest)
-  comment : (text : List ℕ) {rest : List ℕ} → HasNoLineFeed text → IsBlanks rest → IsBlanks (59 ∷ (text ++ 10 ∷ rest))
+  comment : (text : List ℕ) {rest : List ℕ} → HasNoLineFeed text → IsBlanks rest →
+      IsBlanks (59 ∷ (text ++ 10 ∷ rest))
 
 -- at the end of the script a comment may go on to the end
 abbrev pub IsLastBlanks : List ℕ → Type 0
 IsLastBlanks bytes =
-    IsBlanks bytes ⊎ ((blanks text : List ℕ) × (bytes ≡ blanks ++ 59 ∷ text) × IsBlanks blanks × HasNoLineFeed text)
+    IsBlanks bytes ⊎ ((blanks text : List ℕ) × (bytes ≡ blanks ++ 59 ∷ text) × IsBlanks blanks ×
+    HasNoLineFeed text)
 
 -- WORDS
 -- a word of the script: a name that gets a number as a symbol, or anything else
@@ -85,7 +88,8 @@ EndsThere w rest =
 -- the bytes are these words, with blanks round them
 abbrev pub AreWords : List Word → List ℕ → Type 0
 AreWords [] bytes = IsLastBlanks bytes
-AreWords (w ∷ words) bytes = (blanks rest : List ℕ) × (bytes ≡ blanks ++ (spelled w ++ rest)) × IsBlanks blanks ×
+AreWords (w ∷ words) bytes =
+    (blanks rest : List ℕ) × (bytes ≡ blanks ++ (spelled w ++ rest)) × IsBlanks blanks ×
     EndsThere w rest × AreWords words rest
 
 -- NAMES, NUMBERS, STRINGS
@@ -106,11 +110,13 @@ digits_value n (d ∷ digits) = digits_value (10 * n + (d - 48)) digits
 abbrev pub IsInt : List ℕ → ℤ → Type 0
 IsInt word i =
     (IsTrue (are_digits word) × (i ≡ pos (digits_value 0 word))) ⊎
-    ((digits : List ℕ) × (word ≡ 45 ∷ digits) × IsTrue (are_digits digits) × (i ≡ neg_ℤ (pos (digits_value 0 digits))))
+    ((digits : List ℕ) × (word ≡ 45 ∷ digits) × IsTrue (are_digits digits) ×
+    (i ≡ neg_ℤ (pos (digits_value 0 digits))))
 
 -- the byte behind a backslash, and the character that both stand for
 abbrev pub IsEscape : (c code : ℕ) → Type 0
-IsEscape c code = ((c ≡ 34) × (code ≡ 34)) ⊎ ((c ≡ 92) × (code ≡ 92)) ⊎ ((c ≡ 110) × (code ≡ 10)) ⊎ ((c ≡ 116) × (code ≡ 9))
+IsEscape c code =
+    ((c ≡ 34) × (code ≡ 34)) ⊎ ((c ≡ 92) × (code ≡ 92)) ⊎ ((c ≡ 110) × (code ≡ 10)) ⊎ ((c ≡ 116) × (code ≡ 9))
 
 -- a code below 200, in octal, is a character, and from there on a raw byte
 abbrev pub octal_ch : ℕ → Ch

@@ -49,7 +49,7 @@ pub fn string(rt: &impl Abort, alloc: Global, text: Chars) -> PropVal {
 
 /// A text without properties.
 pub fn plain(rt: &impl Abort, alloc: Global, text: &str) -> Piece {
-    Piece::plain(alloc, chars(rt, alloc, text))
+    Piece::plain(alloc, chars(rt, alloc, text)).expect(rt, "a piece")
 }
 
 /// A set with one property more.

@@ -1,4 +1,5 @@
-//! Tests alone, of what is written: lines and dumps, views, journals, their replays and transcripts. All values were worked out by hand.
+//! Tests alone, of what is written: lines and dumps, views, journals, their replays and transcripts. All values were
+//! worked out by hand.
 #![tactic(auto)]
 
 #[cfg(test)]

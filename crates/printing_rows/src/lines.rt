@@ -73,7 +73,8 @@ fn tell(
         processes: &processes,
         symbols: &symbols,
     };
-    let told = Reply::Value(Value::Str(Piece::plain(alloc, text)));
+    let text = Piece::plain(alloc, text).expect(rt, "a piece");
+    let told = Reply::Value(Value::Str(text));
     let written = reply(0, &told, &names, sink);
     editor.close();
     written

@@ -26,7 +26,8 @@ struct Laid {
     hides: bool,
 }
 
-/// What it shows, a text of which a part is invisible by its text property and another is accessible, its overlays, and what is seen.
+/// What it shows, a text of which a part is invisible by its text property and another is accessible, its overlays,
+/// and what is seen.
 #[derive(Clone, Copy)]
 struct Row {
     shows: &'static str,
@@ -364,7 +365,8 @@ fn characters_of_all_lengths_are_seen_and_other_values_are_not(rt: HostRuntime) 
     let mut editor = Editor::new(alloc).expect(&rt, "an editor");
     let mut text = chars(&rt, alloc, "aé€😀");
     text.push(Ch::Raw(0xFF)).expect(&rt, "room");
-    fill(&rt, &mut editor, 0, &Piece::plain(alloc, text));
+    let text = Piece::plain(alloc, text).expect(&rt, "a piece");
+    fill(&rt, &mut editor, 0, &text);
     lay(
         &rt,
         alloc,

@@ -1,5 +1,5 @@
-//! Comparing, and calls about a process that has to be there. Each comparison is a call, so a test that makes many of them
-//! branches at none. What a call requires is asserted in a helper with that call, so a test proves none of it.
+//! Comparing, and calls about a process that has to be there. Each comparison is a call, so a test that makes many of
+//! them branches at none. What a call requires is asserted in a helper with that call, so a test proves none of it.
 
 use ek_types::{Ch, Chars, Sym};
 use process_table::{Filter, Process, Processes, Status};

@@ -1,5 +1,5 @@
-//! What runs: the edges of the Unicode Standard's Table 3-7, cuts at each place, line ends and single bytes, and a long text
-//! in pieces.
+//! What runs: the edges of the Unicode Standard's Table 3-7, cuts at each place, line ends and single bytes, and a
+//! long text in pieces.
 use crate::checking::{holds, is, is_text};
 use ek_types::{Ch, Chars};
 use std::alloc::Global;
@@ -249,7 +249,8 @@ const CHARACTERS: [Ch; 7] = [
     Ch::Raw(0x82),
 ];
 
-/// Bytes in a coding with their characters: those without what is held back, how many bytes that is, and those at the end.
+/// Bytes in a coding with their characters: those without what is held back, how many bytes that is, and those at the
+/// end.
 struct Row {
     coding: Coding,
     bytes: &'static [u8],
@@ -287,8 +288,8 @@ const X82: Ch = Ch::Raw(0x82);
 
 const FF: Ch = Ch::Raw(0xFF);
 
-/// Line ends, the last five beside malformed bytes, each with its characters by the definition: UTF-8 is decoded, and then a carriage return directly before a line
-/// feed goes.
+/// Line ends, the last five beside malformed bytes, each with its characters by the definition: UTF-8 is decoded, and
+/// then a carriage return directly before a line feed goes.
 const LINE_ENDS: [Row; 13] = [
     Row {
         coding: Coding::Utf8Dos,

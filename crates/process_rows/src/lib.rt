@@ -1,5 +1,5 @@
-//! Tests alone, of decoding, hosts, processes and waits, and of what is entered for a host's answers. All values were worked
-//! out by hand.
+//! Tests alone, of decoding, hosts, processes and waits, and of what is entered for a host's answers. All values were
+//! worked out by hand.
 #![tactic(auto)]
 
 #[cfg(test)]

@@ -169,7 +169,8 @@ fn a_coding_may_be_set_behind_the_end_of_output(rt: HostRuntime) {
 
 /// What a string gives as an argument of a call.
 fn by_name(rt: &impl Abort, alloc: Global, table: &Processes, bytes: &[u8]) -> Result<u32, Fault> {
-    let name = Value::Str(Piece::plain(alloc, text(rt, alloc, bytes)));
+    let name = Piece::plain(alloc, text(rt, alloc, bytes)).expect(rt, "a piece");
+    let name = Value::Str(name);
     table.resolve(&name)
 }
 

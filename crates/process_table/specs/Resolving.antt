@@ -14,7 +14,8 @@ refusal s v = first_fault (must_be_process v ∷ process_there s v ∷ [])
 
 -- that refusal, or the process where there is none
 abbrev pub Resolves : State → Value → Result ℕ declared.Fault → Type 0
-Resolves s v result = MatchResult result (λ p. (refusal s v ≡ None) × (process_of s v ≡ p)) (λ f. refusal s v ≡ Some (fault_of f))
+Resolves s v result =
+    MatchResult result (λ p. (refusal s v ≡ None) × (process_of s v ≡ p)) (λ f. refusal s v ≡ Some (fault_of f))
 
 -- a process that is given is one of the first so many
 abbrev pub IsMade : (count : ℕ) → Value → Type 0

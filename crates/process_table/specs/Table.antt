@@ -1,8 +1,10 @@
 -- A table of processes beside the machine's list of them.
-use Rattle.std.specs.Prelude.{◌≡◌, ℕ, Bool, true, false, List, [], map, slice_get, if◌then◌else◌, Option, Some, None, option_map}
+use Rattle.std.specs.Prelude.{◌≡◌, ℕ, Bool, true, false, List, [], map, slice_get, if◌then◌else◌}
+use Rattle.std.specs.Prelude.{Option, Some, None, option_map}
 use Rattle.text_model.specs.Codings.{Coding, Utf8, undecoded}
 use Rattle.editor_model.specs.Editor.{Name}
-use Rattle.plain_machine.specs.State.{State, Process, Status, Runs, Default, new_state, change_process, read_so_far}
+use Rattle.plain_machine.specs.State.{State, Process, Status, Runs, Default, new_state, change_process}
+use Rattle.plain_machine.specs.State.{read_so_far}
 use Rattle.plain_machine.specs.Arguments.{find_process}
 
 -- Of all bytes read the program keeps those that the next bytes may still change, until the output has ended.
@@ -19,7 +21,8 @@ StandsFor table all = table ≡ map kept all
 
 -- Each listed process is found under its name, so no other listed one has this name.
 abbrev pub NamesDiffer : List Process → Type 0
-NamesDiffer table = (p : ℕ) (x : Process) → slice_get table p ≡ Some x → x.listed ≡ true → find_process 0 table x.name ≡ Some p
+NamesDiffer table =
+    (p : ℕ) (x : Process) → slice_get table p ≡ Some x → x.listed ≡ true → find_process 0 table x.name ≡ Some p
 
 -- a state of the machine with these processes
 abbrev pub with_table : List Process → State
@@ -32,7 +35,20 @@ changed p change table = (change_process p change (with_table table)).processes
 -- a process that just started
 abbrev pub new_process : Name → (child : ℕ) → (buffer : Option ℕ) → (mark : ℕ) → Process
 new_process name child buffer mark =
-    record { name = name; child = child; status = Runs; buffer = buffer; mark = mark; filter = Default; sentinel = None; coding = Utf8; bytes = None; drained = false; closed = false; listed = true }
+    record {
+      name = name;
+      child = child;
+      status = Runs;
+      buffer = buffer;
+      mark = mark;
+      filter = Default;
+      sentinel = None;
+      coding = Utf8;
+      bytes = None;
+      drained = false;
+      closed = false;
+      listed = true;
+    }
 
 -- room for a process more, of this name, in a table of at most so many
 pub record Room : Type 0 where

@@ -98,8 +98,8 @@ impl Processes {
         number
     }
 
-    /// Makes a process that just started, and gives its number. Fewer than 256 were made before, and no listed process has
-    /// the name. A refusal leaves all processes as they were.
+    /// Makes a process that just started, and gives its number. Fewer than 256 were made before, and no listed
+    /// process has the name. A refusal leaves all processes as they were.
     pub fn add(&mut self, name: &Chars, child: u32, buffer: Option<u32>, mark: u32) -> Mem<u32>
         requires room { length self.old < 256 }
         requires free { find_process 0 self.old name.now.items ≡ None }
@@ -208,7 +208,8 @@ impl Processes {
         self.list[p as usize].set_buffer(b);
     }
 
-    /// Sets how the output of process `p` is decoded. Where a read of it gave bytes, it answers false, and nothing changes.
+    /// Sets how the output of process `p` is decoded. Where a read of it gave bytes, it answers false, and nothing
+    /// changes.
     pub fn set_coding(&mut self, p: u32, c: Coding) -> bool
         requires { p < length self.old }
         ensures answer { result ≡ not (is_fed (with_table self.old) p) }
@@ -245,8 +246,9 @@ impl Processes {
         self.list[p as usize].close_input();
     }
 
-    /// Bytes of process `p` were read: appends the characters of the bytes held and these, and then holds what the next bytes
-    /// may still change. `out` has spare for as many characters as there are bytes held and given; no memory is taken.
+    /// Bytes of process `p` were read: appends the characters of the bytes held and these, and then holds what the
+    /// next bytes may still change. `out` has spare for as many characters as there are bytes held and given; no
+    /// memory is taken.
     pub fn feed(&mut self, p: u32, bytes: &[u8], out: &mut Chars)
         requires made { p < length self.old }
         requires room { length (held_by self.old p) + length bytes.now ≤ out.old.spare }
@@ -261,8 +263,8 @@ impl Processes {
         self.list[p as usize].feed(bytes, out);
     }
 
-    /// The output of process `p` has ended: appends all characters of the bytes held, and then holds nothing. `out` has spare
-    /// for as many characters as there are bytes held; no memory is taken.
+    /// The output of process `p` has ended: appends all characters of the bytes held, and then holds nothing. `out`
+    /// has spare for as many characters as there are bytes held; no memory is taken.
     pub fn drain(&mut self, p: u32, out: &mut Chars)
         requires made { p < length self.old }
         requires room { length (held_by self.old p) ≤ out.old.spare }

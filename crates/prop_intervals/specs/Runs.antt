@@ -1,5 +1,6 @@
 -- Runs of one property set: how many characters have it.
-use Rattle.std.specs.Prelude.{◌≡◌, ℕ, ◌+◌, ◌-◌, ◌≤◌, ◌<◌, false, nat_lt, ◌==◌, List, [], ◌∷◌, ◌++◌, replicate, if◌then◌else◌, MatchBool}
+use Rattle.std.specs.Prelude.{◌≡◌, ℕ, ◌+◌, ◌-◌, ◌≤◌, ◌<◌, false, nat_lt, ◌==◌, List, [], ◌∷◌, ◌++◌}
+use Rattle.std.specs.Prelude.{replicate, if◌then◌else◌, MatchBool}
 use Rattle.text_model.specs.Properties.{PropSet, same_set}
 
 abbrev pub Run : Type 0
@@ -23,7 +24,8 @@ grown at n (r ∷ runs) = if nat_lt at r.1 then (r.0, r.1 + n) ∷ runs else r �
 -- the next n characters at a place lie in one run, which has more
 abbrev pub IsPartOfRun : (at n : ℕ) → List Run → Type 0
 IsPartOfRun at n [] = ⊥
-IsPartOfRun at n (r ∷ runs) = MatchBool (nat_lt at r.1) ((at + n ≤ r.1) × (n < r.1)) (IsPartOfRun (at - r.1) n runs)
+IsPartOfRun at n (r ∷ runs) =
+    MatchBool (nat_lt at r.1) ((at + n ≤ r.1) × (n < r.1)) (IsPartOfRun (at - r.1) n runs)
 
 -- the run at a place made shorter
 abbrev pub shrunk : (at n : ℕ) → List Run → List Run
@@ -33,7 +35,8 @@ shrunk at n (r ∷ runs) = if nat_lt at r.1 then (r.0, r.1 - n) ∷ runs else r 
 -- the runs in front of a place, and those from it on; a run through the place is cut
 abbrev pub before : (at : ℕ) → List Run → List Run
 before at [] = []
-before at (r ∷ runs) = if nat_lt at r.1 then (if at == 0 then [] else (r.0, at) ∷ []) else r ∷ before (at - r.1) runs
+before at (r ∷ runs) =
+    if nat_lt at r.1 then (if at == 0 then [] else (r.0, at) ∷ []) else r ∷ before (at - r.1) runs
 
 abbrev pub behind : (at : ℕ) → List Run → List Run
 behind at [] = []

@@ -1,5 +1,6 @@
 -- The property sets of a text, and where they change.
-use Rattle.std.specs.Prelude.{ℕ, Bool, ◌+◌, not, List, [], ◌∷◌, map, flat_map, length, drop, Option, Some, None, unwrap_or}
+use Rattle.std.specs.Prelude.{ℕ, Bool, ◌+◌, not, List, [], ◌∷◌, map, flat_map, length, drop, Option}
+use Rattle.std.specs.Prelude.{Some, None, unwrap_or}
 use Rattle.text_model.specs.Properties.{PropSet, Cell, get, same_set, same_value, same_option}
 use Rattle.text_model.specs.PropertyQuestions.{first_where, changes}
 
@@ -16,7 +17,8 @@ other_from set place sets end = unwrap_or (first_where (λ s. not (same_set set 
 
 -- the first place behind another whose set differs from the set there, or the end
 abbrev pub run_end : (place : ℕ) → List PropSet → ℕ
-run_end place sets = elim (drop place sets) [ [] ↦ place | set ∷ more ↦ other_from set (place + 1) more (length sets) ]
+run_end place sets =
+    elim (drop place sets) [ [] ↦ place | set ∷ more ↦ other_from set (place + 1) more (length sets) ]
 
 -- where the sets change, or the values of one property, if one is named
 abbrev pub changes_of : Option ℕ → List PropSet → List ℕ

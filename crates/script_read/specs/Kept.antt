@@ -1,8 +1,10 @@
--- What every script keeps, so that no later layer asks again: each symbol has a name, each call as many arguments as it
--- takes, and the limits hold.
+-- What every script keeps, so that no later layer asks again: each symbol has a name, each call as many
+-- arguments as it takes, and the limits hold.
 use Rattle.std.specs.Prelude.{ℕ, ◌<◌, ◌≤◌, IsTrue, List, [], ◌∷◌, map, length}
 use Rattle.text_model.specs.Properties.{Cell, PropSet, PropVal, Symbol, Symbols}
-use Rattle.editor_model.specs.Values.{Value, Values, Sym, Str, Items, End, More, Arg, Const, Name, Call, Form, Forms, Do, Setq, In, WhenEq, NoForms, Then, HandlerDef, Script}
+use Rattle.editor_model.specs.Values.{Value, Values, Sym, Str, Items, End, More, Arg, Const, Name, Call}
+use Rattle.editor_model.specs.Values.{Form, Forms, Do, Setq, In, WhenEq, NoForms, Then, HandlerDef}
+use Rattle.editor_model.specs.Values.{Script}
 use Rattle.plain_machine.specs.Natives.{takes}
 use Rattle.plain_machine.specs.Grammar.{depth_all, size_all, all_differ}
 

@@ -1,11 +1,15 @@
--- What whole sessions come to: their text is the lines of their exchanges, and a child is started again only behind one that failed.
-use Rattle.std.specs.Prelude.{◌≡◌, ◌⊎◌, ℕ, zero, suc, pos, negsuc, ◌+◌, ◌<◌, ◌≤◌, Bool, true, false, ◌==◌, List, [], ◌∷◌, ◌++◌, map, filter, length, codes, unwrap_or, option_map}
+-- What whole sessions come to: their text is the lines of their exchanges, and a child is started again
+-- only behind one that failed.
+use Rattle.std.specs.Prelude.{◌≡◌, ◌⊎◌, ℕ, zero, suc, pos, negsuc, ◌+◌, ◌<◌, ◌≤◌, Bool, true, false}
+use Rattle.std.specs.Prelude.{◌==◌, List, [], ◌∷◌, ◌++◌, map, filter, length, codes, unwrap_or}
+use Rattle.std.specs.Prelude.{option_map}
 use Rattle.std.specs.List.{list_any, list_all}
 use Rattle.text_model.specs.Characters.{Ch}
 use Rattle.editor_model.specs.Values.{Value}
 use Rattle.editor_model.specs.Editor.{Editor, find, buffer_at}
 use Rattle.editor_model.specs.Limits.{longest_text}
-use Rattle.plain_machine.specs.Exchanges.{Ask, Spawn, AskEnd, Answer, Code, Signal, Failed, Exchange, children_started}
+use Rattle.plain_machine.specs.Exchanges.{Ask, Spawn, AskEnd, Answer, Code, Signal, Failed, Exchange}
+use Rattle.plain_machine.specs.Exchanges.{children_started}
 use Rattle.plain_machine.specs.State.{State, Process, Filter, Off, Program}
 use Rattle.plain_machine.specs.Symbols.{program_of}
 use Rattle.plain_machine.specs.Items.{Said, Config, Ended}
@@ -24,7 +28,8 @@ session_command words = ascii (codes "session") ∷ ascii (codes "*session*") �
 -- THE TEXT
 -- the characters of the live buffer `*session*`, and none where there is no such buffer
 abbrev pub characters_gathered : Editor → List Ch
-characters_gathered e = unwrap_or (option_map (λ id. map (λ c. c.0) (buffer_at e id).text) (find e session_name)) []
+characters_gathered e =
+    unwrap_or (option_map (λ id. map (λ c. c.0) (buffer_at e id).text) (find e session_name)) []
 
 -- a process whose filter is t
 abbrev pub is_off : Filter → Bool
@@ -43,8 +48,8 @@ pub record IsAllLines (exchanges : List Exchange) (text : List Ch) : Type 0 wher
   pub is : text ≡ session_lines exchanges
   pub fits : length (session_lines exchanges) ≤ longest_text
 
--- A text is the lines before one exchange: what came by that one, the characters of a read or the line feed of an end, found no room.
--- Nothing is heard behind it: the child is killed at the most.
+-- A text is the lines before one exchange: what came by that one, the characters of a read or the line feed
+-- of an end, found no room. Nothing is heard behind it: the child is killed at the most.
 pub record LacksLast (exchanges : List Exchange) (text : List Ch) : Type 0 where
   pub before : List Exchange
   pub refused : Exchange
@@ -67,15 +72,20 @@ SessionText exchanges last = TextBy (is_full last) exchanges (characters_gathere
 
 -- the run of the session's script with its two natives, and no others
 abbrev pub whole_program : (limit : ℕ) → (words : List Value) → Program
-whole_program limit words = program_of (session_script (session_command words)) session_names (session_does limit (session_command words))
+whole_program limit words = program_of (session_script (session_command words)) session_names
+    (session_does limit (session_command words))
 
-abbrev pub RunsTo : (limit : ℕ) → (words : List Value) → (bound : ℕ) → List Exchange → List Said → Config → Type 0
-RunsTo limit words bound exchanges said c = Reaches (whole_program limit words) bound (start (session_script (session_command words))) exchanges said c
+abbrev pub RunsTo : (limit : ℕ) → (words : List Value) → (bound : ℕ) → List Exchange → List Said →
+    Config → Type 0
+RunsTo limit words bound exchanges said c =
+    Reaches (whole_program limit words) bound (start (session_script (session_command words))) exchanges said c
 
 -- of each run that has ended
 abbrev pub SessionEnds : (limit : ℕ) → (words : List Value) → (bound : ℕ) → Type 0
 SessionEnds limit words bound =
-    (exchanges : List Exchange) (said : List Said) (c : Config) → RunsTo limit words bound exchanges said c → step (whole_program limit words) bound c ≡ Ended → SessionText exchanges c.state
+    (exchanges : List Exchange) (said : List Said) (c : Config) →
+    RunsTo limit words bound exchanges said c → step (whole_program limit words) bound c ≡ Ended →
+    SessionText exchanges c.state
 
 -- THE STARTS
 abbrev pub is_spawn : Ask → Bool
@@ -107,9 +117,11 @@ pub record LastFailed (before : List Exchange) : Type 0 where
 -- at most so many starts and one, and each but the first behind a child that failed
 pub record StartsInTurn (limit : ℕ) (exchanges : List Exchange) : Type 0 where
   pub few : spawns exchanges ≤ limit + 1
-  pub behind : (before after : List Exchange) (x : Exchange) → exchanges ≡ before ++ x ∷ after → is_spawn x.ask ≡ true → (spawns before ≡ 0) ⊎ LastFailed before
+  pub behind : (before after : List Exchange) (x : Exchange) → exchanges ≡ before ++ x ∷ after →
+      is_spawn x.ask ≡ true → (spawns before ≡ 0) ⊎ LastFailed before
 
 -- of each run, wherever it stands
 abbrev pub SessionStarts : (limit : ℕ) → (words : List Value) → (bound : ℕ) → Type 0
 SessionStarts limit words bound =
-    (exchanges : List Exchange) (said : List Said) (c : Config) → RunsTo limit words bound exchanges said c → StartsInTurn limit exchanges
+    (exchanges : List Exchange) (said : List Said) (c : Config) →
+    RunsTo limit words bound exchanges said c → StartsInTurn limit exchanges

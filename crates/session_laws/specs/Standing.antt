@@ -13,7 +13,13 @@ use Rattle.line_session.specs.Script.{session_symbols, filter_name, sentinel_nam
 
 -- what the run of a session has: its two natives, and no handlers of its script
 abbrev pub session_program : (limit : ℕ) → (command : List Value) → Program
-session_program limit command = record { symbols = session_symbols; handlers = []; natives = filter_name ∷ sentinel_name ∷ []; does = session_does limit command }
+session_program limit command =
+    record {
+      symbols = session_symbols;
+      handlers = [];
+      natives = filter_name ∷ sentinel_name ∷ [];
+      does = session_does limit command;
+    }
 
 -- what differs: the text gathered and what stands beside it, the processes, and how much was asked
 pub record Parts : Type 0 where
@@ -31,12 +37,20 @@ session_name = map Scalar (codes "*session*")
 
 -- the buffer is shown whole, and no character has a property
 abbrev pub gathering : Parts → Buffer
-gathering parts = record { text = bare parts.text; begin = 0; end = length parts.text; point = parts.point; modified = parts.modified; undo = parts.undo }
+gathering parts = record {
+  text = bare parts.text;
+  begin = 0;
+  end = length parts.text;
+  point = parts.point;
+  modified = parts.modified;
+  undo = parts.undo;
+}
 
 -- beside the buffer `*scratch*`, which stays empty
 abbrev pub editor_with : (current : ℕ) → Parts → Editor
 editor_with current parts = record {
-  buffers = Some (new_live scratch) ∷ Some (record { name = session_name; buffer = gathering parts; read_only = false }) ∷ [];
+  buffers = Some (new_live scratch) ∷
+      Some (record { name = session_name; buffer = gathering parts; read_only = false }) ∷ [];
   current = current;
   marks = record { markers = parts.markers; overlays = []; saved = [] };
   registers = parts.registers;

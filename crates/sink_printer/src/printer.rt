@@ -15,8 +15,8 @@ const GATHERED: usize = 512;
 #[derive(Drop)]
 pub struct Printer<'a, K> {
     sink: &'a mut K,
-    failed: bool,
     gathered: ArrayVec<u8, GATHERED>,
+    failed: bool,
 }
 
 /// Writes some bytes unless a write failed, and says whether one has failed now.
@@ -37,8 +37,8 @@ impl<'a, K: Sink> Printer<'a, K> {
     {
         Printer {
             sink,
-            failed: false,
             gathered: ArrayVec::new(),
+            failed: false,
         }
     }
 
@@ -62,6 +62,7 @@ impl<'a, K: Sink> Printer<'a, K> {
     }
 
     /// Writes some bytes.
+    #[inline(always)]
     pub fn put(&mut self, bytes: &[u8])
         ensures { Prints K.state self.old self.new bytes.now }
     {
@@ -86,8 +87,8 @@ impl<'a, K: Sink> Printer<'a, K> {
     {
         let Printer {
             sink,
+            ref gathered,
             failed,
-            gathered,
         } = self;
         if write(failed, sink, gathered.as_slice()) {
             Err(SinkFault)

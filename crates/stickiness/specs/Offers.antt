@@ -1,7 +1,8 @@
 -- What a neighbour of an insertion offers, by the side where it stands.
 use Rattle.std.specs.Prelude.{ℕ, Bool, ◌&&◌, not, filter, Option}
 use Rattle.text_model.specs.Properties.{PropSet, get}
-use Rattle.text_model.specs.Sticky.{names, is_stickiness, front_sticky, rear_nonsticky, offered_by_before, offered_by_after}
+use Rattle.text_model.specs.Sticky.{names, is_stickiness, front_sticky, rear_nonsticky}
+use Rattle.text_model.specs.Sticky.{offered_by_before, offered_by_after}
 use Rattle.stickiness.specs.declared.side.Side.{Side}
 use Rattle.stickiness.specs.declared.side.Side.TheVariants.{Before, After}
 

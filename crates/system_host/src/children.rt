@@ -9,7 +9,8 @@
 ghost use Rattle.std.specs.Prelude.{◌≡◌, ◌<◌, ◌-◌, ◌^◌, ℕ, List, [], map, length, None, Some, false, true};
 ghost use Rattle.std.specs.Prelude.{slice_get, slice_set, string_bytes, IsSome, IsTrue, IfSome, IfOk, OnOk, OnErr};
 ghost use Rattle.std.specs.Io.KnownBytes.{Keeps};
-ghost use Rattle.std.specs.Process.{child_status, command_program, command_args, command_var, command_dir, clears_env};
+ghost use Rattle.std.specs.Process.{child_status, command_program, command_args, command_var};
+ghost use Rattle.std.specs.Process.{command_dir, clears_env};
 ghost use Rattle.plain_machine.specs.Exchanges.{Spawn, Read, AskEnd, Send, Close, Kill, Closed};
 ghost use Rattle.host_link.specs.Hosts.{Asked, Exchanged, Fits, IsNumbered, after_spawn, is_fault};
 ghost use Rattle.host_link.specs.Hosts.{spawned_answer, got_answer, ended_answer, send_answer, kill_answer};

@@ -1,5 +1,5 @@
-//! Tests alone, of children and streams of the system, and of runs with them as the program makes these. All values were worked
-//! out by hand.
+//! Tests alone, of children and streams of the system, and of runs with them as the program makes these. All values
+//! were worked out by hand.
 #![tactic(auto)]
 
 #[cfg(test)]

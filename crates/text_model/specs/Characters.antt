@@ -1,5 +1,6 @@
 -- Characters: Unicode scalar values, and raw bytes that are part of none.
-use Rattle.std.specs.Prelude.{ℕ, ◌+◌, ◌-◌, ◌≤◌, Bool, ◌&&◌, ◌||◌, nat_le, nat_lt, List, [], ◌∷◌, encode_utf8, if◌then◌else◌, Option, Some, None}
+use Rattle.std.specs.Prelude.{ℕ, ◌+◌, ◌-◌, ◌≤◌, Bool, ◌&&◌, ◌||◌, nat_le, nat_lt, List, [], ◌∷◌}
+use Rattle.std.specs.Prelude.{encode_utf8, if◌then◌else◌, Option, Some, None}
 use Rattle.std.specs.Char.{IsScalar}
 
 -- a Unicode scalar value, or a byte from 80 to FF (hexadecimal) that is part of no character
@@ -26,7 +27,8 @@ is_raw_code n = nat_le 0x3FFF80 n && nat_le n 0x3FFFFF
 
 -- the character of a code, if there is one
 abbrev pub from_code : ℕ → Option Ch
-from_code n = if is_scalar_code n then Some (Scalar n) else (if is_raw_code n then Some (Raw (n - 0x3FFF00)) else None)
+from_code n =
+    if is_scalar_code n then Some (Scalar n) else (if is_raw_code n then Some (Raw (n - 0x3FFF00)) else None)
 
 -- BYTES
 -- UTF-8, or the one raw byte

@@ -1,5 +1,5 @@
--- How the output of a child is decoded: as UTF-8, as UTF-8 with the line ends of DOS, or each byte as one character. GNU
--- Emacs Lisp Reference Manual, section "Coding System Basics".
+-- How the output of a child is decoded: as UTF-8, as UTF-8 with the line ends of DOS, or each byte as one
+-- character. GNU Emacs Lisp Reference Manual, section "Coding System Basics".
 use Rattle.std.specs.Prelude.{ℕ, Bool, true, false, ◌&&◌, ◌==◌, List, [], ◌∷◌, map}
 use Rattle.text_model.specs.Characters.{Ch, Scalar, Raw}
 use Rattle.text_model.specs.Decoding.{characters, tail, all_characters}
@@ -26,7 +26,8 @@ begins_with_feed (c ∷ text) = is_feed c
 -- one line feed for each carriage return directly followed by a line feed
 abbrev pub with_feeds : List Ch → List Ch
 with_feeds [] = []
-with_feeds (c ∷ text) = elim (is_return c && begins_with_feed text) [ true ↦ with_feeds text | false ↦ c ∷ with_feeds text ]
+with_feeds (c ∷ text) =
+    elim (is_return c && begins_with_feed text) [ true ↦ with_feeds text | false ↦ c ∷ with_feeds text ]
 
 -- the last of the bytes is a carriage return
 abbrev pub ends_in_return : List ℕ → Bool

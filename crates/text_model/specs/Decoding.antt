@@ -41,12 +41,14 @@ longer b Neither = Neither
 abbrev pub against : List Range → List ℕ → Front
 against [] bytes = Whole []
 against (r ∷ row) [] = Part
-against (r ∷ row) (b ∷ bytes) = elim (within r b) [ Bool.true ↦ longer b (against row bytes) | Bool.false ↦ Neither ]
+against (r ∷ row) (b ∷ bytes) =
+    elim (within r b) [ Bool.true ↦ longer b (against row bytes) | Bool.false ↦ Neither ]
 
 -- the bytes against all rows: no two rows share a first byte
 abbrev pub against_any : List (List Range) → List ℕ → Front
 against_any [] bytes = Neither
-against_any (row ∷ rows) bytes = elim (against row bytes) [ Whole s ↦ Whole s | Part ↦ Part | Neither ↦ against_any rows bytes ]
+against_any (row ∷ rows) bytes =
+    elim (against row bytes) [ Whole s ↦ Whole s | Part ↦ Part | Neither ↦ against_any rows bytes ]
 
 abbrev pub front : List ℕ → Front
 front bytes = against_any well_formed bytes

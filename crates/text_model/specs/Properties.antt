@@ -1,5 +1,6 @@
 -- Texts with properties: each character has a set of properties, names with values.
-use Rattle.std.specs.Prelude.{ℕ, ◌+◌, ℤ, Bool, true, false, ◌&&◌, not, nat_lt, ◌==◌, List, [], ◌∷◌, ◌++◌, map, filter, take, drop, if◌then◌else◌, Option, Some, None}
+use Rattle.std.specs.Prelude.{ℕ, ◌+◌, ℤ, Bool, true, false, ◌&&◌, not, nat_lt, ◌==◌, List, [], ◌∷◌}
+use Rattle.std.specs.Prelude.{◌++◌, map, filter, take, drop, if◌then◌else◌, Option, Some, None}
 use Rattle.std.specs.Ordering.{int_eq}
 use Rattle.text_model.specs.Characters.{Ch, Scalar, Raw}
 
@@ -49,7 +50,8 @@ without set name = filter (λ p. not (p.0 == name)) set
 
 abbrev pub with_value : PropSet → ℕ → PropVal → PropSet
 with_value [] name v = (name, v) ∷ []
-with_value (p ∷ set) name v = if nat_lt p.0 name then p ∷ with_value set name v else ((name, v) ∷ without (p ∷ set) name)
+with_value (p ∷ set) name v =
+    if nat_lt p.0 name then p ∷ with_value set name v else ((name, v) ∷ without (p ∷ set) name)
 
 -- the property given anew, or taken away
 abbrev pub put : PropSet → ℕ → Option PropVal → PropSet
@@ -114,7 +116,8 @@ stretches same at (v ∷ values) = stretch_more same v at (stretches same (at + 
 -- the names that some character of a list has, by rising number
 abbrev pub insert_name : ℕ → List ℕ → List ℕ
 insert_name n [] = n ∷ []
-insert_name n (m ∷ names) = if nat_lt n m then n ∷ m ∷ names else (if n == m then m ∷ names else m ∷ insert_name n names)
+insert_name n (m ∷ names) =
+    if nat_lt n m then n ∷ m ∷ names else (if n == m then m ∷ names else m ∷ insert_name n names)
 
 abbrev pub names_of : PropSet → List ℕ → List ℕ
 names_of [] names = names

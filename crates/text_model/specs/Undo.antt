@@ -1,5 +1,6 @@
 -- The undo records of a buffer, and what undoing them does to its text.
-use Rattle.std.specs.Prelude.{ℕ, zero, suc, ◌+◌, ◌-◌, ℤ, Bool, true, false, ◌&&◌, not, nat_lt, nat_le, ◌==◌, List, [], ◌∷◌, filter, length, if◌then◌else◌, Option, Some, None}
+use Rattle.std.specs.Prelude.{ℕ, zero, suc, ◌+◌, ◌-◌, ℤ, Bool, true, false, ◌&&◌, not, nat_lt, nat_le}
+use Rattle.std.specs.Prelude.{◌==◌, List, [], ◌∷◌, filter, length, if◌then◌else◌, Option, Some, None}
 use Rattle.text_model.specs.Properties.{PropVal, Cell, splice, with_sets, put}
 
 pub data Rec : Type 0 where
@@ -61,7 +62,8 @@ rewind (e ∷ entries) text = rewind entries (undo_in_text e.what text)
 abbrev pub groups : ℕ → List Entry → List Entry
 groups n [] = []
 groups zero (e ∷ entries) = []
-groups (suc n) (e ∷ entries) = elim (is_boundary e.what) [ true ↦ e ∷ groups n entries | false ↦ e ∷ groups (suc n) entries ]
+groups (suc n) (e ∷ entries) =
+    elim (is_boundary e.what) [ true ↦ e ∷ groups n entries | false ↦ e ∷ groups (suc n) entries ]
 
 -- whether the places of a record lie in min to max, and what max is once it is undone
 abbrev pub lies_inside : (min max : ℕ) → Rec → Bool
@@ -106,7 +108,8 @@ fits entries = nat_le (length entries) 65536 && nat_le (kept_characters entries)
 -- groups go while the list doesn't fit, at most as many as it has records
 abbrev pub cut : (turns : ℕ) → List Entry → List Entry
 cut zero entries = entries
-cut (suc turns) entries = elim (fits entries) [ true ↦ entries | false ↦ cut turns (without_oldest_group entries) ]
+cut (suc turns) entries =
+    elim (fits entries) [ true ↦ entries | false ↦ cut turns (without_oldest_group entries) ]
 
 -- a record put in front: an insertion that goes on where the newest one ended extends that one
 abbrev pub in_front : Rec → ℕ → List Entry → List Entry

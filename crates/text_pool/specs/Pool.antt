@@ -1,5 +1,6 @@
 -- A pool of blocks: under the number of each live block its 256 cells.
-use Rattle.std.specs.Prelude.{◌≡◌, ◌≢◌, ℕ, List, [], Option, None, length, slice_index_or, count_by, is_some, IsSomeAnd, unwrap_or}
+use Rattle.std.specs.Prelude.{◌≡◌, ◌≢◌, ℕ, List, [], Option, None, length, slice_index_or, count_by}
+use Rattle.std.specs.Prelude.{is_some, IsSomeAnd, unwrap_or}
 
 -- the cells under each number, and how many more blocks can be taken
 pub record Pooled : Type 0 where

@@ -73,8 +73,8 @@ impl Pool {
         }
     }
 
-    /// Lends a block that nobody else has, and lowers the spare by one; `None` exactly where the spare is 0, and then nothing
-    /// changes. What its cells hold is left open.
+    /// Lends a block that nobody else has, and lowers the spare by one; `None` exactly where the spare is 0, and then
+    /// nothing changes. What its cells hold is left open.
     pub fn take(&mut self) -> Option<Block>
         ensures none { IsNone result ↔ (self.old.spare ≡ 0) }
         ensures unchanged { IfNone result (self.new ≡ self.old) }
@@ -154,15 +154,17 @@ impl Pool {
         cells[at..at + values.len()].copy_from_slice(values);
     }
 
-    /// Copies `count` cells of one block, from cell `at` on, to the cells from `to` on of another one, or of the same one,
-    /// where the two parts may overlap. Both blocks are live in this pool, and cells are counted from 0. No other cell changes.
+    /// Copies `count` cells of one block, from cell `at` on, to the cells from `to` on of another one, or of the same
+    /// one, where the two parts may overlap. Both blocks are live in this pool, and cells are counted from 0. No
+    /// other cell changes.
     pub fn copy_cells(&mut self, source: &Block, at: usize, target: &Block, to: usize, count: usize)
         requires source_live { IsLive self.old source.now }
         requires target_live { IsLive self.old target.now }
         requires source_range { at + count ≤ 256 }
         requires target_range { to + count ≤ 256 }
         ensures cells { let old = cells self.old target.now in
-            cells self.new target.now ≡ take to old ++ take count (drop at (cells self.old source.now)) ++ drop (to + count) old }
+            cells self.new target.now ≡ take to old ++
+            take count (drop at (cells self.old source.now)) ++ drop (to + count) old }
         ensures source_is_live { IsLive self.new source.now }
         ensures target_is_live { IsLive self.new target.now }
         ensures others { SameOthers self.old self.new target.now }

@@ -1,5 +1,6 @@
 -- Claimed bytes compared with those of a run.
-use Rattle.std.specs.Prelude.{◌≡◌, ℕ, ◌+◌, ◌-◌, ◌<◌, ◌==◌, nat_lt, ◌^◌, Bool, true, false, List, [], ◌∷◌, ◌++◌, length, map, Some}
+use Rattle.std.specs.Prelude.{◌≡◌, ℕ, ◌+◌, ◌-◌, ◌<◌, ◌==◌, nat_lt, ◌^◌, Bool, true, false, List, []}
+use Rattle.std.specs.Prelude.{◌∷◌, ◌++◌, length, map, Some}
 use Rattle.plain_machine.specs.Grammar.{line_feeds}
 use Rattle.ek_types.specs.Io.{SinkState}
 
@@ -20,9 +21,11 @@ pub record Compared : Type 0 where
 abbrev pub firsts : {A B : Type 0} → List (A × B) → List A
 firsts pairs = map (λ p. p.0) pairs
 
--- such a sink holds the claimed bytes, their number in front of them, and what it was given; it has no faults, and its room doesn't shrink
+-- such a sink holds the claimed bytes, their number in front of them, and what it was given; it has no
+-- faults, and its room doesn't shrink
 abbrev pub comparing_state : Compared → SinkState
-comparing_state c = record { held = Some (length c.claimed ∷ (c.claimed ++ c.given)); faults = 0; room = 2 ^ 64 }
+comparing_state c =
+    record { held = Some (length c.claimed ∷ (c.claimed ++ c.given)); faults = 0; room = 2 ^ 64 }
 
 -- how far they agree: so many bytes, with so many line feeds, and whether the sink was given more than that
 pub record Agrees (c : Compared) (at feeds : ℕ) (differs : Bool) : Type 0 where

@@ -29,13 +29,18 @@ item_of (item.Leave kept) = plain.Leave (kept_as kept)
 item_of (item.GiveAnswer value to) = plain.GiveAnswer (view value) (target_of to)
 item_of (item.Refuse fault) = plain.Refuse (fault_of fault)
 item_of (item.MakeChange change) = plain.MakeChange (change_of change)
-item_of (item.Hooks kind names at args) = plain.Hooks (kind_of kind) (drop at (map number_of (items_of names))) (map view (items_of args))
+item_of (item.Hooks kind names at args) =
+    plain.Hooks (kind_of kind) (drop at (map number_of (items_of names))) (map view (items_of args))
 item_of (item.Calm old) = plain.Calm old
 item_of (item.CommitChange change) = plain.CommitChange (change_of change)
-item_of (item.Enter kind handler args) = plain.Enter (kind_of kind) (option_map number_of handler) (map view (items_of args))
-item_of (item.Native native args past) = plain.Native native (map view (items_of args)) (map reply_of (items_of past))
-item_of (item.Called native args past) = plain.Called native (map view (items_of args)) (map reply_of (items_of past))
-item_of (item.Exit kind handler current faulted) = plain.Exit (kind_of kind) (option_map number_of handler) current faulted
+item_of (item.Enter kind handler args) =
+    plain.Enter (kind_of kind) (option_map number_of handler) (map view (items_of args))
+item_of (item.Native native args past) =
+    plain.Native native (map view (items_of args)) (map reply_of (items_of past))
+item_of (item.Called native args past) =
+    plain.Called native (map view (items_of args)) (map reply_of (items_of past))
+item_of (item.Exit kind handler current faulted) =
+    plain.Exit (kind_of kind) (option_map number_of handler) current faulted
 item_of (item.Wait wait to) = plain.Wait wait (target_of to)
 item_of (item.Delete p) = plain.Delete p
 item_of (item.KillBuffer buffer to) = plain.KillBuffer buffer (target_of to)

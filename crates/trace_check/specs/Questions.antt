@@ -9,7 +9,8 @@ use Rattle.trace_check.specs.declared.asks.Met.{Met}
 use Rattle.trace_check.specs.declared.asks.Met.TheVariants as met
 
 abbrev pub asked : Question → Ask
-asked (question.Spawn command) = Spawn (string_bytes command.now.program) (map string_bytes command.now.words.items)
+asked (question.Spawn command) =
+    Spawn (string_bytes command.now.program) (map string_bytes command.now.words.items)
 asked (question.Read child) = Read child
 asked (question.End child) = AskEnd child
 asked (question.Send child bytes) = Send child bytes.now
@@ -25,4 +26,5 @@ asked_about true child = AskEnd child
 abbrev pub Meets : Ask → (next : Option Exchange) → Met → Type 0
 Meets ask next met.Nothing = next ≡ None
 Meets ask next met.Another = (x : Exchange) × (next ≡ Some x) × (same_ask ask x.ask ≡ false)
-Meets ask next (met.Answer answer) = (x : Exchange) × (next ≡ Some x) × (same_ask ask x.ask ≡ true) × (x.answer ≡ answer_of answer.now)
+Meets ask next (met.Answer answer) =
+    (x : Exchange) × (next ≡ Some x) × (same_ask ask x.ask ≡ true) × (x.answer ≡ answer_of answer.now)

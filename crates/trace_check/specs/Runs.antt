@@ -19,7 +19,8 @@ pub record GoesThrough (program : Program) (script : Script) (exchanges : List E
   pub last : Config
   pub run : Reaches program deepest (start script) exchanges said last
 
--- the run on a journal hasn't ended with all of it used up, and the machine goes through so many of its exchanges at most
+-- the run on a journal hasn't ended with all of it used up, and the machine goes through so many of its
+-- exchanges at most
 pub record Strays (program : Program) (script : Script) (journal : List Exchange) (most : ℕ) : Type 0 where
   pub unended : IsWhole program script journal → ⊥
   pub within : most ≤ length journal

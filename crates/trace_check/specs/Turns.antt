@@ -14,7 +14,8 @@ use Rattle.trace_check.specs.declared.turn.Done.{Done}
 use Rattle.trace_check.specs.declared.turn.Done.TheVariants as done
 use Rattle.ek_types.specs.declared.memory.NoMemory.{NoMemory}
 
--- a machine as it is seen: what the kernel keeps of its state, the work that is left, and how many exchanges are used
+-- a machine as it is seen: what the kernel keeps of its state, the work that is left, and how many
+-- exchanges are used
 pub record Seen : Type 0 where
   pub state : State
   pub work : List Item
@@ -29,14 +30,21 @@ Uses journal old new [] = new ≡ old
 Uses journal old new (x ∷ []) = (slice_get journal old ≡ Some x) × (new ≡ old + 1)
 Uses journal old new _ = ⊥
 
--- One step was made; or the run had ended; or its next step asks and the journal is used up; or the next exchange isn't the one
--- that this step makes. The last three change nothing. Behind a fault the item is lost, its line may stand there in part, and nothing
--- more is said of the machine.
-abbrev pub Turns : Result Turn StepFault → Program → (journal : List Exchange) → (old new : Seen) → (sink sink2 : SinkState) → Type 0
-Turns (Ok turn.Went) program journal old new sink sink2 = (made : List Exchange) × Uses journal old.used new.used made × Steps program old.state new.state old.work new.work made sink sink2
+-- One step was made; or the run had ended; or its next step asks and the journal is used up; or the next
+-- exchange isn't the one that this step makes. The last three change nothing. Behind a fault the item is
+-- lost, its line may stand there in part, and nothing more is said of the machine.
+abbrev pub Turns : Result Turn StepFault → Program → (journal : List Exchange) → (old new : Seen) →
+    (sink sink2 : SinkState) → Type 0
+Turns (Ok turn.Went) program journal old new sink sink2 =
+    (made : List Exchange) × Uses journal old.used new.used made ×
+    Steps program old.state new.state old.work new.work made sink sink2
 Turns (Ok turn.Ended) program journal old new sink sink2 = (old.work ≡ []) × (new ≡ old) × (sink2 ≡ sink)
-Turns (Ok turn.Waits) program journal old new sink sink2 = (length journal ≤ old.used) × (new ≡ old) × (sink2 ≡ sink) × ((s : State) → Stands old.state s → IsAsking program s old.work)
-Turns (Ok turn.Off) program journal old new sink sink2 = (x : Exchange) × (slice_get journal old.used ≡ Some x) × (new ≡ old) × (sink2 ≡ sink) × ((s : State) → Stands old.state s → IsOff program s old.work x)
+Turns (Ok turn.Waits) program journal old new sink sink2 =
+    (length journal ≤ old.used) × (new ≡ old) × (sink2 ≡ sink) ×
+    ((s : State) → Stands old.state s → IsAsking program s old.work)
+Turns (Ok turn.Off) program journal old new sink sink2 =
+    (x : Exchange) × (slice_get journal old.used ≡ Some x) × (new ≡ old) × (sink2 ≡ sink) ×
+    ((s : State) → Stands old.state s → IsOff program s old.work x)
 Turns (Err fault) program journal old new sink sink2 = Unit {0}
 
 -- WHAT AN ITEM COMES TO, by the function that does it

@@ -16,12 +16,14 @@ use Rattle.trace_check.specs.declared.checking.Verdict.TheVariants as verdict
 
 -- VERDICTS
 -- the run has ended with the journal used up, and these are its lines and its dump
-pub record IsClaimed (program : Program) (script : Script) (journal : List Exchange) (claimed : List ℕ) : Type 0 where
+pub record IsClaimed (program : Program) (script : Script) (journal : List Exchange)
+    (claimed : List ℕ) : Type 0 where
   pub whole : IsWhole program script journal
   pub same : claimed ≡ whole.lines
 
 -- it has, and they are others, first in this line
-pub record DiffersIn (program : Program) (script : Script) (journal : List Exchange) (claimed : List ℕ) (line : ℕ) : Type 0 where
+pub record DiffersIn (program : Program) (script : Script) (journal : List Exchange) (claimed : List ℕ)
+    (line : ℕ) : Type 0 where
   pub whole : IsWhole program script journal
   pub first : DiffersAt line claimed whole.lines
 
@@ -31,8 +33,10 @@ IsVerdict program script journal claimed (verdict.Strayed most) = Strays program
 IsVerdict program script journal claimed (verdict.Differs line) = DiffersIn program script journal claimed line
 
 -- ON THE WAY
--- the run has come so far on a journal: the exchanges that are used are those at its front, and these bytes were written
-pub record HasCome (program : Program) (from : Config) (journal : List Exchange) (now : Seen) (written : List ℕ) : Type 0 where
+-- the run has come so far on a journal: the exchanges that are used are those at its front, and these bytes
+-- were written
+pub record HasCome (program : Program) (from : Config) (journal : List Exchange) (now : Seen)
+    (written : List ℕ) : Type 0 where
   pub state : State
   pub stands : Stands now.state state
   pub said : List Said

@@ -15,7 +15,8 @@ ahead_case false true [] (p ∷ more) zero = ahead.Done false
 ahead_case false true [] (p ∷ more) (suc rounds) = ahead.Round
 
 abbrev pub ahead_of : State → Waiting → Ahead
-ahead_of s w = ahead_case w.counted (target_is_eligible s w) (from_eligible s w w.asking) (eligible s w) w.rounds
+ahead_of s w =
+    ahead_case w.counted (target_is_eligible s w) (from_eligible s w w.asking) (eligible s w) w.rounds
 
 -- the first one left in this round is taken
 abbrev pub without_first : State → Waiting → Waiting

@@ -27,14 +27,15 @@ use std::alloc::Global;
 pub enum Verdict {
     /// The claimed lines are those of the run.
     Yes,
-    /// The run doesn't end with the whole journal used. The number is how many of its first exchanges the run goes through.
+    /// The run doesn't end with the whole journal used. The number is how many of its first exchanges the run goes
+    /// through.
     Strayed(u32),
     /// The claimed lines differ from those of the run, first in this line, from 1.
     Differs(u32),
 }
 
-/// Runs a script on a journal, one step of the machine after another, and compares the lines and the dump with those claimed,
-/// as they come. A run of 2^64 steps counts as want of memory.
+/// Runs a script on a journal, one step of the machine after another, and compares the lines and the dump with those
+/// claimed, as they come. A run of 2^64 steps counts as want of memory.
 pub fn check<N: Natives>(
     alloc: Global,
     script: &Script,

@@ -46,8 +46,8 @@ impl<'a> ComparingSink<'a> {
         }
     }
 
-    /// How far all agrees with this byte behind the others: how many bytes, how many line feeds among them, and whether there are
-    /// more.
+    /// How far all agrees with this byte behind the others: how many bytes, how many line feeds among them, and
+    /// whether there are more.
     fn after(&self, byte: u8) -> (usize, u32, bool)
         ensures { Agrees (record self.now { given = self.now.given ++ byte ∷ [] }) result.0 result.1 result.2 }
     {

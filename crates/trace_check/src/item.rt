@@ -13,8 +13,8 @@ pub enum Target {
     Native,
 }
 
-/// A piece of work that is left to do. Lists of forms and of hook functions are kept whole, with the place of the first one
-/// that is left.
+/// A piece of work that is left to do. Lists of forms and of hook functions are kept whole, with the place of the
+/// first one that is left.
 #[derive(Drop)]
 pub enum Item {
     Top(Forms, usize),

@@ -28,8 +28,8 @@ use ek_types::{Mem, Sink};
 use host_link::{Exchange, Exchanges};
 use kernel_steps::{Kernel, Manner, Program, Stepped};
 
-/// A run of the plain machine that is made one step at a time: what it keeps, what is left to do, and how many exchanges of
-/// the journal are used.
+/// A run of the plain machine that is made one step at a time: what it keeps, what is left to do, and how many
+/// exchanges of the journal are used.
 pub struct Machine<M> {
     kernel: M,
     work: Work,
@@ -247,8 +247,8 @@ impl<M: Stepped> Machine<M> {
         kernel
     }
 
-    /// Makes one step of the machine and writes its line, if it has one. `Ended`, `Waits` and `Off` change nothing. Behind an
-    /// error the item is lost and its line may stand there in part: only `into_kernel` is called then.
+    /// Makes one step of the machine and writes its line, if it has one. `Ended`, `Waits` and `Off` change nothing.
+    /// Behind an error the item is lost and its line may stand there in part: only `into_kernel` is called then.
     pub fn step<P: Program, K: Sink>(
         &mut self,
         program: &P,

@@ -124,8 +124,8 @@ pub(crate) fn refuse<M: Stepped, P: Program, K: Sink>(
     Ok(())
 }
 
-/// Drops the items in front of the nearest top level, native or end of a handler. Blocks are restored, and the kept ends of a
-/// change are kept no longer.
+/// Drops the items in front of the nearest top level, native or end of a handler. Blocks are restored, and the kept
+/// ends of a change are kept no longer.
 fn drop_work<M: Stepped>(kernel: &mut M, work: &mut Work, fault: Fault) -> Mem<()>
     ensures { OnOk result (Drops (fault_of fault) (M.state kernel.old) (M.state kernel.new)
         (list_of work.old) (list_of work.new)) }

@@ -16,6 +16,8 @@ pub record AreNamesIn (s : State) (names : Names) : Type 0 where
   pub editor : editor_of names.editor.now ≡ s.editor
   pub processes : names.processes.now ≡ s.processes
 
--- the sink got the bytes of an event in whatever state of the machine has these names, or where it failed a front of them
+-- the sink got the bytes of an event in whatever state of the machine has these names, or where it failed a
+-- front of them
 abbrev pub Tells : Names → (old new : SinkState) → Result (Unit {0}) SinkFault → Event → Type 0
-Tells names old new result event = (s : State) → AreNamesIn s names → Writes old new result (line names.symbols.now s event)
+Tells names old new result event =
+    (s : State) → AreNamesIn s names → Writes old new result (line names.symbols.now s event)

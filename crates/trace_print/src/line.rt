@@ -1,5 +1,5 @@
-//! The lines of a run, and its dump. All calls are for every value, whatever it names: an object that isn't known is printed as the
-//! definitions say. A failure of the sink leaves a front of the bytes in it.
+//! The lines of a run, and its dump. All calls are for every value, whatever it names: an object that isn't known is
+//! printed as the definitions say. A failure of the sink leaves a front of the bytes in it.
 ghost use Rattle.std.specs.Prelude.{ℕ, map, option_map};
 ghost use Rattle.plain_machine.specs.Lines.{Replied, Entered, Left, KilledLast, Dumped};
 ghost use Rattle.plain_machine.specs.Lines.{fault_words, kind_word, handler_word, shown};

@@ -8,13 +8,14 @@ pub record Held : Type 0 where
   pub entries : List Entry
   pub spare : ℕ
 
--- the undo state of a buffer, and how many more records it takes with no memory taken and no serial number wanting
+-- the undo state of a buffer, and how many more records it takes with no memory taken and no serial number
+-- wanting
 pub record Recording : Type 0 where
   pub state : Undo
   pub spare : ℕ
 
--- what holds of the records of every buffer: the serial numbers fall, so that none stands twice, the limits are kept,
--- and where recording is off there are none
+-- what holds of the records of every buffer: the serial numbers fall, so that none stands twice, the limits
+-- are kept, and where recording is off there are none
 pub record IsKept (u : Undo) : Type 0 where
   pub falling : AreFalling u.next u.entries
   pub fits : fits u.entries ≡ true

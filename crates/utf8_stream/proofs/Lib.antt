@@ -1,3 +1,4 @@
+pub mod Blocks
 pub mod Cuttings
 pub mod Fronts
 pub mod Lines

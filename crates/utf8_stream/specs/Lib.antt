@@ -2,3 +2,4 @@ pub mod Codings
 pub mod Pieces
 pub mod Sequence
 pub mod Returns
+pub mod Steps

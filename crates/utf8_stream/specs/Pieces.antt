@@ -6,7 +6,8 @@ use Rattle.text_model.specs.Codings.{Coding, decoded, undecoded}
 -- the characters that it gives for them, where these bytes were held before
 abbrev pub given_for : Coding → (held : List ℕ) → (pieces : List (List ℕ)) → List Ch
 given_for c held [] = []
-given_for c held (piece ∷ pieces) = decoded c (held ++ piece) ++ given_for c (undecoded c (held ++ piece)) pieces
+given_for c held (piece ∷ pieces) =
+    decoded c (held ++ piece) ++ given_for c (undecoded c (held ++ piece)) pieces
 
 -- what it holds after them
 abbrev pub held_after : Coding → (held : List ℕ) → (pieces : List (List ℕ)) → List ℕ

@@ -12,6 +12,7 @@ front_of variant.Neither bytes = Neither
 
 -- a whole sequence lies in the bytes and encodes the scalar value; where there is neither, the byte is no ASCII
 abbrev pub Encodes : declared.First → List ℕ → Type 0
-Encodes (variant.Whole c count) bytes = (scalar_of (take count bytes) ≡ c) × (0 < count) × (count ≤ length bytes)
+Encodes (variant.Whole c count) bytes =
+    (scalar_of (take count bytes) ≡ c) × (0 < count) × (count ≤ length bytes)
 Encodes variant.Part bytes = Unit {0}
 Encodes variant.Neither bytes = 0x80 ≤ slice_index bytes 0

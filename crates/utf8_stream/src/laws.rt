@@ -1,4 +1,5 @@
-//! Why decoding in pieces gives what decoding the whole gives: laws of the definitions, over all codings and lists of bytes.
+//! Why decoding in pieces gives what decoding the whole gives: laws of the definitions, over all codings and lists of
+//! bytes.
 ghost use Rattle.std.specs.Prelude.{◌≡◌, ℕ, List, [], ◌++◌};
 ghost use Rattle.std.specs.List.{concat};
 ghost use Rattle.text_model.specs.Codings.{Coding, decoded, undecoded, all_decoded};

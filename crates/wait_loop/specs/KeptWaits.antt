@@ -10,7 +10,8 @@ pub record KeptWait : Type 0 where
 
 -- a wait that begins
 abbrev pub new_waiting : (target : Option ℕ) (rounds : ℕ) (just : Bool) → Waiting
-new_waiting target rounds just = record { target = target; just = just; rounds = rounds; asking = []; counted = false }
+new_waiting target rounds just =
+    record { target = target; just = just; rounds = rounds; asking = []; counted = false }
 
 -- process p was read, and answered bytes or not
 abbrev pub noted : (p : ℕ) → (bytes : Bool) → Waiting → Waiting

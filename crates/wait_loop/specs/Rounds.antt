@@ -17,16 +17,20 @@ abbrev pub IfDone : Step → Type 0 → Type 0
 IfDone (Ask p) P = Unit {0}
 IfDone (Done answer) P = P
 
--- the wait answers nil: its target isn't eligible, or nobody is left in this round and none is eligible or no round is left
+-- the wait answers nil: its target isn't eligible, or nobody is left in this round and none is eligible or
+-- no round is left
 abbrev pub GivesNil : State → Waiting → Type 0
-GivesNil s w = (w.counted ≡ false) × ((target_is_eligible s w ≡ false) ⊎ ((from_eligible s w w.asking ≡ []) × ((eligible s w ≡ []) ⊎ (w.rounds ≡ 0))))
+GivesNil s w = (w.counted ≡ false) ×
+    ((target_is_eligible s w ≡ false) ⊎
+    ((from_eligible s w w.asking ≡ []) × ((eligible s w ≡ []) ⊎ (w.rounds ≡ 0))))
 
 -- p is the first eligible one of those left in this round, and is taken
 pub record Takes (s : State) (w : Waiting) (p : ℕ) (v : Waiting) : Type 0 where
   pub first : from_eligible s w w.asking ≡ p ∷ v.asking
   pub same : v ≡ record w { asking = v.asking }
 
--- nobody is left in this round; another one begins with the eligible processes, and the first of them, p, is taken
+-- nobody is left in this round; another one begins with the eligible processes, and the first of them, p,
+-- is taken
 pub record BeginsRound (s : State) (w : Waiting) (p : ℕ) (v : Waiting) : Type 0 where
   pub over : from_eligible s w w.asking ≡ []
   pub first : eligible s w ≡ p ∷ v.asking
@@ -47,7 +51,8 @@ abbrev pub GoesOn : State → (w v : Waiting) → Type 0
 GoesOn s w v = (target : Target) (rest : List Item) → wait s w target rest ≡ on s (Wait v target ∷ rest)
 
 abbrev pub AsksProcess : State → Waiting → (p : ℕ) → Waiting → Type 0
-AsksProcess s w p v = (target : Target) (rest : List Item) → wait s w target rest ≡ ask_process s v target rest p
+AsksProcess s w p v =
+    (target : Target) (rest : List Item) → wait s w target rest ≡ ask_process s v target rest p
 
 -- in one step, or in two where a round begins first
 abbrev pub Leads : State → Waiting → Step → Waiting → Type 0

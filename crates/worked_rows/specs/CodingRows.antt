@@ -1,10 +1,11 @@
 -- Worked rows on the codings of processes.
 use Rattle.std.specs.Prelude.{ℕ, List, [], ◌∷◌, ◌++◌, codes}
 use Rattle.editor_model.specs.Values.{Name, Prim}
-use Rattle.worked_rows.specs.Row.{Row, row, script, handler, call, set, nil, number, string, symbol, spawned, reads, reads_nothing, output_ends, exits, killed}
+use Rattle.worked_rows.specs.Row.{Row, row, script, handler, call, set, nil, number, string, symbol}
+use Rattle.worked_rows.specs.Row.{spawned, reads, reads_nothing, output_ends, exits, killed}
 
--- A carriage return at the end of a read is held back: a line feed that comes joins with it, and at the end of the output it
--- comes by itself. A coding stays once bytes were read.
+-- A carriage return at the end of a read is held back: a line feed that comes joins with it, and at the end
+-- of the output it comes by itself. A coding stays once bytes were read.
 --     (defhandler f (p s))
 --     (setq p (start-process "c" nil "cat"))(set-process-filter p 'f)(set-process-sentinel p 'f)
 --     (set-process-coding-system p 'utf-8-dos)(accept-process-output p)(accept-process-output p)
@@ -21,7 +22,8 @@ line_ends_cut_across_reads =
     call Prim.AcceptProcessOutput (Name p ∷ []) ∷
     call Prim.SetProcessCodingSystem (Name p ∷ symbol 16 ∷ []) ∷
     call Prim.AcceptProcessOutput (Name p ∷ []) ∷ []
-    )) (spawned (codes "cat") [] 0 ∷ reads 0 (0x61 ∷ 0x0D ∷ []) ∷ reads 0 (0x0A ∷ 0x62 ∷ 0x0D ∷ []) ∷ output_ends 0 ∷ exits 0 0 ∷ []) (
+    )) (spawned (codes "cat") [] 0 ∷ reads 0 (0x61 ∷ 0x0D ∷ []) ∷ reads 0 (0x0A ∷ 0x62 ∷ 0x0D ∷ []) ∷
+    output_ends 0 ∷ exits 0 0 ∷ []) (
     codes "= #<process c>" ∷
     codes "= f" ∷
     codes "= f" ∷
@@ -46,8 +48,8 @@ line_ends_cut_across_reads =
 
 -- In latin-1-unix each byte is the character of its number.
 --     (defhandler f (p s))
---     (setq p (start-process "c" nil "cat"))(set-process-coding-system p 'latin-1-unix)(set-process-filter p 'f)
---     (accept-process-output p)
+-- (setq p (start-process "c" nil "cat"))(set-process-coding-system p 'latin-1-unix)(set-process-filter p
+-- 'f) (accept-process-output p)
 abbrev pub bytes_as_characters : Row
 bytes_as_characters =
     let f : ℕ = 17 in let p : ℕ = 18 in let s : ℕ = 19 in
@@ -84,7 +86,8 @@ returns_doubled_and_before_malformed_bytes =
     call Prim.AcceptProcessOutput (Name p ∷ []) ∷
     call Prim.AcceptProcessOutput (Name p ∷ []) ∷
     call Prim.AcceptProcessOutput (Name p ∷ []) ∷ []
-    )) (spawned (codes "cat") [] 0 ∷ reads 0 (0x0D ∷ 0x0D ∷ 0x0A ∷ []) ∷ reads 0 (0x0D ∷ 0xFF ∷ 0x0D ∷ []) ∷ reads 0 (0xE2 ∷ 0x82 ∷ 0x0D ∷ 0x0A ∷ []) ∷ killed 0 ∷ []) (
+    )) (spawned (codes "cat") [] 0 ∷ reads 0 (0x0D ∷ 0x0D ∷ 0x0A ∷ []) ∷
+    reads 0 (0x0D ∷ 0xFF ∷ 0x0D ∷ []) ∷ reads 0 (0xE2 ∷ 0x82 ∷ 0x0D ∷ 0x0A ∷ []) ∷ killed 0 ∷ []) (
     codes "= #<process c>" ∷
     codes "= utf-8-dos" ∷
     codes "= f" ∷
@@ -112,7 +115,9 @@ returns_doubled_and_before_malformed_bytes =
 abbrev pub coding_asked_in_a_filter : Row
 coding_asked_in_a_filter =
     let f : ℕ = 17 in let p : ℕ = 18 in let s : ℕ = 19 in
-    row (script (codes "f" ∷ codes "p" ∷ codes "s" ∷ []) (handler f (p ∷ s ∷ []) (call Prim.ProcessCodingSystem (Name p ∷ []) ∷ call Prim.SetProcessCodingSystem (Name p ∷ symbol 16 ∷ []) ∷ []) ∷ []) (
+    row (script (codes "f" ∷ codes "p" ∷ codes "s" ∷ [])
+    (handler f (p ∷ s ∷ []) (call Prim.ProcessCodingSystem (Name p ∷ []) ∷
+    call Prim.SetProcessCodingSystem (Name p ∷ symbol 16 ∷ []) ∷ []) ∷ []) (
     set p Prim.StartProcess (string (codes "c") ∷ nil ∷ string (codes "cat") ∷ []) ∷
     call Prim.SetProcessFilter (Name p ∷ symbol f ∷ []) ∷
     call Prim.SetProcessSentinel (Name p ∷ symbol f ∷ []) ∷
@@ -120,7 +125,8 @@ coding_asked_in_a_filter =
     call Prim.SetProcessCodingSystem (Name p ∷ symbol 15 ∷ []) ∷
     call Prim.AcceptProcessOutput (Name p ∷ []) ∷
     call Prim.AcceptProcessOutput (Name p ∷ []) ∷ []
-    )) (spawned (codes "cat") [] 0 ∷ reads_nothing 0 ∷ reads 0 (0x61 ∷ 0x0D ∷ []) ∷ output_ends 0 ∷ exits 0 0 ∷ []) (
+    )) (spawned (codes "cat") [] 0 ∷ reads_nothing 0 ∷ reads 0 (0x61 ∷ 0x0D ∷ []) ∷ output_ends 0 ∷
+    exits 0 0 ∷ []) (
     codes "= #<process c>" ∷
     codes "= f" ∷
     codes "= f" ∷
@@ -150,12 +156,13 @@ coding_asked_in_a_filter =
 --     (defhandler g (p s) (set-process-coding-system p 'latin-1-unix))
 --     (setq p (start-process "c" nil "cat"))(set-process-sentinel p 'g)(accept-process-output p)
 --     (process-coding-system p)(process-send-string p "x")(set-process-coding-system p 'utf-8-dos)
---     (set-process-coding-system p q)(set-process-coding-system "c" 'utf-8-dos)(set-process-coding-system p 'run)
---     (set-process-coding-system p nil)
+-- (set-process-coding-system p q)(set-process-coding-system "c" 'utf-8-dos)(set-process-coding-system p
+-- 'run) (set-process-coding-system p nil)
 abbrev pub coding_of_a_process_that_was_never_read : Row
 coding_of_a_process_that_was_never_read =
     let g : ℕ = 17 in let p : ℕ = 18 in let s : ℕ = 19 in let q : ℕ = 20 in
-    row (script (codes "g" ∷ codes "p" ∷ codes "s" ∷ codes "q" ∷ []) (handler g (p ∷ s ∷ []) (call Prim.SetProcessCodingSystem (Name p ∷ symbol 16 ∷ []) ∷ []) ∷ []) (
+    row (script (codes "g" ∷ codes "p" ∷ codes "s" ∷ codes "q" ∷ [])
+    (handler g (p ∷ s ∷ []) (call Prim.SetProcessCodingSystem (Name p ∷ symbol 16 ∷ []) ∷ []) ∷ []) (
     set p Prim.StartProcess (string (codes "c") ∷ nil ∷ string (codes "cat") ∷ []) ∷
     call Prim.SetProcessSentinel (Name p ∷ symbol g ∷ []) ∷
     call Prim.AcceptProcessOutput (Name p ∷ []) ∷
@@ -186,8 +193,8 @@ coding_of_a_process_that_was_never_read =
     codes "process 0 #<process c> exit 0" ∷ []
     )
 
--- Once bytes were read a coding is refused behind wrong types and unknown names, also where it is the same and where the
--- process has ended.
+-- Once bytes were read a coding is refused behind wrong types and unknown names, also where it is the same
+-- and where the process has ended.
 --     (defhandler f (p s))
 --     (setq p (start-process "c" nil "cat"))(set-process-filter p 'f)(accept-process-output p)
 --     (set-process-coding-system p 'run)(set-process-coding-system "no" 'utf-8-dos)

@@ -1,7 +1,8 @@
 -- Worked rows: change hooks.
 use Rattle.std.specs.Prelude.{ℕ, [], ◌∷◌, codes}
 use Rattle.editor_model.specs.Values.{Name, In, InhibitHooks, Prim}
-use Rattle.worked_rows.specs.Row.{Row, row, script, forms, call, set, handler, number, string, symbol, before_change_functions, after_change_functions}
+use Rattle.worked_rows.specs.Row.{Row, row, script, forms, call, set, handler, number, string, symbol}
+use Rattle.worked_rows.specs.Row.{before_change_functions, after_change_functions}
 
 -- A hook function edits the buffer before the change; its ends move along.
 --     (defhandler h (b e) (delete-region 1 2))
@@ -9,7 +10,8 @@ use Rattle.worked_rows.specs.Row.{Row, row, script, forms, call, set, handler, n
 abbrev pub hook_edits_before_the_change : Row
 hook_edits_before_the_change =
     let h : ℕ = 17 in let b : ℕ = 18 in let e : ℕ = 19 in
-    row (script (codes "h" ∷ codes "b" ∷ codes "e" ∷ []) (handler h (b ∷ e ∷ []) (call Prim.DeleteRegion (number 1 ∷ number 2 ∷ []) ∷ []) ∷ []) (
+    row (script (codes "h" ∷ codes "b" ∷ codes "e" ∷ [])
+    (handler h (b ∷ e ∷ []) (call Prim.DeleteRegion (number 1 ∷ number 2 ∷ []) ∷ []) ∷ []) (
     call Prim.Insert (string (codes "abcd") ∷ []) ∷
     call Prim.AddHook (symbol before_change_functions ∷ symbol h ∷ []) ∷
     call Prim.DeleteRegion (number 3 ∷ number 4 ∷ []) ∷ []
@@ -31,7 +33,8 @@ hook_edits_before_the_change =
 abbrev pub hook_kills_the_buffer : Row
 hook_kills_the_buffer =
     let h : ℕ = 17 in let b : ℕ = 18 in let e : ℕ = 19 in let m : ℕ = 20 in
-    row (script (codes "h" ∷ codes "b" ∷ codes "e" ∷ codes "m" ∷ []) (handler h (b ∷ e ∷ []) (call Prim.KillBuffer [] ∷ []) ∷ []) (
+    row (script (codes "h" ∷ codes "b" ∷ codes "e" ∷ codes "m" ∷ [])
+    (handler h (b ∷ e ∷ []) (call Prim.KillBuffer [] ∷ []) ∷ []) (
     call Prim.GetBufferCreate (string (codes "w") ∷ []) ∷
     call Prim.SetBuffer (string (codes "w") ∷ []) ∷
     call Prim.Insert (string (codes "ab") ∷ []) ∷
@@ -60,7 +63,8 @@ hook_kills_the_buffer =
 
 -- What a function behind a change is given; a change that is refused or changes nothing enters none.
 --     (defhandler g (b e n))
---     (insert "abcdef")(add-hook 'after-change-functions 'g)(delete-region 3 2)(narrow-to-region 1 3)(delete-region 2 4)(delete-region 2 2)
+-- (insert "abcdef")(add-hook 'after-change-functions 'g)(delete-region 3 2)(narrow-to-region 1
+-- 3)(delete-region 2 4)(delete-region 2 2)
 abbrev pub after_change_arguments : Row
 after_change_arguments =
     let g : ℕ = 17 in let b : ℕ = 18 in let e : ℕ = 19 in let n : ℕ = 20 in
@@ -90,7 +94,8 @@ after_change_arguments =
 abbrev pub hook_ended_by_a_fault : Row
 hook_ended_by_a_fault =
     let h : ℕ = 17 in let b : ℕ = 18 in let e : ℕ = 19 in let unset : ℕ = 20 in
-    row (script (codes "h" ∷ codes "b" ∷ codes "e" ∷ codes "unset" ∷ []) (handler h (b ∷ e ∷ []) (call Prim.GotoChar (Name unset ∷ []) ∷ []) ∷ []) (
+    row (script (codes "h" ∷ codes "b" ∷ codes "e" ∷ codes "unset" ∷ [])
+    (handler h (b ∷ e ∷ []) (call Prim.GotoChar (Name unset ∷ []) ∷ []) ∷ []) (
     call Prim.AddHook (symbol before_change_functions ∷ symbol h ∷ []) ∷
     call Prim.Insert (string (codes "a") ∷ []) ∷
     call Prim.Insert (string (codes "b") ∷ []) ∷ []
@@ -111,7 +116,9 @@ hook_ended_by_a_fault =
 abbrev pub ends_of_a_pending_change : Row
 ends_of_a_pending_change =
     let h : ℕ = 17 in let b : ℕ = 18 in let e : ℕ = 19 in
-    row (script (codes "h" ∷ codes "b" ∷ codes "e" ∷ []) (handler h (b ∷ e ∷ []) (call Prim.GotoChar (number 4 ∷ []) ∷ call Prim.Insert (string (codes "X") ∷ []) ∷ []) ∷ []) (
+    row (script (codes "h" ∷ codes "b" ∷ codes "e" ∷ [])
+    (handler h (b ∷ e ∷ []) (call Prim.GotoChar (number 4 ∷ []) ∷
+    call Prim.Insert (string (codes "X") ∷ []) ∷ []) ∷ []) (
     call Prim.Insert (string (codes "abcdef") ∷ []) ∷
     call Prim.AddHook (symbol before_change_functions ∷ symbol h ∷ []) ∷
     call Prim.DeleteRegion (number 2 ∷ number 4 ∷ []) ∷
@@ -136,7 +143,8 @@ abbrev pub function_behind_a_change_ended_by_a_fault : Row
 function_behind_a_change_ended_by_a_fault =
     let h : ℕ = 17 in let b : ℕ = 18 in let e : ℕ = 19 in let n : ℕ = 20 in
     let unset : ℕ = 21 in
-    row (script (codes "h" ∷ codes "b" ∷ codes "e" ∷ codes "n" ∷ codes "unset" ∷ []) (handler h (b ∷ e ∷ n ∷ []) (call Prim.GotoChar (Name unset ∷ []) ∷ []) ∷ []) (
+    row (script (codes "h" ∷ codes "b" ∷ codes "e" ∷ codes "n" ∷ codes "unset" ∷ [])
+    (handler h (b ∷ e ∷ n ∷ []) (call Prim.GotoChar (Name unset ∷ []) ∷ []) ∷ []) (
     call Prim.AddHook (symbol after_change_functions ∷ symbol h ∷ []) ∷
     call Prim.Insert (string (codes "a") ∷ []) ∷
     call Prim.Insert (string (codes "b") ∷ []) ∷ []
@@ -160,7 +168,8 @@ abbrev pub changes_of_nothing : Row
 changes_of_nothing =
     let h : ℕ = 17 in let b : ℕ = 18 in let e : ℕ = 19 in
     let face : ℕ = 20 in let bold : ℕ = 21 in
-    row (script (codes "h" ∷ codes "b" ∷ codes "e" ∷ codes "face" ∷ codes "bold" ∷ []) (handler h (b ∷ e ∷ []) [] ∷ []) (
+    row (script (codes "h" ∷ codes "b" ∷ codes "e" ∷ codes "face" ∷ codes "bold" ∷ [])
+    (handler h (b ∷ e ∷ []) [] ∷ []) (
     call Prim.AddHook (symbol before_change_functions ∷ symbol h ∷ []) ∷
     call Prim.Insert (string (codes "") ∷ []) ∷
     call Prim.DeleteRegion (number 1 ∷ number 1 ∷ []) ∷
@@ -229,7 +238,8 @@ abbrev pub functions_of_a_copy : Row
 functions_of_a_copy =
     let g : ℕ = 17 in let h : ℕ = 18 in let b : ℕ = 19 in let e : ℕ = 20 in
     row (script (codes "g" ∷ codes "h" ∷ codes "b" ∷ codes "e" ∷ [])
-    (handler g (b ∷ e ∷ []) [] ∷ handler h (b ∷ e ∷ []) (call Prim.RemoveHook (symbol before_change_functions ∷ symbol g ∷ []) ∷ []) ∷ []) (
+    (handler g (b ∷ e ∷ []) [] ∷ handler h (b ∷ e ∷ [])
+    (call Prim.RemoveHook (symbol before_change_functions ∷ symbol g ∷ []) ∷ []) ∷ []) (
     call Prim.AddHook (symbol before_change_functions ∷ symbol g ∷ []) ∷
     call Prim.AddHook (symbol before_change_functions ∷ symbol h ∷ []) ∷
     call Prim.Insert (string (codes "a") ∷ []) ∷
@@ -283,7 +293,8 @@ abbrev pub names_in_a_handler : Row
 names_in_a_handler =
     let h : ℕ = 17 in let b : ℕ = 18 in let e : ℕ = 19 in let r : ℕ = 20 in
     row (script (codes "h" ∷ codes "b" ∷ codes "e" ∷ codes "r" ∷ [])
-    (handler h (b ∷ e ∷ []) (set b Prim.PointMax [] ∷ set r Prim.PointMin [] ∷ call Prim.GotoChar (Name b ∷ []) ∷ []) ∷ []) (
+    (handler h (b ∷ e ∷ []) (set b Prim.PointMax [] ∷ set r Prim.PointMin [] ∷
+    call Prim.GotoChar (Name b ∷ []) ∷ []) ∷ []) (
     call Prim.Insert (string (codes "abc") ∷ []) ∷
     call Prim.AddHook (symbol before_change_functions ∷ symbol h ∷ []) ∷
     call Prim.DeleteRegion (number 1 ∷ number 2 ∷ []) ∷

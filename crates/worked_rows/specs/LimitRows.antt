@@ -1,5 +1,6 @@
 -- Runs that begin where a limit is reached: what is refused then, and what isn't.
-use Rattle.std.specs.Prelude.{ℕ, zero, suc, ◌+◌, true, false, decimal, List, [], ◌∷◌, ◌++◌, codes, replicate, map, Option, None}
+use Rattle.std.specs.Prelude.{ℕ, zero, suc, ◌+◌, true, false, decimal, List, [], ◌∷◌, ◌++◌, codes}
+use Rattle.std.specs.Prelude.{replicate, map, Option, None}
 use Rattle.text_model.specs.Characters.{Scalar}
 use Rattle.text_model.specs.Codings.{Utf8}
 use Rattle.editor_model.specs.Values.{Form, Prim}
@@ -9,19 +10,22 @@ use Rattle.plain_machine.specs.State.{State, Process, Runs, Signalled, Default, 
 use Rattle.plain_machine.specs.Items.{Top}
 use Rattle.plain_machine.specs.Symbols.{program_of}
 use Rattle.plain_machine.specs.Run.{run}
-use Rattle.worked_rows.specs.Row.{Row, script, forms, call, nil, t, string, number, killed, reads_nothing, steps, written}
+use Rattle.worked_rows.specs.Row.{Row, script, forms, call, nil, t, string, number, killed}
+use Rattle.worked_rows.specs.Row.{reads_nothing, steps, written}
 
 -- some forms in a state, where no exchange is at hand but these
 abbrev pub row_in : State → List Form → List Exchange → List (List ℕ) → Row
 row_in s fs exchanges expected =
     record {
-      ran = run (program_of (script [] [] fs) [] (λ i args past. None)) 16 steps (record { state = s; work = Top (forms fs) ∷ [] }) exchanges;
+      ran = run (program_of (script [] [] fs) [] (λ i args past. None)) 16 steps
+          (record { state = s; work = Top (forms fs) ∷ [] }) exchanges;
       expected = written expected;
     }
 
 -- 256 buffers were made, and one lives: no other can be made, and the last one can't be killed.
 abbrev pub all_buffers : State
-all_buffers = record new_state { editor = record new_editor { buffers = new_editor.buffers ++ replicate 255 None } }
+all_buffers =
+    record new_state { editor = record new_editor { buffers = new_editor.buffers ++ replicate 255 None } }
 
 abbrev pub all_buffers_made : Row
 all_buffers_made =
@@ -65,7 +69,8 @@ ended = record (process_in None) { status = Signalled; listed = false }
 -- 256 processes were made: no other can be started.
 abbrev pub ended_lines : (many from : ℕ) → List (List ℕ)
 ended_lines zero p = []
-ended_lines (suc many) p = (codes "process " ++ (decimal p ++ codes " #<process p> signal nil")) ∷ ended_lines many (p + 1)
+ended_lines (suc many) p =
+    (codes "process " ++ (decimal p ++ codes " #<process p> signal nil")) ∷ ended_lines many (p + 1)
 
 abbrev pub all_processes_made : Row
 all_processes_made =
@@ -84,7 +89,10 @@ all_processes_made =
 abbrev pub one_process : State
 one_process =
     record new_state {
-      editor = record new_editor { marks = record new_editor.marks { markers = record { spot = None; advances = false } ∷ [] } };
+      editor = record new_editor {
+        marks = record new_editor.marks
+            { markers = record { spot = None; advances = false } ∷ [] };
+      };
       processes = process_in None ∷ [];
     }
 
@@ -113,8 +121,8 @@ all_exchanges_made =
     codes "process 0 #<process p> signal nil" ∷ []
     )
 
--- The last 1,000 exchanges of 65,536: one wait of 1,000 rounds answers nil, the next one is refused, and the kill at the
--- end is asked all the same.
+-- The last 1,000 exchanges of 65,536: one wait of 1,000 rounds answers nil, the next one is refused, and
+-- the kill at the end is asked all the same.
 abbrev pub exchanges_spent : Row
 exchanges_spent =
     row_in (record one_process { asked = 64536 }) (
@@ -148,7 +156,8 @@ all_bytes_sent =
     codes "process 0 #<process p> run 0" ∷ []
     )
 
--- At depth 16: waits and deletions are refused; a wrong type comes before that, and a buffer without processes is killed.
+-- At depth 16: waits and deletions are refused; a wrong type comes before that, and a buffer without
+-- processes is killed.
 abbrev pub deepest_handler : Row
 deepest_handler =
     row_in (record one_process { depth = 16 }) (

@@ -2,7 +2,9 @@
 use Rattle.std.specs.Prelude.{ℕ, pos, List, [], ◌∷◌, ◌++◌, codes, replicate, Some, Option}
 use Rattle.text_model.specs.Properties.{Symbol}
 use Rattle.editor_model.specs.Values.{Value, T, Int, Sym, Str, Name, Prim}
-use Rattle.worked_rows.specs.Row.{Row, shipped_row, script, handler, call, set, string, symbol, nil, text, before_change_functions, spawned, reads, output_ends, exits, killed}
+use Rattle.worked_rows.specs.Row.{Row, shipped_row, script, handler, call, set, string, symbol, nil}
+use Rattle.worked_rows.specs.Row.{text, before_change_functions, spawned, reads, output_ends, exits}
+use Rattle.worked_rows.specs.Row.{killed}
 use Rattle.std.specs.Prelude.{slice_get, length}
 use Rattle.text_model.specs.Characters.{Scalar}
 use Rattle.editor_model.specs.Values.{Reply, Items, End, More, TheBuffer, TheMarker, TheOverlay, TheProcess}
@@ -95,7 +97,8 @@ in_turn calls past = slice_get calls (length past)
 abbrev pub native_gives_a_buffer_never_made : Row
 native_gives_a_buffer_never_made =
     let n : ℕ = 17 in
-    native_row (codes "n") (in_turn ((Prim.GetBufferCreate, text (codes "w") ∷ []) ∷ (Prim.SetBuffer, TheBuffer 9 ∷ []) ∷ [])) (
+    native_row (codes "n") (in_turn ((Prim.GetBufferCreate, text (codes "w") ∷ []) ∷
+    (Prim.SetBuffer, TheBuffer 9 ∷ []) ∷ [])) (
     call Prim.AddHook (symbol before_change_functions ∷ symbol n ∷ []) ∷
     call Prim.Insert (string (codes "a") ∷ []) ∷ []
     ) (
@@ -111,8 +114,8 @@ native_gives_a_buffer_never_made =
     codes "text \"\"" ∷ []
     )
 
--- A native calls with too many arguments, too few, and with objects and symbols that were never made, also inside
--- lists and strings; the empty list counts as nil.
+-- A native calls with too many arguments, too few, and with objects and symbols that were never made, also
+-- inside lists and strings; the empty list counts as nil.
 abbrev pub odd_calls : List (Prim × List Value)
 odd_calls =
     (Prim.PointAt, T ∷ []) ∷
@@ -154,7 +157,8 @@ odd_calls_of_a_native =
 abbrev pub handler_hides_a_native : Row
 handler_hides_a_native =
     let drop_filter : ℕ = 17 in let p : ℕ = 18 in let s : ℕ = 19 in
-    shipped_row (script (codes "drop-filter" ∷ codes "p" ∷ codes "s" ∷ []) (handler drop_filter (p ∷ s ∷ []) (call Prim.PointAt [] ∷ []) ∷ []) (
+    shipped_row (script (codes "drop-filter" ∷ codes "p" ∷ codes "s" ∷ [])
+    (handler drop_filter (p ∷ s ∷ []) (call Prim.PointAt [] ∷ []) ∷ []) (
     set p Prim.StartProcess (string (codes "c") ∷ nil ∷ string (codes "cat") ∷ []) ∷
     call Prim.SetProcessFilter (Name p ∷ symbol drop_filter ∷ []) ∷
     call Prim.AcceptProcessOutput (Name p ∷ []) ∷ []

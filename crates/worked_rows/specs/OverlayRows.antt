@@ -2,7 +2,8 @@
 use Rattle.std.specs.Prelude.{ℕ, [], ◌∷◌, codes}
 use Rattle.text_model.specs.Properties.{Symbol}
 use Rattle.editor_model.specs.Values.{Str, Name, Prim}
-use Rattle.worked_rows.specs.Row.{Row, row, script, call, set, number, string, symbol, quoted, nil, t, with_set, evaporate, priority}
+use Rattle.worked_rows.specs.Row.{Row, row, script, call, set, number, string, symbol, quoted, nil, t}
+use Rattle.worked_rows.specs.Row.{with_set, evaporate, priority}
 
 -- An insertion before markers moves the ends of overlays.
 --     (insert "abcd")(make-overlay 1 3)(make-overlay 3 5)(goto-char 3)(insert-before-markers "xy")
@@ -28,8 +29,8 @@ overlays_before_markers =
 
 -- Empty overlays at an insertion, by their two flags.
 --     (insert "abcd")
---     (make-overlay 3 3 nil nil nil)(make-overlay 3 3 nil nil t)(make-overlay 3 3 nil t t)(make-overlay 3 3 nil t nil)
---     (goto-char 3)(insert "xy")
+-- (make-overlay 3 3 nil nil nil)(make-overlay 3 3 nil nil t)(make-overlay 3 3 nil t t)(make-overlay 3 3 nil
+-- t nil) (goto-char 3)(insert "xy")
 abbrev pub empty_overlays_at_an_insertion : Row
 empty_overlays_at_an_insertion =
     row (script [] [] (
@@ -118,7 +119,8 @@ overlay_priorities =
 
 -- Which overlays stand where, and where the next one begins or ends.
 --     (insert "abc")(make-overlay 2 2)(make-overlay 1 3)(make-overlay 4 4)
---     (overlays-in 2 4)(overlays-at 2)(next-overlay-change 1)(previous-overlay-change 4)(previous-overlay-change 1)
+-- (overlays-in 2 4)(overlays-at 2)(next-overlay-change 1)(previous-overlay-change
+-- 4)(previous-overlay-change 1)
 abbrev pub overlays_by_place : Row
 overlays_by_place =
     row (script [] [] (

@@ -1,7 +1,9 @@
 -- Worked rows: processes and their default handlers.
 use Rattle.std.specs.Prelude.{ℕ, ◌+◌, List, [], ◌∷◌, ◌++◌, codes, replicate, map}
 use Rattle.editor_model.specs.Values.{Value, Str, Name, Prim}
-use Rattle.worked_rows.specs.Row.{Row, row, script, call, set, handler, number, string, symbol, nil, t, spawned, refused, reads, output_ends, read_fails, exits, end_fails, killed, kill_fails}
+use Rattle.worked_rows.specs.Row.{Row, row, script, call, set, handler, number, string, symbol, nil, t}
+use Rattle.worked_rows.specs.Row.{spawned, refused, reads, output_ends, read_fails, exits, end_fails}
+use Rattle.worked_rows.specs.Row.{killed, kill_fails}
 use Rattle.text_model.specs.Characters.{Ch, Scalar}
 use Rattle.plain_machine.specs.Exchanges.{Exchange}
 use Rattle.plain_machine.specs.Lines.{Entered, OfFilter}
@@ -66,7 +68,8 @@ spawn_refused =
 
 -- A script whose child can't be started: the name stays unset.
 --     (defhandler f (p s))
---     (setq p (start-process "c" nil "cat"))(set-process-filter p 'f)(set-process-sentinel p 'f)(accept-process-output p)(accept-process-output p)
+-- (setq p (start-process "c" nil "cat"))(set-process-filter p 'f)(set-process-sentinel p
+-- 'f)(accept-process-output p)(accept-process-output p)
 abbrev pub spawn_refused_leaves_a_void_name : Row
 spawn_refused_leaves_a_void_name =
     let f : ℕ = 17 in let p : ℕ = 18 in let s : ℕ = 19 in
@@ -88,8 +91,8 @@ spawn_refused_leaves_a_void_name =
 
 -- A character cut across three reads; the filter set at the last one gets it.
 --     (defhandler f (p s))(defhandler g (p s))
---     (setq p (start-process "c" nil "cat"))(set-process-filter p 'f)(accept-process-output p)(accept-process-output p)
---     (set-process-filter p 'g)(accept-process-output p)
+-- (setq p (start-process "c" nil "cat"))(set-process-filter p 'f)(accept-process-output
+-- p)(accept-process-output p) (set-process-filter p 'g)(accept-process-output p)
 abbrev pub character_cut_across_reads : Row
 character_cut_across_reads =
     let f : ℕ = 17 in let p : ℕ = 18 in let s : ℕ = 19 in let g : ℕ = 20 in
@@ -103,7 +106,8 @@ character_cut_across_reads =
     call Prim.AcceptProcessOutput (Name p ∷ []) ∷
     call Prim.SetProcessFilter (Name p ∷ symbol g ∷ []) ∷
     call Prim.AcceptProcessOutput (Name p ∷ []) ∷ []
-    )) (spawned (codes "cat") [] 0 ∷ reads 0 (0xE2 ∷ []) ∷ reads 0 (0x82 ∷ []) ∷ reads 0 (0xAC ∷ []) ∷ killed 0 ∷ []) (
+    )) (spawned (codes "cat") [] 0 ∷ reads 0 (0xE2 ∷ []) ∷ reads 0 (0x82 ∷ []) ∷ reads 0 (0xAC ∷ []) ∷
+    killed 0 ∷ []) (
     codes "= #<process c>" ∷
     codes "= f" ∷
     codes "= t" ∷
@@ -121,7 +125,8 @@ character_cut_across_reads =
 
 -- A tail that was held comes out as raw bytes at the end of the output, before the sentinel.
 --     (defhandler f (p s))
---     (setq p (start-process "c" nil "cat"))(set-process-filter p 'f)(set-process-sentinel p 'f)(accept-process-output p)(accept-process-output p)
+-- (setq p (start-process "c" nil "cat"))(set-process-filter p 'f)(set-process-sentinel p
+-- 'f)(accept-process-output p)(accept-process-output p)
 abbrev pub held_tail_at_end_of_output : Row
 held_tail_at_end_of_output =
     let f : ℕ = 17 in let p : ℕ = 18 in let s : ℕ = 19 in
@@ -149,7 +154,8 @@ held_tail_at_end_of_output =
 
 -- A read that fails ends the output, and an end that fails ends the process.
 --     (defhandler f (p s))
---     (setq p (start-process "c" nil "cat"))(set-process-filter p 'f)(set-process-sentinel p 'f)(accept-process-output p)(accept-process-output p)
+-- (setq p (start-process "c" nil "cat"))(set-process-filter p 'f)(set-process-sentinel p
+-- 'f)(accept-process-output p)(accept-process-output p)
 abbrev pub read_and_end_fail : Row
 read_and_end_fail =
     let f : ℕ = 17 in let p : ℕ = 18 in let s : ℕ = 19 in
@@ -176,7 +182,8 @@ read_and_end_fail =
     )
 
 -- A process whose filter is off isn't asked.
---     (setq p (start-process "c" "out" "cat"))(set-process-filter p t)(accept-process-output p)(set-process-filter p nil)(accept-process-output p)
+-- (setq p (start-process "c" "out" "cat"))(set-process-filter p t)(accept-process-output
+-- p)(set-process-filter p nil)(accept-process-output p)
 abbrev pub filter_off_and_on : Row
 filter_off_and_on =
     let p : ℕ = 17 in
@@ -204,7 +211,8 @@ filter_off_and_on =
     )
 
 -- The default filter inserts at the mark, also outside the accessible portion.
---     (get-buffer-create "out")(set-buffer "out")(insert "abcdef")(setq p (start-process "c" "out" "cat"))(narrow-to-region 2 4)(accept-process-output p)
+-- (get-buffer-create "out")(set-buffer "out")(insert "abcdef")(setq p (start-process "c" "out"
+-- "cat"))(narrow-to-region 2 4)(accept-process-output p)
 abbrev pub default_filter_outside_the_narrowing : Row
 default_filter_outside_the_narrowing =
     let p : ℕ = 17 in
@@ -263,12 +271,14 @@ abbrev pub real_children : Row
 real_children =
     let s : ℕ = 17 in let p : ℕ = 18 in let m : ℕ = 19 in
     row (script (codes "s" ∷ codes "p" ∷ codes "m" ∷ []) (handler s (p ∷ m ∷ []) ([]) ∷ []) (
-    set p Prim.StartProcess (string (codes "sorted") ∷ string (codes "out") ∷ string (codes "sh") ∷ string (codes "-c") ∷ string (codes "printf 'b\\na\\n' | sort; exit 3") ∷ []) ∷
+    set p Prim.StartProcess (string (codes "sorted") ∷ string (codes "out") ∷ string (codes "sh") ∷
+    string (codes "-c") ∷ string (codes "printf 'b\\na\\n' | sort; exit 3") ∷ []) ∷
     call Prim.SetProcessSentinel (Name p ∷ symbol s ∷ []) ∷
     call Prim.AcceptProcessOutput (Name p ∷ []) ∷
     call Prim.AcceptProcessOutput (Name p ∷ []) ∷
     call Prim.ProcessExitStatus (Name p ∷ []) ∷ []
-    )) (spawned (codes "sh") (codes "-c" ∷ codes "printf 'b\\na\\n' | sort; exit 3" ∷ []) 0 ∷ reads 0 (codes "a\nb\n") ∷ output_ends 0 ∷ exits 0 3 ∷ []) (
+    )) (spawned (codes "sh") (codes "-c" ∷ codes "printf 'b\\na\\n' | sort; exit 3" ∷ []) 0 ∷
+    reads 0 (codes "a\nb\n") ∷ output_ends 0 ∷ exits 0 3 ∷ []) (
     codes "= #<process sorted>" ∷
     codes "= s" ∷
     codes "> filter default #<process sorted> \"a\\nb\\n\"" ∷
@@ -306,7 +316,8 @@ second_text args = []
 abbrev pub filter_text : Said → List Ch
 filter_text said = elim said.event [ Entered depth (OfFilter p) handler args ↦ second_text args | _ ↦ [] ]
 
--- the run has ended with its exchanges used up; the filter's texts joined are what was read; and the dump is the same
+-- the run has ended with its exchanges used up; the filter's texts joined are what was read; and the dump
+-- is the same
 abbrev pub IsWhole : List (List ℕ) → Type 0
 IsWhole pieces =
     ((cut_output pieces).how ≡ HasEnded) × ((cut_output pieces).left ≡ []) ×
@@ -360,10 +371,11 @@ scope_ends_with_its_handler =
     codes "process 0 #<process c> run 0" ∷ []
     )
 
--- What is told of processes: a name that is taken gets a number, and a process that was deleted isn't listed any more.
---     (setq p (start-process "c" "out" "cat"))(setq q (start-process "c" nil "cat"))(process-list)(process-name q)
---     (process-buffer p)(process-mark p)(process-filter p)(process-sentinel p)(process-status p)(process-live-p p)
---     (delete-process p)(process-status p)(process-live-p p)(process-list)(get-process "c")
+-- What is told of processes: a name that is taken gets a number, and a process that was deleted isn't
+-- listed any more. (setq p (start-process "c" "out" "cat"))(setq q (start-process "c" nil
+-- "cat"))(process-list)(process-name q) (process-buffer p)(process-mark p)(process-filter
+-- p)(process-sentinel p)(process-status p)(process-live-p p) (delete-process p)(process-status
+-- p)(process-live-p p)(process-list)(get-process "c")
 abbrev pub questions_to_processes : Row
 questions_to_processes =
     let p : ℕ = 17 in let q : ℕ = 18 in

@@ -2,7 +2,8 @@
 use Rattle.std.specs.Prelude.{ℕ, [], ◌∷◌, ◌++◌, codes}
 use Rattle.text_model.specs.Properties.{Truth, Symbol, Symbols}
 use Rattle.editor_model.specs.Values.{Sym, Str, list, Prim}
-use Rattle.worked_rows.specs.Row.{Row, row, script, call, number, string, symbol, quoted, plain, with_set, front_sticky, rear_nonsticky}
+use Rattle.worked_rows.specs.Row.{Row, row, script, call, number, string, symbol, quoted, plain}
+use Rattle.worked_rows.specs.Row.{with_set, front_sticky, rear_nonsticky}
 
 -- What an inserted character takes from its neighbours.
 --     (insert #("ab" 0 1 (face bold rear-nonsticky (face)) 1 2 (face italic front-sticky t)))
@@ -11,7 +12,9 @@ abbrev pub stickiness : Row
 stickiness =
     let face : ℕ = 17 in let bold : ℕ = 18 in let italic : ℕ = 19 in
     row (script (codes "face" ∷ codes "bold" ∷ codes "italic" ∷ []) [] (
-    call Prim.Insert (quoted (Str (with_set ((rear_nonsticky, Symbols (face ∷ [])) ∷ (face, Symbol bold) ∷ []) (codes "a") ++ with_set ((front_sticky, Truth) ∷ (face, Symbol italic) ∷ []) (codes "b"))) ∷ []) ∷
+    call Prim.Insert (quoted (Str (with_set
+    ((rear_nonsticky, Symbols (face ∷ [])) ∷ (face, Symbol bold) ∷ []) (codes "a") ++
+    with_set ((front_sticky, Truth) ∷ (face, Symbol italic) ∷ []) (codes "b"))) ∷ []) ∷
     call Prim.GotoChar (number 2 ∷ []) ∷
     call Prim.InsertAndInherit (string (codes "x") ∷ []) ∷ []
     )) [] (
@@ -30,7 +33,8 @@ abbrev pub property_changes : Row
 property_changes =
     let face : ℕ = 17 in let bold : ℕ = 18 in
     row (script (codes "face" ∷ codes "bold" ∷ []) [] (
-    call Prim.Insert (quoted (Str (plain (codes "a") ++ (with_set ((face, Symbol bold) ∷ []) (codes "bc") ++ plain (codes "d")))) ∷ []) ∷
+    call Prim.Insert (quoted (Str (plain (codes "a") ++
+    (with_set ((face, Symbol bold) ∷ []) (codes "bc") ++ plain (codes "d")))) ∷ []) ∷
     call Prim.NextPropertyChange (number 1 ∷ []) ∷
     call Prim.NextPropertyChange (number 2 ∷ []) ∷
     call Prim.NextPropertyChange (number 4 ∷ []) ∷
@@ -50,12 +54,14 @@ property_changes =
     )
 
 -- What stands in front is inherited from as it is, what stands behind only where it says so.
---     (insert #("ab" 0 1 (face bold)))(goto-char 2)(insert-and-inherit "x")(goto-char 1)(insert-and-inherit "y")
+-- (insert #("ab" 0 1 (face bold)))(goto-char 2)(insert-and-inherit "x")(goto-char 1)(insert-and-inherit
+-- "y")
 abbrev pub inherited_from_the_front : Row
 inherited_from_the_front =
     let face : ℕ = 17 in let bold : ℕ = 18 in
     row (script (codes "face" ∷ codes "bold" ∷ []) [] (
-    call Prim.Insert (quoted (Str (with_set ((face, Symbol bold) ∷ []) (codes "a") ++ with_set [] (codes "b"))) ∷ []) ∷
+    call Prim.Insert (quoted (Str (with_set ((face, Symbol bold) ∷ []) (codes "a") ++
+    with_set [] (codes "b"))) ∷ []) ∷
     call Prim.GotoChar (number 2 ∷ []) ∷
     call Prim.InsertAndInherit (string (codes "x") ∷ []) ∷
     call Prim.GotoChar (number 1 ∷ []) ∷

@@ -2,11 +2,13 @@
 use Rattle.std.specs.Prelude.{ℕ, [], ◌∷◌, ◌++◌, codes}
 use Rattle.text_model.specs.Properties.{Truth}
 use Rattle.editor_model.specs.Values.{Str, In, InhibitReadOnly, Prim}
-use Rattle.worked_rows.specs.Row.{Row, row, script, forms, handler, call, nil, t, number, string, symbol, quoted, with_set, front_sticky, rear_nonsticky, read_only, before_change_functions, spawned, reads, output_ends, exits}
+use Rattle.worked_rows.specs.Row.{Row, row, script, forms, handler, call, nil, t, number, string}
+use Rattle.worked_rows.specs.Row.{symbol, quoted, with_set, front_sticky, rear_nonsticky, read_only}
+use Rattle.worked_rows.specs.Row.{before_change_functions, spawned, reads, output_ends, exits}
 
 -- Text and a buffer that are read-only, and a block in which nothing is.
---     (insert "abcd")(put-text-property 2 3 'read-only t)(delete-region 1 3)(goto-char 3)(insert "x")(goto-char 2)(insert "y")
---     (set-buffer-read-only t)(insert "z")(inhibit-read-only (insert "w"))(buffer-read-only-p)
+-- (insert "abcd")(put-text-property 2 3 'read-only t)(delete-region 1 3)(goto-char 3)(insert "x")(goto-char
+-- 2)(insert "y") (set-buffer-read-only t)(insert "z")(inhibit-read-only (insert "w"))(buffer-read-only-p)
 abbrev pub what_is_read_only : Row
 what_is_read_only =
     row (script [] [] (
@@ -56,12 +58,14 @@ nothing_to_change =
     )
 
 -- Behind a block that ends by a fault what is read-only counts again.
---     (set-buffer-read-only t)(inhibit-read-only (insert "a")(goto-char t)(insert "b"))(insert "c")(buffer-read-only-p)
+-- (set-buffer-read-only t)(inhibit-read-only (insert "a")(goto-char t)(insert "b"))(insert
+-- "c")(buffer-read-only-p)
 abbrev pub block_ended_by_a_fault : Row
 block_ended_by_a_fault =
     row (script [] [] (
     call Prim.SetBufferReadOnly (t ∷ []) ∷
-    In InhibitReadOnly (forms (call Prim.Insert (string (codes "a") ∷ []) ∷ call Prim.GotoChar (t ∷ []) ∷ call Prim.Insert (string (codes "b") ∷ []) ∷ [])) ∷
+    In InhibitReadOnly (forms (call Prim.Insert (string (codes "a") ∷ []) ∷
+    call Prim.GotoChar (t ∷ []) ∷ call Prim.Insert (string (codes "b") ∷ []) ∷ [])) ∷
     call Prim.Insert (string (codes "c") ∷ []) ∷
     call Prim.BufferReadOnlyP [] ∷ []
     )) [] (
@@ -82,7 +86,8 @@ abbrev pub neighbours_of_read_only_text : Row
 neighbours_of_read_only_text =
     let priority : ℕ = 3 in
     row (script [] [] (
-    call Prim.Insert (quoted (Str (with_set ((front_sticky, Truth) ∷ (read_only, Truth) ∷ []) (codes "a") ++ with_set ((rear_nonsticky, Truth) ∷ (read_only, Truth) ∷ []) (codes "b"))) ∷ []) ∷
+    call Prim.Insert (quoted (Str (with_set ((front_sticky, Truth) ∷ (read_only, Truth) ∷ [])
+    (codes "a") ++ with_set ((rear_nonsticky, Truth) ∷ (read_only, Truth) ∷ []) (codes "b"))) ∷ []) ∷
     call Prim.GotoChar (number 1 ∷ []) ∷
     call Prim.Insert (string (codes "x") ∷ []) ∷
     call Prim.GotoChar (number 3 ∷ []) ∷
@@ -144,7 +149,8 @@ undoing_what_is_read_only =
 abbrev pub hook_makes_the_buffer_read_only : Row
 hook_makes_the_buffer_read_only =
     let h : ℕ = 17 in let b : ℕ = 18 in let e : ℕ = 19 in
-    row (script (codes "h" ∷ codes "b" ∷ codes "e" ∷ []) (handler h (b ∷ e ∷ []) (call Prim.SetBufferReadOnly (t ∷ []) ∷ []) ∷ []) (
+    row (script (codes "h" ∷ codes "b" ∷ codes "e" ∷ [])
+    (handler h (b ∷ e ∷ []) (call Prim.SetBufferReadOnly (t ∷ []) ∷ []) ∷ []) (
     call Prim.AddHook (symbol before_change_functions ∷ symbol h ∷ []) ∷
     call Prim.Insert (string (codes "a") ∷ []) ∷
     call Prim.Insert (string (codes "b") ∷ []) ∷ []
@@ -168,10 +174,12 @@ output_where_it_is_read_only =
     call Prim.StartProcess (string (codes "c") ∷ string (codes "*scratch*") ∷ string (codes "cat") ∷ []) ∷
     call Prim.SetBufferReadOnly (t ∷ []) ∷
     call Prim.AcceptProcessOutput [] ∷
-    In InhibitReadOnly (forms (call Prim.PutTextProperty (number 2 ∷ number 3 ∷ symbol read_only ∷ t ∷ []) ∷ [])) ∷
+    In InhibitReadOnly (forms (call Prim.PutTextProperty
+    (number 2 ∷ number 3 ∷ symbol read_only ∷ t ∷ []) ∷ [])) ∷
     call Prim.AcceptProcessOutput [] ∷
     call Prim.AcceptProcessOutput [] ∷ []
-    )) (spawned (codes "cat") [] 0 ∷ reads 0 (codes "ab") ∷ reads 0 (codes "cd") ∷ output_ends 0 ∷ exits 0 0 ∷ []) (
+    )) (spawned (codes "cat") [] 0 ∷ reads 0 (codes "ab") ∷ reads 0 (codes "cd") ∷ output_ends 0 ∷
+    exits 0 0 ∷ []) (
     codes "= #<process c>" ∷
     codes "= t" ∷
     codes "> filter default #<process c> \"ab\"" ∷

@@ -1,9 +1,15 @@
 -- How a worked row is written: a script, its exchanges, and the lines that it has to write.
+pub use Rattle.text_model.specs.Sticky.{front_sticky, rear_nonsticky}
+pub use Rattle.text_model.specs.Marks.{evaporate}
+pub use Rattle.text_model.specs.OverlayQuestions.{priority}
+pub use Rattle.editor_model.specs.ReadOnly.{read_only}
+pub use Rattle.plain_machine.specs.Hooks.{before_change_functions, after_change_functions}
 use Rattle.std.specs.Prelude.{◌≡◌, ℕ, zero, suc, pos, List, [], ◌∷◌, ◌++◌, map, flat_map, Option, None}
 use Rattle.text_model.specs.Characters.{Scalar}
 use Rattle.text_model.specs.Properties.{Cell, PropSet}
 use Rattle.text_model.specs.Names.{first_symbols}
-use Rattle.editor_model.specs.Values.{Value, Nil, T, Int, Sym, Str, Form, Forms, Do, Setq, Then, NoForms, Arg, Const, HandlerDef, Prim, Reply, Script}
+use Rattle.editor_model.specs.Values.{Value, Nil, T, Int, Sym, Str, Form, Forms, Do, Setq, Then}
+use Rattle.editor_model.specs.Values.{NoForms, Arg, Const, HandlerDef, Prim, Reply, Script}
 use Rattle.plain_machine.specs.Exchanges.{Exchange, Ask, Answer}
 use Rattle.plain_machine.specs.Symbols.{program_of}
 use Rattle.plain_machine.specs.Shipped.{shipped_names, shipped}
@@ -55,28 +61,6 @@ string bytes = Const (text bytes)
 
 abbrev pub symbol : ℕ → Arg
 symbol s = Const (Sym s)
-
--- the first symbols that rows name
-abbrev pub front_sticky : ℕ
-front_sticky = 0
-
-abbrev pub rear_nonsticky : ℕ
-rear_nonsticky = 1
-
-abbrev pub evaporate : ℕ
-evaporate = 2
-
-abbrev pub priority : ℕ
-priority = 3
-
-abbrev pub before_change_functions : ℕ
-before_change_functions = 4
-
-abbrev pub after_change_functions : ℕ
-after_change_functions = 5
-
-abbrev pub read_only : ℕ
-read_only = 10
 
 -- EXCHANGES
 abbrev pub spawned : (program : List ℕ) → (args : List (List ℕ)) → (child : ℕ) → Exchange
@@ -137,9 +121,13 @@ Does = ℕ → List Value → List Reply → Option (Prim × List Value)
 abbrev pub steps : ℕ
 steps = 10000
 
-abbrev pub row_of : (natives : List (List ℕ)) → Does → (bound : ℕ) → Script → List Exchange → List (List ℕ) → Row
+abbrev pub row_of : (natives : List (List ℕ)) → Does → (bound : ℕ) → Script → List Exchange →
+    List (List ℕ) → Row
 row_of natives does bound script exchanges expected =
-    record { ran = run (program_of script natives does) bound steps (start script) exchanges; expected = written expected }
+    record {
+      ran = run (program_of script natives does) bound steps (start script) exchanges;
+      expected = written expected;
+    }
 
 abbrev pub row_at : (bound : ℕ) → Script → List Exchange → List (List ℕ) → Row
 row_at bound script exchanges expected = row_of [] (λ i args past. None) bound script exchanges expected
@@ -152,5 +140,7 @@ abbrev pub shipped_row : Script → List Exchange → List (List ℕ) → Row
 shipped_row script exchanges expected = row_of shipped_names shipped 16 script exchanges expected
 
 -- with one native, whose name gets the number 17, and without children
-abbrev pub native_row : (name : List ℕ) → (List Reply → Option (Prim × List Value)) → List Form → List (List ℕ) → Row
-native_row name does fs expected = row_of (name ∷ []) (λ i args past. does past) 16 (script [] [] fs) [] expected
+abbrev pub native_row : (name : List ℕ) → (List Reply → Option (Prim × List Value)) → List Form →
+    List (List ℕ) → Row
+native_row name does fs expected =
+    row_of (name ∷ []) (λ i args past. does past) 16 (script [] [] fs) [] expected

@@ -80,13 +80,16 @@ markers_at_a_tie =
 
 -- Blocks put back point and the bounds; the last buffer killed gives a new one.
 --     (insert "abcdef")
---     (save-restriction (narrow-to-region 2 4)(goto-char 1)(save-excursion (goto-char 4)(insert "X"))(point-max))
---     (point-max)(kill-buffer)(buffer-list)
+-- (save-restriction (narrow-to-region 2 4)(goto-char 1)(save-excursion (goto-char 4)(insert
+-- "X"))(point-max)) (point-max)(kill-buffer)(buffer-list)
 abbrev pub excursion_in_a_restriction : Row
 excursion_in_a_restriction =
     row (script [] [] (
     call Prim.Insert (string (codes "abcdef") ∷ []) ∷
-    In SaveRestriction (forms (call Prim.NarrowToRegion (number 2 ∷ number 4 ∷ []) ∷ call Prim.GotoChar (number 1 ∷ []) ∷ In SaveExcursion (forms (call Prim.GotoChar (number 4 ∷ []) ∷ call Prim.Insert (string (codes "X") ∷ []) ∷ [])) ∷ call Prim.PointMax [] ∷ [])) ∷
+    In SaveRestriction (forms (call Prim.NarrowToRegion (number 2 ∷ number 4 ∷ []) ∷
+    call Prim.GotoChar (number 1 ∷ []) ∷
+    In SaveExcursion (forms (call Prim.GotoChar (number 4 ∷ []) ∷
+    call Prim.Insert (string (codes "X") ∷ []) ∷ [])) ∷ call Prim.PointMax [] ∷ [])) ∷
     call Prim.PointMax [] ∷
     call Prim.KillBuffer [] ∷
     call Prim.BufferList [] ∷ []
@@ -111,7 +114,8 @@ kept_end_of_a_restriction =
     row (script [] [] (
     call Prim.Insert (string (codes "abcd") ∷ []) ∷
     call Prim.NarrowToRegion (number 2 ∷ number 4 ∷ []) ∷
-    In SaveRestriction (forms (call Prim.GotoChar (number 4 ∷ []) ∷ call Prim.Insert (string (codes "X") ∷ []) ∷ [])) ∷
+    In SaveRestriction (forms (call Prim.GotoChar (number 4 ∷ []) ∷
+    call Prim.Insert (string (codes "X") ∷ []) ∷ [])) ∷
     call Prim.PointMax [] ∷ []
     )) [] (
     codes "= nil" ∷
@@ -141,15 +145,16 @@ kept_point_of_an_excursion =
     codes "text \"aXb\"" ∷ []
     )
 
--- The block `save-current-buffer` puts the current buffer back; `when-eq` runs its forms where its two values are equal.
---     (get-buffer-create "w")(save-current-buffer (set-buffer "w")(insert "x"))(current-buffer)
---     (setq a (point-max))(when-eq a 1 (insert "y"))(when-eq a 2 (insert "z"))
+-- The block `save-current-buffer` puts the current buffer back; `when-eq` runs its forms where its two
+-- values are equal. (get-buffer-create "w")(save-current-buffer (set-buffer "w")(insert
+-- "x"))(current-buffer) (setq a (point-max))(when-eq a 1 (insert "y"))(when-eq a 2 (insert "z"))
 abbrev pub buffer_put_back_and_forms_chosen : Row
 buffer_put_back_and_forms_chosen =
     let a : ℕ = 17 in
     row (script (codes "a" ∷ []) [] (
     call Prim.GetBufferCreate (string (codes "w") ∷ []) ∷
-    In SaveCurrentBuffer (forms (call Prim.SetBuffer (string (codes "w") ∷ []) ∷ call Prim.Insert (string (codes "x") ∷ []) ∷ [])) ∷
+    In SaveCurrentBuffer (forms (call Prim.SetBuffer (string (codes "w") ∷ []) ∷
+    call Prim.Insert (string (codes "x") ∷ []) ∷ [])) ∷
     call Prim.CurrentBuffer [] ∷
     set a Prim.PointMax [] ∷
     WhenEq (Name a) (number 1) (forms (call Prim.Insert (string (codes "y") ∷ []) ∷ [])) ∷

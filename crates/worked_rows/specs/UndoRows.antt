@@ -5,8 +5,9 @@ use Rattle.editor_model.specs.Values.{Str, Name, Prim}
 use Rattle.worked_rows.specs.Row.{Row, row, script, call, set, number, string, symbol, quoted, with_set}
 
 -- Two groups undone, and then redone by undoing the undoing; properties come back.
---     (insert "abcd")(undo-boundary)(insert "xy")(put-text-property 1 3 'face 'bold)(delete-region 2 4)(undo-boundary)
---     (undo-start)(undo-more 2)(buffer-string)(undo-boundary)(undo-start)(undo-more 2)(buffer-string)
+-- (insert "abcd")(undo-boundary)(insert "xy")(put-text-property 1 3 'face 'bold)(delete-region 2
+-- 4)(undo-boundary) (undo-start)(undo-more 2)(buffer-string)(undo-boundary)(undo-start)(undo-more
+-- 2)(buffer-string)
 abbrev pub undo_in_groups : Row
 undo_in_groups =
     let face : ℕ = 17 in let bold : ℕ = 18 in
@@ -83,7 +84,8 @@ undo_list_as_printed =
     )
 
 -- Recording switched off and on again.
---     (insert "ab")(undo-more 1)(buffer-disable-undo)(undo-start)(buffer-undo-list)(buffer-enable-undo)(buffer-undo-list)
+-- (insert "ab")(undo-more
+-- 1)(buffer-disable-undo)(undo-start)(buffer-undo-list)(buffer-enable-undo)(buffer-undo-list)
 abbrev pub recording_switched_off : Row
 recording_switched_off =
     row (script [] [] (
@@ -107,7 +109,8 @@ recording_switched_off =
     )
 
 -- A deletion undone brings its properties back.
---     (insert #("ab" 0 2 (face bold)))(undo-boundary)(delete-region 1 2)(undo-start)(undo-more 1)(buffer-string)
+-- (insert #("ab" 0 2 (face bold)))(undo-boundary)(delete-region 1 2)(undo-start)(undo-more
+-- 1)(buffer-string)
 abbrev pub deletion_undone_with_properties : Row
 deletion_undone_with_properties =
     let face : ℕ = 17 in let bold : ℕ = 18 in
@@ -130,7 +133,8 @@ deletion_undone_with_properties =
     )
 
 -- The first `undo-more` behind a boundary passes an empty group.
---     (insert "ab")(undo-boundary)(insert "c")(undo-boundary)(undo-start)(undo-more 1)(undo-more 1)(buffer-string)(undo-more 1)(undo-more 1)
+-- (insert "ab")(undo-boundary)(insert "c")(undo-boundary)(undo-start)(undo-more 1)(undo-more
+-- 1)(buffer-string)(undo-more 1)(undo-more 1)
 abbrev pub empty_group_first : Row
 empty_group_first =
     row (script [] [] (
@@ -160,8 +164,8 @@ empty_group_first =
     )
 
 -- A marker that was set elsewhere since a deletion stays there when this is undone.
---     (insert "abcd")(setq m (copy-marker 3))(undo-boundary)(delete-region 2 4)(set-marker m 1)(undo-start)(undo-more 1)
---     (marker-position m)
+-- (insert "abcd")(setq m (copy-marker 3))(undo-boundary)(delete-region 2 4)(set-marker m
+-- 1)(undo-start)(undo-more 1) (marker-position m)
 abbrev pub undo_leaves_a_marker_that_has_moved : Row
 undo_leaves_a_marker_that_has_moved =
     let m : ℕ = 17 in

@@ -16,7 +16,8 @@ face = 17
 abbrev pub narrowing : ℕ
 narrowing = 18
 
---     (insert "ab")(undo-boundary)(insert "c")(put-text-property 1 3 'face 'face)(delete-region 1 2)(undo-start)(undo-more 1)
+-- (insert "ab")(undo-boundary)(insert "c")(put-text-property 1 3 'face 'face)(delete-region 1
+-- 2)(undo-start)(undo-more 1)
 abbrev pub undoing : List Form
 undoing =
     call Prim.Insert (string (codes "ab") ∷ []) ∷
@@ -29,7 +30,8 @@ undoing =
 
 -- a hook function narrows the buffer before the undoing, whose commit is refused then
 --     (defhandler narrowing () (narrow-to-region 1 1))
---     (insert "ab")(undo-boundary)(insert "c")(undo-start)(add-hook 'before-change-functions 'narrowing)(undo-more 1)
+-- (insert "ab")(undo-boundary)(insert "c")(undo-start)(add-hook 'before-change-functions
+-- 'narrowing)(undo-more 1)
 abbrev pub narrows : HandlerDef
 narrows = handler narrowing [] (call Prim.NarrowToRegion (number 1 ∷ number 1 ∷ []) ∷ [])
 
@@ -58,4 +60,5 @@ commits_groups _ = false
 
 abbrev pub first_from : List Form → (tries steps : ℕ) → ℕ
 first_from fs zero steps = steps
-first_from fs (suc tries) steps = elim (commits_groups (config_at fs steps).work) [ true ↦ steps | false ↦ first_from fs tries (steps + 1) ]
+first_from fs (suc tries) steps =
+    elim (commits_groups (config_at fs steps).work) [ true ↦ steps | false ↦ first_from fs tries (steps + 1) ]

@@ -13,7 +13,8 @@ use std::process::Abort;
 /// Stands for the position that is tried.
 const P: Word = Int(i64::MIN);
 
-/// Of six characters, from position 1 to 7, those from 2 to 5 are accessible. The third is bold, with an overlay of its own.
+/// Of six characters, from position 1 to 7, those from 2 to 5 are accessible. The third is bold, with an overlay of
+/// its own.
 const SETTING: [(Prim, &[Word]); 4] = [
     (Insert, &[Styled("abcdef", &[(2, 3, &[FACE, BOLD])])]),
     (MakeMarker, &[]),

@@ -10,8 +10,8 @@ use ek_types::Mem;
 use std::alloc::Global;
 use std::process::Abort;
 
-/// One of each kind of value. The buffer has the name of the first string; the first list is no property list. Behind them
-/// stand a marker that points nowhere, a killed buffer, and a name that no buffer has.
+/// One of each kind of value. The buffer has the name of the first string; the first list is no property list. Behind
+/// them stand a marker that points nowhere, a killed buffer, and a name that no buffer has.
 const SAMPLES: [Word; 15] = [
     Nil,
     T,

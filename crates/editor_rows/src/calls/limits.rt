@@ -2,13 +2,12 @@
 
 use super::playing::{make, reply};
 use super::words::Word::*;
-use super::words::{Word, arguments, chars};
+use super::words::{Word, arguments, plain};
 use crate::checking::is;
 use buffer_table::Editor;
 use editor_prims::prepare;
 use ek_call::Prim::*;
 use ek_call::{Fault, Prim, Reply, Value, Values};
-use ek_types::Piece;
 use std::process::Abort;
 
 /// The longest string that is made from a buffer.
@@ -50,7 +49,7 @@ fn take(rt: &impl Abort, editor: &mut Editor, steps: &[Step]) {
 fn refused_name(rt: &impl Abort, editor: &mut Editor, prim: Prim, length: usize) -> Option<Fault> {
     let alloc = editor.allocator();
     let name = "n".repeat(alloc, length).expect(rt, "a name");
-    let name = Piece::plain(alloc, chars(alloc, name.as_str()).expect(rt, "a name"));
+    let name = plain(alloc, name.as_str()).expect(rt, "a name");
     let mut args = Values::new(alloc);
     args.push(Value::Str(name)).expect(rt, "room");
     fault_of(reply(editor, prim, &args).expect(rt, "a reply"))

@@ -3,12 +3,11 @@
 use super::playing::{Call, check_calls, is_said, make};
 use super::shown::shown;
 use super::words::Word::*;
-use super::words::{READ_ONLY, Word, arguments, chars};
+use super::words::{READ_ONLY, Word, arguments, plain};
 use buffer_table::Editor;
 use editor_prims::{prepare, prepare_output};
 use ek_call::Prim;
 use ek_call::Prim::*;
-use ek_types::Piece;
 use std::alloc::Global;
 use std::process::Abort;
 
@@ -129,7 +128,7 @@ const OUTPUTS: [Output; 8] = [
 /// The two letters are put in at the mark.
 fn put_out(rt: &impl Abort, editor: &mut Editor) {
     let alloc = editor.allocator();
-    let text = Piece::plain(alloc, chars(alloc, "xy").expect(rt, "letters"));
+    let text = plain(alloc, "xy").expect(rt, "letters");
     let prepared = prepare_output(editor, 0, 0, text);
     make(editor, prepared).expect(rt, "a commit");
 }

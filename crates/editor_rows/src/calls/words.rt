@@ -78,7 +78,7 @@ pub fn chars(alloc: Global, text: &str) -> Mem<Chars> {
 
 /// A string without properties.
 pub fn plain(alloc: Global, text: &str) -> Mem<Piece> {
-    Ok(Piece::plain(alloc, chars(alloc, text)?))
+    Piece::plain(alloc, chars(alloc, text)?)
 }
 
 fn put_symbols(names: &mut SymList, words: &[Word]) -> Mem<()> {

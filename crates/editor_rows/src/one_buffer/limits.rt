@@ -47,8 +47,8 @@ fn one_record_beyond_the_limit_drops_the_oldest_group(rt: HostRuntime) {
     scene.release();
 }
 
-/// Deletions of so many characters each, a boundary between any two, and how many records are left at the end: there are two
-/// for the insertion, a boundary and one for each deletion at the start of the text, with point there.
+/// Deletions of so many characters each, a boundary between any two, and how many records are left at the end: there
+/// are two for the insertion, a boundary and one for each deletion at the start of the text, with point there.
 struct Deletions {
     counts: &'static [usize],
     left: usize,

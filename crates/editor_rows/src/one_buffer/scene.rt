@@ -38,7 +38,7 @@ pub fn letters(rt: &impl Abort, alloc: Global, count: usize) -> Piece {
     for _ in 0..count {
         chars.push(Ch::Scalar('x')).expect(rt, "a letter");
     }
-    Piece::plain(alloc, chars)
+    Piece::plain(alloc, chars).expect(rt, "a piece")
 }
 
 /// A text without properties.
@@ -47,7 +47,7 @@ pub fn plain(rt: &impl Abort, alloc: Global, text: &str) -> Piece {
     for c in text.chars() {
         chars.push(Ch::Scalar(c)).expect(rt, "a character");
     }
-    Piece::plain(alloc, chars)
+    Piece::plain(alloc, chars).expect(rt, "a piece")
 }
 
 /// Writes a character, and its face if it has one.

@@ -8,4 +8,4 @@ use Rattle.kernel_top.proofs.drill_script.string.Goals as goal
 pub returns : goal.returns
 returns c =
     let all = c.in_ok-extend_bytes.ensures.ok ∙ ap (λ l. l ++ map Scalar c.args.bytes.now) c.new-text.ensures in
-    ap Const (text_is c.plain.result ∙ ap Str (c.plain.ensures ∙ ap bare all ∙ bare_scalars c.args.bytes.now))
+    ap Const (text_is c.in_ok-plain.field-0 ∙ ap Str (c.in_ok-plain.ensures ∙ ap bare all ∙ bare_scalars c.args.bytes.now))

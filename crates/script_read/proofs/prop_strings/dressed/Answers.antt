@@ -4,7 +4,7 @@ use Rattle.script_read.proofs.Dressing.{undressed, unfit_next, put_next, all_put
 use Rattle.script_read.proofs.prop_strings.dressed.Goals as goal
 
 pub triples-init : goal.triples-init
-triples-init c = rw c.plain-text.ensures (undressed c.args.chars.items (map run_of c.args.runs.now))
+triples-init c = rw c.in_ok-text.ensures (undressed c.args.chars.items (map run_of c.args.runs.now))
 
 pub returns-then-not-stands : goal.returns-then-not-stands
 returns-then-not-stands c =

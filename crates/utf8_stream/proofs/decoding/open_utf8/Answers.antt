@@ -1,21 +1,22 @@
-use Rattle.std.proofs.Common.{◌≡◌, ◌-◌, ◌++◌, ◌∷◌, ◌∙◌, ap, sym, suc, length, take, drop, arith}
-use Rattle.text_model.specs.Characters.{Scalar}
-use Rattle.text_model.specs.Decoding.{characters}
-use Rattle.utf8_stream.proofs.Steps.{cut_length, put_first, whole_first, whole_rest}
+use Rattle.std.proofs.Common.{◌∙◌, arith}
+use Rattle.utf8_stream.proofs.Blocks.{decodes_all, then_decodes}
 use Rattle.utf8_stream.proofs.decoding.open_utf8.Goals as goal
 
-pub loop-c-preserved-in-Whole : goal.loop-c-preserved-in-Whole
-loop-c-preserved-in-Whole c =
-    let x = c.loop-c.rest.now in
-    let n = c.in-Whole.count in
-    let read = c.in-Whole.ensures.encodes in
-    let y = take (length x - n) (drop n x) in
-    let first : characters x ≡ Scalar c.in-Whole.c ∷ characters y = whole_first x n c.in-Whole.c c.in-Whole.ensures.front read.0 read.1 read.2 in
-    let count : length (characters x) ≡ suc (length (characters y)) = ap length first in
-    let shorter : length y ≡ length x - n = cut_length n x in
-    record {
-      items = put_first c.loop-c.out.items (Scalar c.in-Whole.c) c.push_spare.new.self.items (characters y) c.push_spare.ensures.items ∙ ap (λ cs. c.loop-c.out.items ++ cs) (sym first) ∙ c.loop-c.invariant.items;
-      spare = omega (arith, count, c.push_spare.ensures.spare);
-      room = omega (arith, shorter, c.push_spare.ensures.spare, read.1, read.2);
-      tail = sym (whole_rest x n c.in-Whole.ensures.front read.1 read.2) ∙ c.loop-c.invariant.tail;
-    }
+pub loop-rest-preserved : goal.loop-rest-preserved
+loop-rest-preserved c =
+    let few = c.put_few-ends in
+    let ascii = c.put_ascii-rest in
+    then_decodes c.args.out.now ascii.new.out few.new.out c.args.bytes.now ascii.result.now few.result.0.now
+    (then_decodes c.args.out.now c.loop-rest.out ascii.new.out c.args.bytes.now c.loop-rest.rest.now ascii.result.now c.loop-rest.invariant ascii.ensures) few.ensures.decodes
+
+pub returns-then-ends-clause-items : goal.returns-then-ends-clause-items
+returns-then-ends-clause-items c =
+    let few = c.put_few-ends in
+    let all = decodes_all c.put_ascii-rest.new.out few.new.out c.put_ascii-rest.result.now few.result.0.now few.ensures.decodes (few.ensures.closed c.if-ends.true) in
+    all.0 ∙ c.put_ascii-rest.ensures.items ∙ c.loop-rest.invariant.items
+
+pub returns-then-ends-clause-spare : goal.returns-then-ends-clause-spare
+returns-then-ends-clause-spare c =
+    let few = c.put_few-ends in
+    let all = decodes_all c.put_ascii-rest.new.out few.new.out c.put_ascii-rest.result.now few.result.0.now few.ensures.decodes (few.ensures.closed c.if-ends.true) in
+    omega (arith, all.1, c.put_ascii-rest.ensures.spare, c.loop-rest.invariant.spare)
