@@ -119,7 +119,7 @@ fn with_value(set: PropSet, pair: &Pair) -> Mem<PropSet>
 {
     match &pair.value {
         Some(value) => set.with(pair.name, value),
-        None => set.without(pair.name),
+        None => Ok(set.without(pair.name)),
     }
 }
 

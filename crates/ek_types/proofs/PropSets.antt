@@ -1,8 +1,10 @@
 -- A property set before and after one property is given or taken away.
-use Rattle.std.proofs.Common.{◌≡◌, ◌≢◌, ℕ, zero, suc, ◌+◌, ◌≤◌, ◌<◌, Bool, true, false, List, [], ◌∷◌, ◌++◌, length, map, take, drop, get_or, refl, ap, sym, ◌∙◌, append_assoc, arith}
+use Rattle.std.proofs.Common.{◌≡◌, ◌≢◌, ℕ, zero, suc, ◌+◌, ◌≤◌, ◌<◌, Bool, true, false, List, [], ◌∷◌, ◌++◌, length, map, take, drop, get_or, refl, ap, sym, ◌∙◌, arith}
 use Rattle.std.specs.Prelude.{if◌then◌else◌, ◌==◌, not, nat_lt, is_none}
-use Rattle.std.specs.List.{prefix_len}
-use Rattle.std.proofs.lemmas.List.{map-append, take-map, drop-map}
+use Rattle.std.specs.List.{prefix_len, insert, remove}
+use Rattle.std.specs.List.Sorted.{IsNonDecreasingBy}
+use Rattle.std.proofs.lemmas.List.{map-append, take-map, drop-map, take-append-drop, length-map, length-take-le}
+use Rattle.std.proofs.Math.Seq.{take-append_seam, drop-append_seam}
 use Rattle.std.proofs.lemmas.Bool.{eqb-true, eqb-false, eq-eqb, ne_eqb, ltb-true, ltb-false}
 use Rattle.text_model.specs.Properties.{PropVal, Symbols, PropSet, without, with_value, given}
 use Rattle.text_model.specs.Ordered.{Rising, IsValue, HasValues, IsProper}
@@ -113,17 +115,54 @@ value_where (Symbols []) h = cc
 value_where (Symbols (n ∷ names)) h = tt
 value_where (PropVal.Text text) h = tt
 
--- MADE IN PIECES
-pub without_made : {T : Type 0} (f : T → ℕ × PropVal) (xs first second : List T) (at rest name : ℕ) → IsProper (map f xs) → at ≡ prefix_len (λ p. is_before name (f p)) xs
-    → drop rest (map f xs) ≡ without_first name (drop at (map f xs)) → map f first ≡ map f (take at xs) → map f second ≡ map f first ++ map f (drop rest xs) → map f second ≡ without (map f xs) name
-without_made f xs first second at rest name h place behind e k =
-    let front : at ≡ prefix_len (is_before name) (map f xs) = place ∙ sym (prefix_len-map f (is_before name) xs) in
-    k ∙ ap (λ s. s ++ map f (drop rest xs)) (e ∙ sym (take-map f at xs)) ∙ ap (λ s. take at (map f xs) ++ s) (sym (drop-map f rest xs) ∙ behind) ∙ rw front (sym (without-parts 0 (map f xs) name h.ordered))
+-- TAKEN OUT AND PUT IN
+abbrev at_front : (name : ℕ) → ℕ → PropSet → PropSet
+at_front name i set = take i set ++ without_first name (drop i set)
 
-pub with_made : {T : Type 0} (f : T → ℕ × PropVal) (xs first second : List T) (x : T) (at rest : ℕ) → IsProper (map f xs) → at ≡ prefix_len (λ p. is_before (f x).0 (f p)) xs
-    → drop rest (map f xs) ≡ without_first (f x).0 (drop at (map f xs)) → map f first ≡ map f (take at xs) → map f second ≡ map f (first ++ x ∷ []) ++ map f (drop rest xs) → map f second ≡ with_value (map f xs) (f x).0 (f x).1
-with_made f xs first second x at rest h place behind e k =
+pub taken_found : {T : Type 0} (f : T → ℕ × PropVal) (xs : List T) (i : ℕ) (d : T) (name : ℕ) → i < length xs → (f (get_or xs i d)).0 ≡ name
+    → map f (remove xs i) ≡ at_front name i (map f xs)
+taken_found f xs i d name h e =
+    let next : suc i ≡ i + 1 = omega arith in
+    let found : drop (suc i) (map f xs) ≡ without_first name (drop i (map f xs)) = rw next (drop_found f xs i d name h e) in
+    map-append f (take i xs) (drop (suc i) xs) ∙ ap (λ s. s ++ map f (drop (suc i) xs)) (sym (take-map f i xs)) ∙ ap (λ s. take i (map f xs) ++ s) (sym (drop-map f (suc i) xs) ∙ found)
+
+pub taken_other : {T : Type 0} (f : T → ℕ × PropVal) (xs : List T) (i name : ℕ) → drop i (map f xs) ≡ without_first name (drop i (map f xs))
+    → map f xs ≡ at_front name i (map f xs)
+taken_other f xs i name e = sym (take-append-drop i (map f xs)) ∙ ap (λ s. take i (map f xs) ++ s) e
+
+pub without_made : {T : Type 0} (f : T → ℕ × PropVal) (xs ys : List T) (at name : ℕ) → IsProper (map f xs) → at ≡ prefix_len (λ p. is_before name (f p)) xs
+    → map f ys ≡ at_front name at (map f xs) → map f ys ≡ without (map f xs) name
+without_made f xs ys at name h place e =
+    let front : at ≡ prefix_len (is_before name) (map f xs) = place ∙ sym (prefix_len-map f (is_before name) xs) in
+    e ∙ rw front (sym (without-parts 0 (map f xs) name h.ordered))
+
+put_in : (first second : PropSet) (i : ℕ) (p : ℕ × PropVal) → length first ≡ i → insert (first ++ second) i p ≡ first ++ p ∷ second
+put_in first second i p e =
+    let front : take i (first ++ second) ≡ first = rw (← e) (take-append_seam first second) in
+    let rest : drop i (first ++ second) ≡ second = rw (← e) (drop-append_seam first second) in
+    ap (λ s. s ++ p ∷ drop i (first ++ second)) front ∙ ap (λ s. first ++ p ∷ s) rest
+
+insert-map : {T : Type 0} (f : T → ℕ × PropVal) (xs : List T) (i : ℕ) (x : T) → map f (insert xs i x) ≡ insert (map f xs) i (f x)
+insert-map f xs i x =
+    map-append f (take i xs) (x ∷ drop i xs) ∙ ap (λ s. s ++ f x ∷ map f (drop i xs)) (sym (take-map f i xs)) ∙ ap (λ s. take i (map f xs) ++ f x ∷ s) (sym (drop-map f i xs))
+
+pub with_made : {T : Type 0} (f : T → ℕ × PropVal) (xs ys : List T) (x : T) (at : ℕ) → IsProper (map f xs) → at ≡ prefix_len (λ p. is_before (f x).0 (f p)) xs → at ≤ length xs
+    → map f ys ≡ at_front (f x).0 at (map f xs) → map f (insert ys at x) ≡ with_value (map f xs) (f x).0 (f x).1
+with_made f xs ys x at h place within e =
     let front : at ≡ prefix_len (is_before (f x).0) (map f xs) = place ∙ sym (prefix_len-map f (is_before (f x).0) xs) in
-    let pieces : map f (first ++ x ∷ []) ≡ take at (map f xs) ++ f x ∷ [] = map-append f first (x ∷ []) ∙ ap (λ s. s ++ f x ∷ []) (e ∙ sym (take-map f at xs)) in
-    k ∙ ap (λ s. s ++ map f (drop rest xs)) pieces ∙ append_assoc (take at (map f xs)) (f x ∷ []) (map f (drop rest xs)) ∙ ap (λ s. take at (map f xs) ++ (f x ∷ s)) (sym (drop-map f rest xs) ∙ behind)
+    let size : length (take at (map f xs)) ≡ at = length-take-le at (map f xs) (rw (length-map xs f) within) in
+    insert-map f ys at x ∙ ap (λ s. insert s at (f x)) e ∙ put_in (take at (map f xs)) (without_first (f x).0 (drop at (map f xs))) at (f x) size
     ∙ rw front (sym (with_value-parts 0 (map f xs) (f x).0 (f x).1 h.ordered))
+
+-- BY RISING NAME
+above : {T : Type 0} (f : T → ℕ × PropVal) (low : ℕ) (xs : List T) (j : ℕ) (d : T) → Rising low (map f xs) → j < length xs → low ≤ (f (get_or xs j d)).0
+above f low [] j d h l = absurd (omega arith)
+above f low (x ∷ xs) zero d h l = h.0
+above f low (x ∷ xs) (suc j) d h l = let first = h.0 in let later = above f ((f x).0 + 1) xs j d h.1 (omega arith) in omega arith
+
+pub names_rise : {T : Type 0} (f : T → ℕ × PropVal) (low : ℕ) (xs : List T) → Rising low (map f xs) → IsNonDecreasingBy (λ x. (f x).0) xs
+names_rise f low [] h i j d k l = absurd (omega arith)
+names_rise f low (x ∷ xs) h zero zero d k l = omega arith
+names_rise f low (x ∷ xs) h zero (suc j) d k l = let later = above f ((f x).0 + 1) xs j d h.1 (omega arith) in omega arith
+names_rise f low (x ∷ xs) h (suc i) zero d k l = absurd (omega arith)
+names_rise f low (x ∷ xs) h (suc i) (suc j) d k l = names_rise f ((f x).0 + 1) xs h.1 i j d (omega arith) (omega arith)

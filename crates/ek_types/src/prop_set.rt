@@ -1,5 +1,5 @@
 //! Property sets.
-ghost use Rattle.std.specs.Prelude.{◌≡◌, [], ◌++◌, IfOk, OnOk, option_map, length, map, drop};
+ghost use Rattle.std.specs.Prelude.{◌≡◌, [], ◌++◌, IfOk, OnOk, option_map, length, map, take, drop};
 ghost use Rattle.std.specs.Prelude.{slice_get, Some, ◌<◌, ◌≤◌};
 ghost use Rattle.std.specs.List.{prefix_len};
 ghost use Rattle.text_model.specs.Properties.{get, put, with_value, without, given};
@@ -47,54 +47,49 @@ fn add_copies(pairs: &mut Vec<Pair>, from: &[Pair]) -> Mem<()>
     Ok(())
 }
 
-/// How many names at the front are smaller.
+/// How many names are smaller, which is the place of this one.
 fn place(pairs: &[Pair], name: Sym) -> usize
+    requires { IsProper (map pair_of pairs.now) }
     ensures exact { result ≡ prefix_len (λ p. is_before name.0 (pair_of p)) pairs.now }
     ensures within { result ≤ length pairs.now }
 {
-    pairs.iter().take_while(|pair| pair.0.0 < name.0).count()
+    pairs.partition_point(
+        |pair: &Pair| -> bool
+            ensures { result ≡ is_before name.0 (pair_of pair.now) }
+        { pair.0.0 < name.0 },
+    )
 }
 
-/// The place behind the property, where it stands at `at`, and else `at` itself.
-fn behind(pairs: &[Pair], at: usize, name: Sym) -> usize
-    requires { at ≤ length pairs.now }
-    ensures exact { drop result (map pair_of pairs.now) ≡
-        without_first name.0 (drop at (map pair_of pairs.now)) }
-    ensures within { result ≤ length pairs.now }
+/// Takes out the pair at a place, where it has this name.
+fn take_at(pairs: &mut Vec<Pair>, at: usize, name: Sym)
+    requires { at ≤ length pairs.old.items }
+    ensures { map pair_of pairs.new.items ≡ take at (map pair_of pairs.old.items) ++
+        without_first name.0 (drop at (map pair_of pairs.old.items)) }
 {
     if at < pairs.len() && pairs[at].0.0 == name.0 {
-        at + 1
-    } else {
-        at
+        pairs.remove(at);
     }
 }
 
-/// The pairs with one given anew.
-fn pairs_with(alloc: Global, pairs: &[Pair], name: Sym, value: &PropVal) -> Mem<Vec<Pair>>
-    requires { IsProper (map pair_of pairs.now) }
-    ensures { IfOk result (λ v. map pair_of v.items ≡
-        with_value (map pair_of pairs.now) name.0 (prop_of value.now)) }
+/// Takes out the pair of a name, if there is one.
+fn take_out(pairs: &mut Vec<Pair>, name: Sym)
+    requires { IsProper (map pair_of pairs.old.items) }
+    ensures { map pair_of pairs.new.items ≡ without (map pair_of pairs.old.items) name.0 }
 {
     let at = place(pairs, name);
-    let rest = behind(pairs, at, name);
-    let mut new = Vec::with_capacity(alloc, pairs.len() + 1)?;
-    add_copies(&mut new, &pairs[..at])?;
-    new.push((name, value.copy()?))?;
-    add_copies(&mut new, &pairs[rest..])?;
-    Ok(new)
+    take_at(pairs, at, name);
 }
 
-/// The pairs without one.
-fn pairs_without(alloc: Global, pairs: &[Pair], name: Sym) -> Mem<Vec<Pair>>
-    requires { IsProper (map pair_of pairs.now) }
-    ensures { IfOk result (λ v. map pair_of v.items ≡ without (map pair_of pairs.now) name.0) }
+/// Puts a pair in, in the place of the one of this name, if there is one.
+fn put_in(pairs: &mut Vec<Pair>, name: Sym, value: PropVal) -> Mem<()>
+    requires { IsProper (map pair_of pairs.old.items) }
+    ensures { OnOk result (map pair_of pairs.new.items ≡
+        with_value (map pair_of pairs.old.items) name.0 (prop_of value)) }
 {
     let at = place(pairs, name);
-    let rest = behind(pairs, at, name);
-    let mut new = Vec::with_capacity(alloc, pairs.len())?;
-    add_copies(&mut new, &pairs[..at])?;
-    add_copies(&mut new, &pairs[rest..])?;
-    Ok(new)
+    take_at(pairs, at, name);
+    pairs.insert(at, (name, value))?;
+    Ok(())
 }
 
 impl PropSet {
@@ -144,23 +139,25 @@ impl PropSet {
         None
     }
 
-    /// The set with the property given anew. Nil takes it away.
-    pub fn with(&self, name: Sym, value: &PropVal) -> Mem<PropSet>
-        ensures { IfOk result (λ set. set ≡ put self.now name.0 (given (prop_of value.now))) }
+    /// The set with the property given anew. Nil takes it away. The set itself is changed, and no other value copied.
+    pub fn with(self, name: Sym, value: &PropVal) -> Mem<PropSet>
+        ensures { IfOk result (λ set. set ≡ put self name.0 (given (prop_of value.now))) }
     {
         if value.is_nil() {
-            return self.without(name);
+            return Ok(self.without(name));
         }
-        let pairs = pairs_with(*self.pairs.allocator(), &self.pairs, name, value)?;
+        let mut pairs = self.pairs;
+        put_in(&mut pairs, name, value.copy()?)?;
         Ok(PropSet { pairs })
     }
 
     /// The set without the property.
-    pub fn without(&self, name: Sym) -> Mem<PropSet>
-        ensures { IfOk result (λ set. set ≡ without self.now name.0) }
+    pub fn without(self, name: Sym) -> PropSet
+        ensures { result ≡ without self name.0 }
     {
-        let pairs = pairs_without(*self.pairs.allocator(), &self.pairs, name)?;
-        Ok(PropSet { pairs })
+        let mut pairs = self.pairs;
+        take_out(&mut pairs, name);
+        PropSet { pairs }
     }
 
     /// The same properties again.

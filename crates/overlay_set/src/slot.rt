@@ -190,8 +190,8 @@ impl Slot {
             (given_of (option_map (λ p. prop_of p.now) v.entry))) }
     {
         match v {
-            Some(value) => self.props.with(name, value),
-            None => self.props.without(name),
+            Some(value) => self.props.copy()?.with(name, value),
+            None => Ok(self.props.copy()?.without(name)),
         }
     }
 

@@ -47,7 +47,7 @@ fn without_all(set: &PropSet, names: &SymList) -> Mem<PropSet>
 {
     let mut left = set.copy()?;
     for i in 0..names.len() {
-        left = left.without(*names.at(i))?;
+        left = left.without(*names.at(i));
     }
     Ok(left)
 }

@@ -1,4 +1,3 @@
-use Rattle.std.proofs.Common.{sym}
 use Rattle.ek_types.proofs.Pieces.{firsts-zip, enough_sets}
 use Rattle.ek_types.proofs.content.Content.shared_text.Goals as goal
 

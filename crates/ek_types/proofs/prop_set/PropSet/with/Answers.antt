@@ -5,4 +5,4 @@ use Rattle.ek_types.proofs.prop_set.PropSet.with.Goals as goal
 
 pub invariant_of-result : goal.invariant_of-result
 invariant_of-result c =
-    rw (c.in_ok-pairs.ensures, c.deref.ensures.value) (proper-with_value _ _ _ (value_where (prop_of c.args.value.now) (sym c.is_nil.ensures ∙ c.if-is_nil.false)) c.self.invariant)
+    rw (c.in_ok-put_in.ensures, c.in_ok-copy.ensures) (proper-with_value _ _ _ (value_where (prop_of c.args.value.now) (sym c.is_nil.ensures ∙ c.if-is_nil.false)) c.self.invariant)

@@ -2,4 +2,4 @@ use Rattle.ek_types.proofs.PropSets.{proper-without}
 use Rattle.ek_types.proofs.prop_set.PropSet.without.Goals as goal
 
 pub invariant_of-result : goal.invariant_of-result
-invariant_of-result c = rw (c.in_ok-pairs.ensures, c.deref.ensures.value) (proper-without _ _ c.self.invariant)
+invariant_of-result c = rw c.take_out.ensures (proper-without _ _ c.self.invariant)
