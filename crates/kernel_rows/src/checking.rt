@@ -1,9 +1,11 @@
 //! Claimed lines that are checked.
 
+use super::comparing::{ends_with, holds_for, is_refused};
 use super::playing::{PLAIN, Ran, Run, Setting, TO_RECORD, check_ran, plays, run_words};
 use super::recording::SCRIPT;
 use super::replaying::LINES;
 use super::runs;
+use super::texts::push;
 use kernel_top::Status;
 use std::alloc::Global;
 use std::process::Abort;
@@ -25,16 +27,16 @@ end 0 -> code 0
 fn transcript(rt: &impl Abort, alloc: Global, journal: &str, lines: &str, script: &str) -> String {
     let mut text = String::from_str(alloc, journal).expect(rt, "memory");
     write!(text, "lines {}\n", lines.len()).expect(rt, "memory");
-    text.push_str(lines).expect(rt, "memory");
-    text.push_str("script\n").expect(rt, "memory");
-    text.push_str(script).expect(rt, "memory");
+    push(rt, &mut text, lines);
+    push(rt, &mut text, "script\n");
+    push(rt, &mut text, script);
     text
 }
 
 #[test]
 fn the_lines_of_the_run_are_claimed(rt: HostRuntime) {
     let text = transcript(&rt, rt.alloc(), JOURNAL, LINES, SCRIPT);
-    assert!(&rt; text.as_str().contains("\nlines 283\n"));
+    holds_for(&rt, "a size", text.as_str().contains("\nlines 283\n"));
     let ran = check(&rt, rt.alloc(), text.as_str(), PLAIN);
     check_ran(&rt, rt.alloc(), "a check", &ran, "yes\n", b"");
 }
@@ -148,16 +150,10 @@ text \"ê\"
 ];
 
 /// Nothing is written and nothing asked where the lines aren't those of the run.
-fn is_refused(rt: &impl Abort, ran: &Ran, status: Status, shows: &str) {
-    assert_eq!(rt; ran.status, status, "{shows}");
-    assert_eq!(rt; ran.written.len(), 0, "{shows}");
-    assert_eq!(rt; ran.exchanges.len(), 0, "{shows}");
-}
-
 fn are_refused(rt: &impl Abort, alloc: Global, row: &Refused) {
     let text = transcript(rt, alloc, row.journal, row.lines, row.script);
     let ran = check(rt, alloc, text.as_str(), PLAIN);
-    is_refused(rt, &ran, row.status, row.shows);
+    is_refused(rt, row.shows, &ran, row.status);
 }
 
 #[test]
@@ -170,7 +166,7 @@ fn other_lines_are_refused(rt: HostRuntime) {
 /// A text that is no transcript, and the line of its fault.
 fn is_none(rt: &impl Abort, alloc: Global, text: &str, line: u32) {
     let ran = check(rt, alloc, text, PLAIN);
-    is_refused(rt, &ran, Status::Journal(line), "no transcript");
+    is_refused(rt, "no transcript", &ran, Status::Journal(line));
 }
 
 #[test]
@@ -186,8 +182,7 @@ fn is_cut(rt: &impl Abort, alloc: Global, room: usize) {
     let text = transcript(rt, alloc, JOURNAL, LINES, SCRIPT);
     let ran = check(rt, alloc, text.as_str(), Setting { room, ..PLAIN });
     let front = b"yes\n".get(..room).expect(rt, "a front");
-    assert_eq!(rt; ran.status, Status::WriteFault);
-    assert_eq!(rt; ran.written.as_slice(), front);
+    ends_with(rt, "a full sink", &ran, Status::WriteFault, front);
 }
 
 #[test]

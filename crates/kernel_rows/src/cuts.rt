@@ -2,6 +2,7 @@
 //! text, and the buffer gets the same.
 
 use super::playing::{Child, check_run, one_child, plays};
+use super::texts::push;
 use host_link::Ended;
 use std::alloc::Global;
 use std::process::Abort;
@@ -158,9 +159,7 @@ fn waits(rt: &impl Abort, alloc: Global, count: usize) -> String {
         rt, "memory",
     );
     for _ in 0..count {
-        script
-            .push_str("(accept-process-output)")
-            .expect(rt, "memory");
+        push(rt, &mut script, "(accept-process-output)");
     }
     script
 }
@@ -175,7 +174,7 @@ fn push_heard(rt: &impl Abort, lines: &mut String, process: &str, heard: &[&str]
             )
             .expect(rt, "memory");
         }
-        lines.push_str("= t\n").expect(rt, "memory");
+        push(rt, lines, "= t\n");
     }
 }
 
@@ -202,9 +201,7 @@ fn push_reads(rt: &impl Abort, exchanges: &mut String, reads: &[&[u8]]) {
 fn exchanges(rt: &impl Abort, alloc: Global, reads: &[&[u8]]) -> String {
     let mut exchanges = String::from_str(alloc, "spawn cat: started 0\n").expect(rt, "memory");
     push_reads(rt, &mut exchanges, reads);
-    exchanges
-        .push_str("read 0: end\nend 0: code 0\n")
-        .expect(rt, "memory");
+    push(rt, &mut exchanges, "read 0: end\nend 0: code 0\n");
     exchanges
 }
 
@@ -213,7 +210,7 @@ fn check_cut(rt: &impl Abort, alloc: Global, script: &str, cut: &Cut) {
     let (front, back) = OUTPUT.split_at(cut.at.min(OUTPUT.len()));
     let reads = [front, back];
     let mut want = lines(rt, alloc, &[cut.first, cut.second]);
-    want.push_str(ENDING).expect(rt, "memory");
+    push(rt, &mut want, ENDING);
     check_run(
         rt,
         alloc,
@@ -237,7 +234,7 @@ fn two_pieces_enter_the_same_text(rt: HostRuntime) {
 fn one_byte_a_read_enters_the_same_text(rt: HostRuntime) {
     let script = waits(&rt, rt.alloc(), 21);
     let mut want = lines(&rt, rt.alloc(), &BYTE_BY_BYTE);
-    want.push_str(ENDING).expect(&rt, "memory");
+    push(&rt, &mut want, ENDING);
     let mut reads = Vec::new(rt.alloc());
     for piece in OUTPUT.chunks(1) {
         reads.push(piece).expect(&rt, "memory");
@@ -366,7 +363,7 @@ fn sorting(rt: &impl Abort, alloc: Global, pieces: usize) -> String {
 fn sorted(rt: &impl Abort, alloc: Global, texts: &[&str]) -> String {
     let mut lines = String::from_str(alloc, "= #<process sorted>\n= s\n").expect(rt, "memory");
     push_heard(rt, &mut lines, "sorted", texts);
-    lines.push_str(SORTED).expect(rt, "memory");
+    push(rt, &mut lines, SORTED);
     lines
 }
 
@@ -374,9 +371,7 @@ fn sorted(rt: &impl Abort, alloc: Global, texts: &[&str]) -> String {
 fn sort_asked(rt: &impl Abort, alloc: Global, reads: &[&[u8]]) -> String {
     let mut exchanges = String::from_str(alloc, "spawn sort: started 0\n").expect(rt, "memory");
     push_reads(rt, &mut exchanges, reads);
-    exchanges
-        .push_str("read 0: end\nend 0: code 3\n")
-        .expect(rt, "memory");
+    push(rt, &mut exchanges, "read 0: end\nend 0: code 3\n");
     exchanges
 }
 

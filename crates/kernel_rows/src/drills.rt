@@ -1,5 +1,6 @@
 //! Drills.
 
+use super::comparing::ends_with;
 use super::playing::{PLAIN, Ran, Setting, run_over, run_words};
 use handler_code::NoNatives;
 use kernel_top::{Status, drill};
@@ -37,15 +38,14 @@ fn run_drill(rt: &impl Abort, alloc: Global, word: &str, lines: u32, setting: Se
     run_over(rt, alloc, &["drill", word], "(", host, setting, &NoNatives)
 }
 
-/// How a run ended, and what it wrote.
-fn ends_with(rt: &impl Abort, ran: &Ran, status: Status, written: &str) {
-    assert_eq!(rt; ran.status, status, "{written}");
-    assert_eq!(rt; ran.written.as_slice(), written.as_bytes(), "{written}");
+/// How a drill ended, and what it wrote.
+fn sums_up(rt: &impl Abort, ran: &Ran, status: Status, written: &str) {
+    ends_with(rt, written, ran, status, written.as_bytes());
 }
 
 fn check_row(rt: &impl Abort, alloc: Global, row: &Row) {
     let ran = run_drill(rt, alloc, row.word, row.lines, PLAIN);
-    ends_with(rt, &ran, Status::Done, row.summary);
+    sums_up(rt, &ran, Status::Done, row.summary);
 }
 
 /// The source isn't read: its bytes are no script.
@@ -67,7 +67,7 @@ fn a_drill_without_a_child_counts_its_faults(rt: HostRuntime) {
         Vec::new(rt.alloc()),
         PLAIN,
     );
-    ends_with(
+    sums_up(
         &rt,
         &ran,
         Status::Done,
@@ -79,14 +79,14 @@ fn a_drill_without_a_child_counts_its_faults(rt: HostRuntime) {
 fn a_summary_is_cut_where_the_sink_is_full(rt: HostRuntime) {
     let full = Setting { room: 11, ..PLAIN };
     let ran = run_drill(&rt, rt.alloc(), "1", 1, full);
-    ends_with(&rt, &ran, Status::WriteFault, "drill 1: 37");
+    sums_up(&rt, &ran, Status::WriteFault, "drill 1: 37");
 }
 
 /// 78,882 bytes in 19,722 reads. Eight hold but the first byte of a character, so there are 19,714 entries of 11 lines.
 #[test]
 fn the_largest_drill_writes_its_summary(rt: HostRuntime) {
     let ran = run_drill(&rt, rt.alloc(), "9999", 9999, PLAIN);
-    ends_with(
+    sums_up(
         &rt,
         &ran,
         Status::Done,

@@ -1,6 +1,7 @@
 //! Children whose output goes to filters.
 
 use super::playing::{Child, Row, UNREAD, check_run, one_child};
+use super::texts::push;
 use std::alloc::Global;
 use std::process::Abort;
 
@@ -218,39 +219,39 @@ text ""
 /// How deep handlers may be nested.
 const NESTING_BOUND: usize = 16;
 
+/// A line inside so many handlers.
+fn push_line(rt: &impl Abort, alloc: Global, lines: &mut String, depth: usize, line: &str) {
+    let indent = "  ".repeat(alloc, depth).expect(rt, "memory");
+    write!(lines, "{indent}{line}\n").expect(rt, "memory");
+}
+
 /// The lines of a filter that waits in each of its entries, as often as it may.
 fn nested(rt: &impl Abort, alloc: Global) -> String {
     let mut lines = String::from_str(alloc, "= #<process c>\n= f\n").expect(rt, "memory");
     for depth in 0..NESTING_BOUND {
-        lines
-            .push_str("  ".repeat(alloc, depth).expect(rt, "memory").as_str())
-            .expect(rt, "memory");
-        lines
-            .push_str("> filter f #<process c> \"a\"\n")
-            .expect(rt, "memory");
+        push_line(
+            rt,
+            alloc,
+            &mut lines,
+            depth,
+            "> filter f #<process c> \"a\"",
+        );
     }
-    lines
-        .push_str(
-            "  ".repeat(alloc, NESTING_BOUND)
-                .expect(rt, "memory")
-                .as_str(),
-        )
-        .expect(rt, "memory");
-    lines.push_str("! 13 nesting\n").expect(rt, "memory");
+    push_line(rt, alloc, &mut lines, NESTING_BOUND, "! 13 nesting");
     for depth in (0..NESTING_BOUND).rev() {
-        let indent = "  ".repeat(alloc, depth).expect(rt, "memory");
-        write!(lines, "{indent}< f\n{indent}= t\n").expect(rt, "memory");
+        push_line(rt, alloc, &mut lines, depth, "< f");
+        push_line(rt, alloc, &mut lines, depth, "= t");
     }
-    lines
-        .push_str(
-            r#"kill #<process c>
+    push(
+        rt,
+        &mut lines,
+        r#"kill #<process c>
 buffer *scratch* point 1 min 1 max 1 modified nil current
 text ""
 marker 0 #<marker in no buffer>
 process 0 #<process c> run 0
 "#,
-        )
-        .expect(rt, "memory");
+    );
     lines
 }
 

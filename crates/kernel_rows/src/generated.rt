@@ -1,7 +1,9 @@
 //! Scripts put together by numbers: what the one machine writes and asks is claimed of the other.
 
 use super::checking::is_claimed;
+use super::comparing::is_for;
 use super::playing::{Child, PLAIN, Run, plays, run_script};
+use super::texts::push;
 use kernel_top::Status;
 use std::alloc::Global;
 use std::process::Abort;
@@ -97,9 +99,8 @@ fn script(rt: &impl Abort, alloc: Global, number: u32) -> String {
     for _ in 0..16 {
         chosen = behind(chosen);
         let form = FORMS.get((chosen >> 16) as usize % FORMS.len());
-        text.push_str(form.expect(rt, "a form"))
-            .expect(rt, "memory");
-        text.push('\n').expect(rt, "memory");
+        push(rt, &mut text, form.expect(rt, "a form"));
+        push(rt, &mut text, "\n");
     }
     text
 }
@@ -108,7 +109,7 @@ fn script(rt: &impl Abort, alloc: Global, number: u32) -> String {
 fn is_same_run(rt: &impl Abort, alloc: Global, number: u32) {
     let text = script(rt, alloc, number);
     let ran = run_script(rt, alloc, text.as_str(), plays(rt, alloc, &CHILDREN), PLAIN);
-    assert_eq!(rt; ran.status, Status::Done, "{}", text.as_str());
+    is_for(rt, text.as_str(), ran.status, Status::Done);
     let lines = String::from_utf8(ran.written).expect(rt, "lines");
     let run = Run {
         shows: "a script of a number",

@@ -1,6 +1,7 @@
 //! Each call of the source, the sink and the host fails in turn, over all runs that are worked out
 //! here.
 
+use super::comparing::{holds_for, is_for, is_refused};
 use super::playing::{
     Calls, Child, PLAIN, Ran, Row, Run, Setting, TO_RUN, UNREAD, check_ran, plays, run_over,
     run_script,
@@ -88,12 +89,10 @@ fn check_stopped(rt: &impl Abort, alloc: Global, shows: &str, whole: &Exchanges,
     let front = same_front(rt, alloc, whole, told);
     let mut kills = told.as_slice().iter().skip(front);
     for child in living(rt, alloc, told, front) {
-        let Some(kill) = kills.next() else {
-            panic!(rt; "a child is left");
-        };
-        assert_eq!(rt; killed(kill), Some(child), "{shows}");
+        let kill = kills.next().expect(rt, "a child is left");
+        is_for(rt, shows, killed(kill), Some(child));
     }
-    assert!(rt; kills.next().is_none(), "{shows}");
+    holds_for(rt, shows, kills.next().is_none());
 }
 
 /// A run whose source fails at a call has written and asked nothing. Says whether it makes that call.
@@ -106,14 +105,8 @@ fn fails_to_read(rt: &impl Abort, alloc: Global, run: &Run, call: u32) -> bool {
     if ran.status == Status::Done {
         return false;
     }
-    has_nothing(rt, run.shows, &ran);
+    is_refused(rt, run.shows, &ran, Status::ReadFault);
     true
-}
-
-fn has_nothing(rt: &impl Abort, shows: &str, ran: &Ran) {
-    assert_eq!(rt; ran.status, Status::ReadFault, "{shows}");
-    assert_eq!(rt; ran.written.len(), 0, "{shows}");
-    assert_eq!(rt; ran.told.len(), 0, "{shows}");
 }
 
 #[test]
@@ -146,9 +139,9 @@ fn fails_to_write(rt: &impl Abort, alloc: Global, run: &Run, whole: &Exchanges, 
 fn has_a_front(rt: &impl Abort, run: &Run, ran: &Ran) {
     let lines = run.lines.as_bytes();
     let is_front = lines.starts_with(ran.written.as_slice());
-    assert_eq!(rt; ran.status, Status::WriteFault, "{}", run.shows);
-    assert!(rt; is_front, "{}", run.shows);
-    assert!(rt; ran.written.len() < lines.len(), "{}", run.shows);
+    is_for(rt, run.shows, ran.status, Status::WriteFault);
+    holds_for(rt, run.shows, is_front);
+    holds_for(rt, run.shows, ran.written.len() < lines.len());
 }
 
 #[test]
@@ -177,28 +170,22 @@ fn is_fault(answer: &Answer) -> bool {
 fn goes_on(rt: &impl Abort, alloc: Global, shows: &str, whole: &Exchanges, ran: &Ran, call: usize) {
     let same = same_front(rt, alloc, whole, &ran.told);
     let living = living(rt, alloc, &ran.told, ran.told.len()).len();
-    assert_eq!(rt; ran.status, Status::Done, "{shows}");
-    assert!(rt; same >= call, "{shows}");
-    assert_eq!(rt; living, 0, "{shows}");
+    is_for(rt, shows, ran.status, Status::Done);
+    holds_for(rt, shows, same >= call);
+    is_for(rt, shows, living, 0);
 }
 
 /// The answer of the call that fails tells of a fault, but for a close.
 fn tells_of_a_fault(rt: &impl Abort, shows: &str, asked: &Exchange, ran: &Ran, call: usize) {
-    let Some(failed) = ran.told.as_slice().get(call) else {
-        panic!(rt; "the call isn't made");
-    };
-    assert!(rt; is_fault(&failed.answer) != is_close(asked), "{shows}");
+    let failed = ran.told.as_slice().get(call);
+    let failed = failed.expect(rt, "the call isn't made");
+    holds_for(rt, shows, is_fault(&failed.answer) != is_close(asked));
 }
 
 /// A kill that fails changes no line, and a close can't fail.
 fn keeps_its_lines(rt: &impl Abort, run: &Run, asked: &Exchange, ran: &Ran) {
     if is_close(asked) || killed(asked).is_some() {
-        assert_eq!(rt;
-            ran.written.as_slice(),
-            run.lines.as_bytes(),
-            "{}",
-            run.shows
-        );
+        is_for(rt, run.shows, ran.written.as_slice(), run.lines.as_bytes());
     }
 }
 

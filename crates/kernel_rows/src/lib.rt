@@ -8,6 +8,8 @@ mod checking;
 #[cfg(test)]
 mod codings;
 #[cfg(test)]
+mod comparing;
+#[cfg(test)]
 mod cuts;
 #[cfg(test)]
 mod drills;
@@ -45,6 +47,8 @@ mod sessions;
 mod shown;
 #[cfg(test)]
 mod stops;
+#[cfg(test)]
+mod texts;
 #[cfg(test)]
 mod undos;
 #[cfg(test)]

@@ -1,6 +1,7 @@
 //! A run that comes to a limit.
 
 use super::playing::{check_run, one_child};
+use super::texts::push;
 use std::alloc::Global;
 use std::process::Abort;
 
@@ -18,9 +19,9 @@ fn repeated(
 ) -> String {
     let mut text = String::from_str(alloc, first).expect(rt, "memory");
     for _ in 0..count {
-        text.push_str(part).expect(rt, "memory");
+        push(rt, &mut text, part);
     }
-    text.push_str(last).expect(rt, "memory");
+    push(rt, &mut text, last);
     text
 }
 

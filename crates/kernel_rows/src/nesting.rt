@@ -7,6 +7,7 @@
 //! answer nil.
 
 use super::playing::{Child, Run, UNREAD};
+use super::texts::push;
 use std::alloc::Global;
 use std::process::Abort;
 
@@ -246,10 +247,10 @@ impl Nest {
     fn margin(&self, rt: &impl Abort, alloc: Global, round: u8) -> String {
         let mut margin = String::new(alloc);
         for _ in 0..self.depth {
-            margin.push_str("  ").expect(rt, "memory");
+            push(rt, &mut margin, "  ");
         }
         for _ in self.first..round {
-            margin.push_str("      ").expect(rt, "memory");
+            push(rt, &mut margin, "      ");
         }
         margin
     }
@@ -259,13 +260,11 @@ impl Nest {
         for marker in 0..self.markers {
             write!(lines, "marker {marker} #<marker in no buffer>\n").expect(rt, "memory");
         }
-        lines
-            .push_str("process 0 #<process c> run 0\n")
-            .expect(rt, "memory");
+        push(rt, lines, "process 0 #<process c> run 0\n");
         for round in 0..ROUNDS {
             push_processes(rt, alloc, lines, round);
         }
-        lines.push_str(self.processes).expect(rt, "memory");
+        push(rt, lines, self.processes);
     }
 
     fn lines(&self, rt: &impl Abort, alloc: Global) -> String {
@@ -293,7 +292,7 @@ impl Nest {
             );
             killed = "nil";
         }
-        lines.push_str(self.back).expect(rt, "memory");
+        push(rt, &mut lines, self.back);
         self.push_objects(rt, alloc, &mut lines);
         lines
     }
@@ -303,7 +302,7 @@ impl Nest {
         for round in self.first..ROUNDS {
             push_asked(rt, &mut exchanges, round);
         }
-        exchanges.push_str(self.asked_behind).expect(rt, "memory");
+        push(rt, &mut exchanges, self.asked_behind);
         exchanges
     }
 

@@ -1,6 +1,7 @@
 //! A run over a source, a sink and a host in memory.
 ghost use Rattle.std.specs.Prelude.{◌≡◌, []};
 
+use super::comparing::is_for;
 use super::shown::shown;
 use ek_types::{Copied, ListOf, MemorySink, MemorySource};
 use handler_code::{Natives, NoNatives};
@@ -198,9 +199,7 @@ pub fn run_over<N: Natives>(
         &mut host,
         natives,
     );
-    let Some(told) = host.told() else {
-        panic!(rt; "the host tells nothing");
-    };
+    let told = host.told().expect(rt, "the host tells nothing");
     Ran {
         status,
         written: sink.bytes().to_vec(alloc).expect(rt, "memory"),
@@ -249,7 +248,7 @@ pub fn run_script(
 /// Compares what a run writes with its lines.
 fn is_written(rt: &impl Abort, alloc: Global, shows: &str, written: &[u8], lines: &str) {
     let written = String::from_utf8_lossy(alloc, written).expect(rt, "memory");
-    assert_eq!(rt; written.as_str(), lines, "{shows}");
+    is_for(rt, shows, written.as_str(), lines);
 }
 
 /// Compares a run that is done with its lines and its exchanges.
@@ -261,9 +260,9 @@ pub fn check_ran(
     lines: &str,
     exchanges: &[u8],
 ) {
-    assert_eq!(rt; ran.status, Status::Done, "{shows}");
+    is_for(rt, shows, ran.status, Status::Done);
     is_written(rt, alloc, shows, ran.written.as_slice(), lines);
-    assert_eq!(rt; ran.exchanges.as_slice(), exchanges, "{shows}");
+    is_for(rt, shows, ran.exchanges.as_slice(), exchanges);
 }
 
 /// Compares the run of a script with its lines and its exchanges.

@@ -1,5 +1,6 @@
 //! Runs that are recorded.
 
+use super::comparing::{comes_to, ends_with};
 use super::playing::{PLAIN, Ran, Setting, TO_RECORD, one_child, run_words};
 use kernel_top::Status;
 use std::alloc::Global;
@@ -25,23 +26,30 @@ fn record(rt: &impl Abort, alloc: Global, script: &str, setting: Setting) -> Ran
     run_words(rt, alloc, &TO_RECORD, script, child, setting)
 }
 
-/// How a recording ended, what it wrote and what it asked.
-fn comes_to(rt: &impl Abort, ran: &Ran, status: Status, written: &[u8], exchanges: &[u8]) {
-    assert_eq!(rt; ran.status, status);
-    assert_eq!(rt; ran.written.as_slice(), written);
-    assert_eq!(rt; ran.exchanges.as_slice(), exchanges);
-}
-
 #[test]
 fn the_session_of_a_run_is_written_and_not_its_lines(rt: HostRuntime) {
     let ran = record(&rt, rt.alloc(), SCRIPT, PLAIN);
-    comes_to(&rt, &ran, Status::Done, SESSION.as_bytes(), EXCHANGES);
+    comes_to(
+        &rt,
+        "a session",
+        &ran,
+        Status::Done,
+        SESSION.as_bytes(),
+        EXCHANGES,
+    );
 }
 
 #[test]
 fn the_empty_script_is_recorded_as_one_line(rt: HostRuntime) {
     let ran = record(&rt, rt.alloc(), "", PLAIN);
-    comes_to(&rt, &ran, Status::Done, b"script\n", b"");
+    comes_to(
+        &rt,
+        "the empty script",
+        &ran,
+        Status::Done,
+        b"script\n",
+        b"",
+    );
 }
 
 const KILLED: &str = "spawn 636174 2d75 - -> started 0
@@ -54,14 +62,13 @@ script
 fn the_kill_of_the_end_is_recorded(rt: HostRuntime) {
     let script = "(start-process \"c\" nil \"cat\" \"-u\" \"\")";
     let ran = record(&rt, rt.alloc(), script, PLAIN);
-    assert_eq!(rt; ran.status, Status::Done);
-    assert_eq!(rt; ran.written.as_slice(), KILLED.as_bytes());
+    ends_with(&rt, "a kill", &ran, Status::Done, KILLED.as_bytes());
 }
 
 #[test]
 fn bytes_that_are_no_script_are_not_recorded(rt: HostRuntime) {
     let ran = record(&rt, rt.alloc(), "(point)\n(goto-char)\n", PLAIN);
-    comes_to(&rt, &ran, Status::Script(2), b"", b"");
+    comes_to(&rt, "no script", &ran, Status::Script(2), b"", b"");
 }
 
 /// A front of the session stands in a sink with so much room. The run was made whole before anything is written, so
@@ -69,7 +76,14 @@ fn bytes_that_are_no_script_are_not_recorded(rt: HostRuntime) {
 fn is_cut(rt: &impl Abort, alloc: Global, room: usize) {
     let ran = record(rt, alloc, SCRIPT, Setting { room, ..PLAIN });
     let front = SESSION.as_bytes().get(..room).expect(rt, "a front");
-    comes_to(rt, &ran, Status::WriteFault, front, EXCHANGES);
+    comes_to(
+        rt,
+        "a full sink",
+        &ran,
+        Status::WriteFault,
+        front,
+        EXCHANGES,
+    );
 }
 
 #[test]

@@ -1,6 +1,7 @@
 //! Handlers that set others, wait, start, delete and kill while they are running themselves.
 
 use super::playing::{Child, Row, UNREAD, check_run, plays};
+use super::texts::push;
 use std::alloc::Global;
 use std::process::Abort;
 
@@ -330,17 +331,17 @@ fn successors(rt: &impl Abort, alloc: Global) -> String {
     for child in 1..CHILDREN {
         push_heard(rt, &mut lines, name(child - 1), name(child));
     }
-    lines
-        .push_str(
-            "> sentinel s #<process c> \"finished\\n\"
+    push(
+        rt,
+        &mut lines,
+        "> sentinel s #<process c> \"finished\\n\"
   ! 12 spawn-failed
 < s
 = nil
 buffer *scratch* point 1 min 1 max 1 modified nil current
 text \"\"
 ",
-        )
-        .expect(rt, "memory");
+    );
     for child in 0..CHILDREN {
         write!(lines, "marker {child} #<marker in no buffer>\n").expect(rt, "memory");
     }
@@ -364,9 +365,7 @@ fn succession(rt: &impl Abort, alloc: Global) -> String {
         )
         .expect(rt, "memory");
     }
-    exchanges
-        .push_str("spawn cat: refused\n")
-        .expect(rt, "memory");
+    push(rt, &mut exchanges, "spawn cat: refused\n");
     exchanges
 }
 

@@ -1,8 +1,10 @@
 //! Sessions that are replayed.
 
+use super::comparing::{ends_with, is_for, is_refused};
 use super::playing::{PLAIN, Ran, Run, Setting, TO_RECORD, check_ran, plays, run_words};
 use super::recording::{SCRIPT, SESSION};
 use super::runs;
+use super::texts::push;
 use kernel_top::Status;
 use std::alloc::Global;
 use std::process::Abort;
@@ -121,19 +123,17 @@ script
 ];
 
 /// A session that is refused writes nothing, and nothing is asked.
-fn is_refused(rt: &impl Abort, alloc: Global, refused: &Refused) {
+fn are_refused(rt: &impl Abort, alloc: Global, refused: &Refused) {
     let mut text = String::from_str(alloc, refused.journal).expect(rt, "memory");
-    text.push_str(refused.script).expect(rt, "memory");
+    push(rt, &mut text, refused.script);
     let ran = replay(rt, alloc, text.as_str(), PLAIN);
-    assert_eq!(rt; ran.status, refused.status, "{}", refused.shows);
-    assert_eq!(rt; ran.written.len(), 0, "{}", refused.shows);
-    assert_eq!(rt; ran.exchanges.len(), 0, "{}", refused.shows);
+    is_refused(rt, refused.shows, &ran, refused.status);
 }
 
 #[test]
 fn what_is_refused_writes_and_asks_nothing(rt: HostRuntime) {
     for refused in &REFUSED {
-        is_refused(&rt, rt.alloc(), refused);
+        are_refused(&rt, rt.alloc(), refused);
     }
 }
 
@@ -141,8 +141,7 @@ fn what_is_refused_writes_and_asks_nothing(rt: HostRuntime) {
 fn is_cut(rt: &impl Abort, alloc: Global, room: usize) {
     let ran = replay(rt, alloc, SESSION, Setting { room, ..PLAIN });
     let front = LINES.as_bytes().get(..room).expect(rt, "a front");
-    assert_eq!(rt; ran.status, Status::WriteFault);
-    assert_eq!(rt; ran.written.as_slice(), front);
+    ends_with(rt, "a full sink", &ran, Status::WriteFault, front);
 }
 
 #[test]
@@ -156,12 +155,12 @@ fn a_sink_that_is_full_holds_a_front_of_the_lines(rt: HostRuntime) {
 fn is_replayed(rt: &impl Abort, alloc: Global, run: &Run) {
     let children = plays(rt, alloc, run.children);
     let recorded = run_words(rt, alloc, &TO_RECORD, run.script.as_str(), children, PLAIN);
-    assert_eq!(rt; recorded.status, Status::Done, "{}", run.shows);
-    assert_eq!(rt;
+    is_for(rt, run.shows, recorded.status, Status::Done);
+    is_for(
+        rt,
+        run.shows,
         recorded.exchanges.as_slice(),
         run.exchanges.as_slice(),
-        "{}",
-        run.shows
     );
     let session = String::from_utf8_lossy(alloc, recorded.written.as_slice()).expect(rt, "memory");
     let ran = replay(rt, alloc, session.as_str(), PLAIN);

@@ -1,5 +1,6 @@
 //! Line sessions: a child is started again until it ends well, and its lines are gathered.
 
+use super::comparing::{comes_to, ends_with, holds_for, is_for};
 use super::playing::{Calls, Child, PLAIN, Ran, Setting, play, plays, run_words};
 use host_link::{Ended, Play};
 use kernel_top::Status;
@@ -159,18 +160,12 @@ fn gather(rt: &impl Abort, alloc: Global, limit: &str, children: Vec<Play>, room
     run_words(rt, alloc, &["session", limit, "cat"], "", children, setting)
 }
 
-fn comes_to(rt: &impl Abort, shows: &str, ran: &Ran, status: Status, text: &[u8]) {
-    assert_eq!(rt; ran.status, status, "{shows}");
-    assert_eq!(rt; ran.written.as_slice(), text, "{shows}");
-}
-
 #[test]
 fn a_child_is_started_again_until_it_ends_well(rt: HostRuntime) {
     for row in &SESSIONS {
         let children = plays(&rt, rt.alloc(), row.children);
         let ran = gather(&rt, rt.alloc(), row.limit, children, 1000);
-        comes_to(&rt, row.shows, &ran, Status::Done, row.text);
-        assert_eq!(rt; ran.exchanges.as_slice(), row.exchanges, "{}", row.shows);
+        comes_to(&rt, row.shows, &ran, Status::Done, row.text, row.exchanges);
     }
 }
 
@@ -179,8 +174,14 @@ fn is_cut(rt: &impl Abort, alloc: Global, row: &Session, room: usize) {
     let children = plays(rt, alloc, row.children);
     let ran = gather(rt, alloc, row.limit, children, room);
     let front = row.text.get(..room).expect(rt, "a front");
-    comes_to(rt, "a full sink", &ran, Status::WriteFault, front);
-    assert_eq!(rt; ran.exchanges.as_slice(), row.exchanges);
+    comes_to(
+        rt,
+        "a full sink",
+        &ran,
+        Status::WriteFault,
+        front,
+        row.exchanges,
+    );
 }
 
 #[test]
@@ -215,7 +216,7 @@ fn malformed_bytes_are_kept_wherever_they_are_cut(rt: HostRuntime) {
         text.extend_from_slice(OUTPUT).expect(&rt, "memory");
         text.push(b'\n').expect(&rt, "memory");
     }
-    comes_to(&rt, "cuts", &ran, Status::Done, text.as_slice());
+    ends_with(&rt, "cuts", &ran, Status::Done, text.as_slice());
 }
 
 /// The characters of the largest text.
@@ -235,9 +236,10 @@ fn letters(rt: &impl Abort, alloc: Global, count: usize) -> Vec<Play> {
 fn is_full(rt: &impl Abort, alloc: Global, count: usize, last: &[u8]) {
     let ran = gather(rt, alloc, "1", letters(rt, alloc, count), 2 * LARGEST_TEXT);
     let text = "x".repeat(alloc, LARGEST_TEXT).expect(rt, "memory");
-    assert_eq!(rt; ran.status, Status::SessionFull);
-    assert!(rt; ran.written.as_slice() == text.as_bytes());
-    assert!(rt; ran.exchanges.as_slice().ends_with(last));
+    let exchanges = ran.exchanges.as_slice();
+    is_for(rt, "a full text", ran.status, Status::SessionFull);
+    holds_for(rt, "a full text", ran.written.as_slice() == text.as_bytes());
+    holds_for(rt, "a full text", exchanges.ends_with(last));
 }
 
 #[test]
@@ -249,7 +251,7 @@ fn a_text_that_becomes_full_is_written_as_it_was_before(rt: HostRuntime) {
 }
 
 /// With so many words of its own the program is started, as no child is there, in vain.
-fn ends_with(rt: &impl Abort, alloc: Global, args: usize, status: Status) {
+fn has_words(rt: &impl Abort, alloc: Global, args: usize, status: Status) {
     let mut words = Vec::new(alloc);
     for word in ["session", "1", "cat"] {
         words.push(word).expect(rt, "memory");
@@ -258,11 +260,11 @@ fn ends_with(rt: &impl Abort, alloc: Global, args: usize, status: Status) {
         words.push("").expect(rt, "memory");
     }
     let ran = run_words(rt, alloc, words.as_slice(), "", Vec::new(alloc), PLAIN);
-    comes_to(rt, "words", &ran, status, b"");
+    ends_with(rt, "words", &ran, status, b"");
 }
 
 #[test]
 fn a_program_has_at_most_61_words(rt: HostRuntime) {
-    ends_with(&rt, rt.alloc(), 61, Status::Done);
-    ends_with(&rt, rt.alloc(), 62, Status::Usage);
+    has_words(&rt, rt.alloc(), 61, Status::Done);
+    has_words(&rt, rt.alloc(), 62, Status::Usage);
 }

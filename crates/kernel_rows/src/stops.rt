@@ -1,6 +1,7 @@
 //! A source, a sink or a host that fails. The status tells of the first two alone, and a child that lives is killed once,
 //! whatever the run came to.
 
+use super::comparing::{comes_to, ends_with, holds_for, is_for};
 use super::playing::{Calls, PLAIN, Ran, Setting, one_child, run_script};
 use kernel_top::Status;
 use std::alloc::Global;
@@ -11,10 +12,9 @@ const FIRST: &str = "(insert \"hello\")(goto-char 2)(delete-region 2 3)";
 const FIRST_LINES: &[u8] =
     b"= nil\n= 2\n= nil\nbuffer *scratch* point 2 min 1 max 5 modified t current\ntext \"hllo\"\n";
 
-/// How a run ended, and what it wrote.
-fn ends_with(rt: &impl Abort, ran: &Ran, status: Status, written: &[u8]) {
-    assert_eq!(rt; ran.status, status);
-    assert_eq!(rt; ran.written.as_slice(), written);
+/// The place of a call, as a text.
+fn at(rt: &impl Abort, alloc: Global, call: usize) -> String {
+    format!(in alloc; "at {call}").expect(rt, "memory")
 }
 
 /// The script is read in pieces, where a call fails if it is made.
@@ -26,9 +26,15 @@ fn fails_at(rt: &impl Abort, alloc: Global, piece: usize, call: u32, calls: u32)
     let setting = Setting { from, ..PLAIN };
     let ran = run_script(rt, alloc, FIRST, Vec::new(alloc), setting);
     if call < calls {
-        ends_with(rt, &ran, Status::ReadFault, b"");
+        ends_with(rt, "a call that fails", &ran, Status::ReadFault, b"");
     } else {
-        ends_with(rt, &ran, Status::Done, FIRST_LINES);
+        ends_with(
+            rt,
+            "a call that isn't made",
+            &ran,
+            Status::Done,
+            FIRST_LINES,
+        );
     }
 }
 
@@ -49,7 +55,7 @@ fn a_sink_of_single_bytes_that_fails_at_call_3_holds_buf(rt: HostRuntime) {
     };
     let setting = Setting { to, ..PLAIN };
     let ran = run_script(&rt, rt.alloc(), "", Vec::new(rt.alloc()), setting);
-    ends_with(&rt, &ran, Status::WriteFault, b"buf");
+    ends_with(&rt, "single bytes", &ran, Status::WriteFault, b"buf");
 }
 
 /// A child that is heard out.
@@ -95,8 +101,15 @@ fn is_cut_at(rt: &impl Abort, alloc: Global, call: usize) {
     let plays = one_child(rt, alloc, &[b"ab"]);
     let ran = run_script(rt, alloc, CHILD, plays, Setting { to, ..PLAIN });
     let front = CHILD_LINES.split_at(call.min(CHILD_LINES.len())).0;
-    ends_with(rt, &ran, Status::WriteFault, front);
-    assert_eq!(rt; ran.exchanges.as_slice(), asked_until(call), "at {call}");
+    let shows = at(rt, alloc, call);
+    comes_to(
+        rt,
+        shows.as_str(),
+        &ran,
+        Status::WriteFault,
+        front,
+        asked_until(call),
+    );
 }
 
 #[test]
@@ -172,16 +185,11 @@ const FAULTS: [Fault; 5] = [
 ];
 
 /// A run that is done, with these lines in front of the dump.
-fn goes_on(rt: &impl Abort, ran: &Ran, fault: &Fault) {
+fn goes_on(rt: &impl Abort, shows: &str, ran: &Ran, fault: &Fault) {
     let begins = ran.written.starts_with(fault.lines.as_bytes());
-    assert_eq!(rt; ran.status, Status::Done);
-    assert!(rt; begins, "at {}", fault.call);
-    assert_eq!(rt;
-        ran.exchanges.as_slice(),
-        fault.exchanges,
-        "at {}",
-        fault.call
-    );
+    is_for(rt, shows, ran.status, Status::Done);
+    holds_for(rt, shows, begins);
+    is_for(rt, shows, ran.exchanges.as_slice(), fault.exchanges);
 }
 
 fn check_fault(rt: &impl Abort, alloc: Global, fault: &Fault) {
@@ -191,7 +199,8 @@ fn check_fault(rt: &impl Abort, alloc: Global, fault: &Fault) {
     };
     let plays = one_child(rt, alloc, &[b"ab"]);
     let ran = run_script(rt, alloc, CHILD, plays, setting);
-    goes_on(rt, &ran, fault);
+    let shows = at(rt, alloc, fault.call as usize);
+    goes_on(rt, shows.as_str(), &ran, fault);
 }
 
 #[test]

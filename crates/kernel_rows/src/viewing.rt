@@ -1,5 +1,6 @@
 //! Runs whose last current buffer is viewed.
 
+use super::comparing::{comes_to, ends_with, is_for, is_refused};
 use super::playing::{
     Calls, Child, PLAIN, Ran, Run, Setting, UNREAD, plays, run_script, run_words,
 };
@@ -101,8 +102,7 @@ fn view(rt: &impl Abort, alloc: Global, script: &str, children: &[Child], settin
 
 fn is_seen(rt: &impl Abort, alloc: Global, seen: &Seen) {
     let ran = view(rt, alloc, seen.script, seen.children, PLAIN);
-    assert_eq!(rt; ran.status, Status::Done, "{}", seen.shows);
-    assert_eq!(rt; ran.written.as_slice(), seen.view, "{}", seen.shows);
+    ends_with(rt, seen.shows, &ran, Status::Done, seen.view);
 }
 
 #[test]
@@ -115,12 +115,12 @@ fn the_current_buffer_is_written_as_it_would_be_seen(rt: HostRuntime) {
 /// Each run asks the host the same whether its lines or its view are written.
 fn asks_the_same(rt: &impl Abort, alloc: Global, run: &Run) {
     let ran = view(rt, alloc, run.script.as_str(), run.children, PLAIN);
-    assert_eq!(rt; ran.status, Status::Done, "{}", run.shows);
-    assert_eq!(rt;
+    is_for(rt, run.shows, ran.status, Status::Done);
+    is_for(
+        rt,
+        run.shows,
         ran.exchanges.as_slice(),
         run.exchanges.as_slice(),
-        "{}",
-        run.shows
     );
 }
 
@@ -138,9 +138,15 @@ fn is_cut(rt: &impl Abort, alloc: Global, room: usize) {
     let whole = run_script(rt, alloc, script, plays(rt, alloc, &KILLED), PLAIN);
     let ran = view(rt, alloc, script, &KILLED, Setting { room, ..PLAIN });
     let front = b"view".as_slice().get(..room).expect(rt, "a front");
-    assert_eq!(rt; ran.status, Status::WriteFault);
-    assert_eq!(rt; ran.written.as_slice(), front);
-    assert_eq!(rt; ran.exchanges.as_slice(), whole.exchanges.as_slice());
+    let exchanges = whole.exchanges.as_slice();
+    comes_to(
+        rt,
+        "a full sink",
+        &ran,
+        Status::WriteFault,
+        front,
+        exchanges,
+    );
 }
 
 #[test]
@@ -150,17 +156,10 @@ fn a_sink_that_is_full_holds_a_front_of_the_view(rt: HostRuntime) {
     }
 }
 
-/// Nothing was written or asked.
-fn is_refused(rt: &impl Abort, ran: &Ran, status: Status) {
-    assert_eq!(rt; ran.status, status);
-    assert_eq!(rt; ran.written.len(), 0);
-    assert_eq!(rt; ran.exchanges.len(), 0);
-}
-
 #[test]
 fn bytes_that_are_no_script_are_not_viewed(rt: HostRuntime) {
     let ran = view(&rt, rt.alloc(), "(point)\n(goto-char)\n", &[], PLAIN);
-    is_refused(&rt, &ran, Status::Script(2));
+    is_refused(&rt, "no script", &ran, Status::Script(2));
 }
 
 #[test]
@@ -171,6 +170,6 @@ fn a_source_that_fails_is_not_viewed(rt: HostRuntime) {
             fails: Some(call),
         };
         let ran = view(&rt, rt.alloc(), BRACKETS, &[], Setting { from, ..PLAIN });
-        is_refused(&rt, &ran, Status::ReadFault);
+        is_refused(&rt, "a source that fails", &ran, Status::ReadFault);
     }
 }

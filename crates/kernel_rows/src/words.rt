@@ -1,6 +1,7 @@
 //! The words of the command line, and bytes that are no script.
 
-use super::playing::{PLAIN, Ran, run_script, run_words};
+use super::comparing::{is_for, is_refused};
+use super::playing::{PLAIN, run_script, run_words};
 use kernel_top::Status;
 use std::alloc::Global;
 use std::process::Abort;
@@ -38,16 +39,9 @@ const WRONG: [&[&str]; 30] = [
     &["Session", "1", "cat"],
 ];
 
-/// A run that ends in this way before anything is written or asked.
-fn is_refused(rt: &impl Abort, ran: &Ran, status: Status, shows: &str) {
-    assert_eq!(rt; ran.status, status, "{shows}");
-    assert_eq!(rt; ran.written.len(), 0, "{shows}");
-    assert_eq!(rt; ran.exchanges.len(), 0, "{shows}");
-}
-
 fn are_wrong(rt: &impl Abort, alloc: Global, words: &[&str]) {
     let ran = run_words(rt, alloc, words, "(insert \"a\")", Vec::new(alloc), PLAIN);
-    is_refused(rt, &ran, Status::Usage, "words");
+    is_refused(rt, "words", &ran, Status::Usage);
 }
 
 #[test]
@@ -92,7 +86,7 @@ const REFUSED: [Refused; 6] = [
 
 fn is_no_script(rt: &impl Abort, alloc: Global, script: &str, line: u32) {
     let ran = run_script(rt, alloc, script, Vec::new(alloc), PLAIN);
-    is_refused(rt, &ran, Status::Script(line), script);
+    is_refused(rt, script, &ran, Status::Script(line));
 }
 
 #[test]
@@ -105,7 +99,7 @@ fn bytes_that_are_no_script_write_and_ask_nothing(rt: HostRuntime) {
 fn ends_in(rt: &impl Abort, alloc: Global, length: usize, status: Status) {
     let blanks = " ".repeat(alloc, length).expect(rt, "memory");
     let ran = run_script(rt, alloc, blanks.as_str(), Vec::new(alloc), PLAIN);
-    assert_eq!(rt; ran.status, status);
+    is_for(rt, "blanks", ran.status, status);
 }
 
 /// One byte more than a script may have is enough for line 0, and one less is a script still.

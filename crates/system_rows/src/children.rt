@@ -1,6 +1,7 @@
 //! Real children: what is heard of them, how they end, and what they are no longer asked.
 ghost use Rattle.std.specs.Prelude.{◌≡◌, ◌<◌, ◌-◌, ◌^◌, length, IfOk};
 
+use super::comparing::{holds, is, is_for};
 use ek_types::Mem;
 use host_link::{Ended, Got, Host, KillAnswer, SendAnswer, Spawned};
 use std::alloc::{AllocError, Global};
@@ -57,8 +58,8 @@ fn children_are_heard_out(rt: HostRuntime) -> Result<(), Fail> {
     for (script, size, ended) in cases {
         let mut host = RealHost::new(rt.alloc(), &rt, &nowhere);
         let heard = heard_out(rt.alloc(), &mut host, script)?;
-        assert_eq!(rt; heard, Some((size, ended)), "{script}");
-        assert_eq!(rt; host.faults(), 0, "{script}");
+        is_for(&rt, script, heard, Some((size, ended)));
+        is_for(&rt, script, host.faults(), 0);
     }
     Ok(())
 }
@@ -67,8 +68,8 @@ fn children_are_heard_out(rt: HostRuntime) -> Result<(), Fail> {
 fn a_program_that_is_not_there_is_refused(rt: HostRuntime) -> Result<(), Fail> {
     let nowhere = Output::new(rt.alloc(), io::sink())?;
     let mut host = RealHost::new(rt.alloc(), &rt, &nowhere);
-    assert_eq!(rt; host.spawn("no-such-program", &[])?, Spawned::Refused);
-    assert_eq!(rt; host.faults(), 1);
+    is(&rt, host.spawn("no-such-program", &[])?, Spawned::Refused);
+    is(&rt, host.faults(), 1);
     Ok(())
 }
 
@@ -80,14 +81,14 @@ fn what_is_sent_comes_back_and_the_input_is_closed(rt: HostRuntime) -> Result<()
     let Spawned::Started(child) = host.spawn("cat", &[])? else {
         return Err(Fail::from("refused"));
     };
-    assert_eq!(rt; host.send(child, b"hi")?, SendAnswer::Sent);
-    assert_eq!(rt; host.read(child, &mut room)?, Got::Bytes(2));
-    assert_eq!(rt; &room[..2], b"hi".as_slice());
+    is(&rt, host.send(child, b"hi")?, SendAnswer::Sent);
+    is(&rt, host.read(child, &mut room)?, Got::Bytes(2));
+    is(&rt, &room[..2], b"hi".as_slice());
     host.close(child)?;
-    assert_eq!(rt; host.read(child, &mut room)?, Got::End);
-    assert_eq!(rt; host.send(child, b"late")?, SendAnswer::Broken);
-    assert_eq!(rt; host.end(child)?, Ended::Code(0));
-    assert_eq!(rt; host.faults(), 1);
+    is(&rt, host.read(child, &mut room)?, Got::End);
+    is(&rt, host.send(child, b"late")?, SendAnswer::Broken);
+    is(&rt, host.end(child)?, Ended::Code(0));
+    is(&rt, host.faults(), 1);
     Ok(())
 }
 
@@ -100,9 +101,9 @@ fn an_input_that_the_child_closed_is_broken(rt: HostRuntime) -> Result<(), Fail>
     let Spawned::Started(child) = host.spawn("sh", words.as_slice())? else {
         return Err(Fail::from("refused"));
     };
-    assert_eq!(rt; host.read(child, &mut room)?, Got::Bytes(6));
-    assert_eq!(rt; host.send(child, b"hi")?, SendAnswer::Broken);
-    assert_eq!(rt; host.kill(child), KillAnswer::Killed);
+    is(&rt, host.read(child, &mut room)?, Got::Bytes(6));
+    is(&rt, host.send(child, b"hi")?, SendAnswer::Broken);
+    is(&rt, host.kill(child), KillAnswer::Killed);
     Ok(())
 }
 
@@ -113,8 +114,8 @@ fn a_child_that_is_never_read_is_killed(rt: HostRuntime) -> Result<(), Fail> {
     let Spawned::Started(child) = host.spawn("yes", &[])? else {
         return Err(Fail::from("refused"));
     };
-    assert_eq!(rt; host.kill(child), KillAnswer::Killed);
-    assert_eq!(rt; host.faults(), 0);
+    is(&rt, host.kill(child), KillAnswer::Killed);
+    is(&rt, host.faults(), 0);
     Ok(())
 }
 
@@ -126,8 +127,8 @@ fn a_child_that_still_writes_is_waited_for(rt: HostRuntime) -> Result<(), Fail> 
     let Spawned::Started(child) = host.spawn("sh", words.as_slice())? else {
         return Err(Fail::from("refused"));
     };
-    assert_eq!(rt; host.end(child)?, Ended::Code(3));
-    assert_eq!(rt; host.faults(), 0);
+    is(&rt, host.end(child)?, Ended::Code(3));
+    is(&rt, host.faults(), 0);
     Ok(())
 }
 
@@ -142,15 +143,15 @@ fn no_child_is_asked_behind_a_line_that_is_lost(rt: HostRuntime) -> Result<(), F
     let Spawned::Started(child) = host.spawn("cat", &[])? else {
         return Err(Fail::from("refused"));
     };
-    assert_eq!(rt; host.send(child, b"hi")?, SendAnswer::Sent);
+    is(&rt, host.send(child, b"hi")?, SendAnswer::Sent);
     Hand { output: &output }.write_all(b"two")?;
-    assert_eq!(rt; host.read(child, &mut room)?, Got::Failed);
-    assert_eq!(rt; host.send(child, b"hi")?, SendAnswer::Broken);
-    assert!(rt; Hand { output: &output }.write(b"x").is_err());
+    is(&rt, host.read(child, &mut room)?, Got::Failed);
+    is(&rt, host.send(child, b"hi")?, SendAnswer::Broken);
+    holds(&rt, Hand { output: &output }.write(b"x").is_err());
     host.close(child)?;
-    assert_eq!(rt; host.end(child)?, Ended::Failed);
-    assert_eq!(rt; host.kill(child), KillAnswer::Killed);
-    assert_eq!(rt; host.spawn("cat", &[])?, Spawned::Refused);
-    assert_eq!(rt; host.faults(), 4);
+    is(&rt, host.end(child)?, Ended::Failed);
+    is(&rt, host.kill(child), KillAnswer::Killed);
+    is(&rt, host.spawn("cat", &[])?, Spawned::Refused);
+    is(&rt, host.faults(), 4);
     Ok(())
 }

@@ -1,5 +1,6 @@
 //! The line and the exit status of each failure.
 
+use super::comparing::{is, is_for};
 use kernel_top::Status;
 use shipped_run::result_of;
 use std::alloc::Global;
@@ -10,8 +11,8 @@ fn is_failure(rt: &impl Abort, alloc: Global, status: Status, line: &str, exit_s
         panic!(rt; "done");
     };
     let told = format!(in alloc; "{failure}").expect(rt, "memory");
-    assert_eq!(rt; told.as_str(), line);
-    assert_eq!(rt; failure.exit_status(), exit_status, "{line}");
+    is(rt, told.as_str(), line);
+    is_for(rt, line, failure.exit_status(), exit_status);
 }
 
 #[test]

@@ -5,6 +5,8 @@
 #[cfg(test)]
 mod children;
 #[cfg(test)]
+mod comparing;
+#[cfg(test)]
 mod failures;
 #[cfg(test)]
 mod outputs;

@@ -1,5 +1,6 @@
 //! When lines are kept back, and when they are handed on.
 
+use super::comparing::{holds, is};
 use std::cell::Cell;
 use std::io::{self, Error, ErrorKind, Write};
 use std::test::Fail;
@@ -43,11 +44,11 @@ fn lines_gather_until_they_are_handed_on(rt: HostRuntime) -> Result<(), Fail> {
     for _ in 0..100 {
         hand.write_all(b"= nil\n")?;
     }
-    assert_eq!(rt; calls.get(), 0);
+    is(&rt, calls.get(), 0);
     output.hand_on()?;
-    assert_eq!(rt; calls.get(), 1);
+    is(&rt, calls.get(), 1);
     output.hand_on()?;
-    assert_eq!(rt; calls.get(), 1);
+    is(&rt, calls.get(), 1);
     Ok(())
 }
 
@@ -59,9 +60,9 @@ fn lines_go_out_where_there_is_no_more_room(rt: HostRuntime) -> Result<(), Fail>
     for _ in 0..8193 {
         hand.write_all(b"= (a b)\n")?;
     }
-    assert_eq!(rt; calls.get(), 1);
+    is(&rt, calls.get(), 1);
     hand.flush()?;
-    assert_eq!(rt; calls.get(), 2);
+    is(&rt, calls.get(), 2);
     Ok(())
 }
 
@@ -71,10 +72,10 @@ fn nothing_is_written_behind_a_call_that_failed(rt: HostRuntime) -> Result<(), F
     let output = output(&rt, &calls, 1)?;
     let mut hand = Hand { output: &output };
     hand.write_all(b"= nil\n")?;
-    assert!(rt; output.hand_on().is_err());
-    assert!(rt; hand.write(b"= nil\n").is_err());
-    assert!(rt; output.hand_on().is_err());
+    holds(&rt, output.hand_on().is_err());
+    holds(&rt, hand.write(b"= nil\n").is_err());
+    holds(&rt, output.hand_on().is_err());
     drop(output);
-    assert_eq!(rt; calls.get(), 1);
+    is(&rt, calls.get(), 1);
     Ok(())
 }

@@ -1,6 +1,7 @@
 //! Whole runs with the shipped handlers, over children in memory and over real ones.
 ghost use Rattle.std.specs.Prelude.{◌≡◌, ◌^◌, ◌≤◌, [], Some, length, IfOk};
 
+use super::comparing::{holds, is};
 use ek_types::{ListOf, Mem, MemorySink, MemorySource};
 use host_link::{Answer, Answers, Host, MemoryHost, Play, Recorder};
 use kernel_top::Status;
@@ -105,13 +106,13 @@ fn push_bytes(piece: &[u8], heard: &mut ListOf<u8>) -> Mem<()> {
 
 /// The run is done.
 fn is_done(rt: &impl Abort, wrote: &Wrote) {
-    assert_eq!(rt; wrote.status, Status::Done);
+    is(rt, wrote.status, Status::Done);
 }
 
 /// The run is done and has written this.
 fn comes_to(rt: &impl Abort, wrote: &Wrote, bytes: &[u8]) {
     is_done(rt, wrote);
-    assert_eq!(rt; wrote.bytes.as_slice(), bytes);
+    is(rt, wrote.bytes.as_slice(), bytes);
 }
 
 #[test]
@@ -314,18 +315,18 @@ fn a_long_output_is_read_to_its_end(rt: HostRuntime) {
     );
     let wrote = written(&rt, rt.alloc(), script.as_str());
     is_done(&rt, &wrote);
-    assert!(rt; wrote.bytes.ends_with(want.as_bytes()));
+    holds(&rt, wrote.bytes.ends_with(want.as_bytes()));
 }
 
 /// The lines of the run whose session is replayed below.
 fn is_replayed(rt: &impl Abort, wrote: &Wrote) {
     is_done(rt, wrote);
-    assert!(rt;
-        wrote.bytes.starts_with(
-            b"= #<process c>\n= insert-filter\n> filter insert-filter #<process c> \"hi\"\n"
-        )
+    let lines = b"= #<process c>\n= insert-filter\n> filter insert-filter #<process c> \"hi\"\n";
+    holds(rt, wrote.bytes.starts_with(lines));
+    holds(
+        rt,
+        wrote.bytes.ends_with(b"process 0 #<process c> exit 0\n"),
     );
-    assert!(rt; wrote.bytes.ends_with(b"process 0 #<process c> exit 0\n"));
 }
 
 /// What a real child says in a run is told once more by a replay, and no child is started then.
@@ -335,13 +336,12 @@ fn a_recorded_child_is_replayed(rt: HostRuntime) {
 (set-process-filter p 'insert-filter)(accept-process-output p)(accept-process-output p)"#;
     let session = written_with(&rt, rt.alloc(), &["record"], script);
     is_done(&rt, &session);
-    assert!(rt;
-        session
-            .bytes
-            .starts_with(b"spawn 7072696e7466 6869 -> started 0\n")
+    let bytes = session.bytes.as_slice();
+    holds(
+        &rt,
+        bytes.starts_with(b"spawn 7072696e7466 6869 -> started 0\n"),
     );
     let mut none = MemoryHost::new(Vec::new(rt.alloc()), Vec::new(rt.alloc()));
-    let bytes = session.bytes.as_slice();
     let lines = written_by(&rt, rt.alloc(), &["replay"], bytes, &mut none);
     is_replayed(&rt, &lines);
 }
