@@ -1,6 +1,7 @@
 //! Changes of a buffer's text.
 ghost use Rattle.std.specs.Prelude.{◌≡◌, ◌⊎◌, ◌+◌, ◌<◌, ◌≤◌, true, false, [], length, map, All};
 ghost use Rattle.std.specs.Prelude.{◌++◌, take, drop, IfOk, OnOk, OnErr};
+ghost use Rattle.text_model.specs.Properties.{part};
 ghost use Rattle.text_model.specs.Undo.{Undo, pushed_all};
 ghost use Rattle.text_model.specs.Commit.{inserted, deleted, replaced, deletion_records};
 ghost use Rattle.gap_text.specs.Text.{LiesIn, characters};
@@ -87,6 +88,16 @@ impl Buffer {
         Ok(())
     }
 
+    /// The part from `from` to before `to`, to stand in a record: an undoing copies all records, and copies share it.
+    fn kept(&self, from: usize, to: usize, pool: &Pool) -> Mem<Piece>
+        requires lies { LiesIn pool.now self.now.text }
+        requires order { from ≤ to }
+        requires range { to ≤ length self.now.sets }
+        ensures { IfOk result (λ piece. piece ≡ part from to (buffer_of pool.now self.now).text) }
+    {
+        self.substring(from, to, pool)?.shared(self.alloc)
+    }
+
     /// What taking the part from `from` to before `to` out records.
     fn deletion(&self, id: u32, from: usize, to: usize, marks: &Marks, pool: &Pool) -> Mem<Deletion>
         requires lies { LiesIn pool.now self.now.text }
@@ -104,7 +115,7 @@ impl Buffer {
                 text: None,
             });
         }
-        let piece = self.substring(from, to, pool)?;
+        let piece = self.kept(from, to, pool)?;
         let before = records_before(
             self.alloc,
             &self.undo,
