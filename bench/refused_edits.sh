@@ -215,7 +215,7 @@ fn chars(alloc: Global, n: usize) -> Mem<Chars> {
 fn given(alloc: Global) -> Mem<Given> {
     let mut styled = Piece::plain(alloc, chars(alloc, 300)?)?;
     let one = PropSet::empty(alloc).with(FACE, &PropVal::Int(1))?;
-    let two = one.with(Sym(3), &PropVal::Text(Rc::new(alloc, chars(alloc, 3)?)?))?;
+    let two = one.copy()?.with(Sym(3), &PropVal::Text(Rc::new(alloc, chars(alloc, 3)?)?))?;
     styled.put(10, 200, &one)?;
     styled.put(50, 60, &two)?;
     let mut names = SymList::new(alloc);

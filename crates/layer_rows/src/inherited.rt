@@ -29,9 +29,9 @@ fn symbol(set: &PropSet, name: Sym) -> u32 {
 
 /// Two faces and a stickiness property.
 fn faces(rt: &impl Abort, alloc: Global, sticky: Sym, value: &PropVal, face: &PropVal) -> PropSet {
-    let set = with(rt, &PropSet::empty(alloc), FACE, face);
-    let set = with(rt, &set, MOUSE_FACE, face);
-    with(rt, &set, sticky, value)
+    let set = with(rt, PropSet::empty(alloc), FACE, face);
+    let set = with(rt, set, MOUSE_FACE, face);
+    with(rt, set, sticky, value)
 }
 
 /// The number of properties, the face and the mouse face that a character inherits.
@@ -48,11 +48,11 @@ fn inherit(
 #[test]
 fn what_a_list_withholds_at_the_rear_comes_from_the_front(rt: HostRuntime) {
     let alloc = rt.alloc();
-    let before = with(&rt, &PropSet::empty(alloc), FACE, &BOLD);
+    let before = with(&rt, PropSet::empty(alloc), FACE, &BOLD);
     let withheld = PropVal::Syms(just(&rt, alloc, FACE));
-    let before = with(&rt, &before, REAR_NONSTICKY, &withheld);
-    let after = with(&rt, &PropSet::empty(alloc), FACE, &ITALIC);
-    let after = with(&rt, &after, FRONT_STICKY, &PropVal::Truth);
+    let before = with(&rt, before, REAR_NONSTICKY, &withheld);
+    let after = with(&rt, PropSet::empty(alloc), FACE, &ITALIC);
+    let after = with(&rt, after, FRONT_STICKY, &PropVal::Truth);
     let set = inherit(&rt, alloc, Some(&before), Some(&after));
     is(&rt, set, (1, 31, 0));
 }
@@ -60,7 +60,7 @@ fn what_a_list_withholds_at_the_rear_comes_from_the_front(rt: HostRuntime) {
 #[test]
 fn the_preceding_value_is_taken_where_both_offer_one(rt: HostRuntime) {
     let alloc = rt.alloc();
-    let before = with(&rt, &PropSet::empty(alloc), FACE, &BOLD);
+    let before = with(&rt, PropSet::empty(alloc), FACE, &BOLD);
     let after = faces(&rt, alloc, FRONT_STICKY, &PropVal::Truth, &ITALIC);
     let set = inherit(&rt, alloc, Some(&before), Some(&after));
     is(&rt, set, (2, 30, 31));

@@ -60,15 +60,15 @@ const PRIORITY: Sym = Sym(3);
 const FACE: Sym = Sym(14);
 
 /// A set with one property more.
-pub fn with(rt: &impl Abort, set: &PropSet, name: Sym, value: &PropVal) -> PropSet {
+pub fn with(rt: &impl Abort, set: PropSet, name: Sym, value: &PropVal) -> PropSet {
     set.with(name, value).expect(rt, "memory")
 }
 
 /// A face that is given anew behind a priority, copied.
 fn copied_set(rt: &impl Abort, alloc: Global) -> PropSet {
-    let set = with(rt, &PropSet::empty(alloc), FACE, &PropVal::Int(1));
-    let set = with(rt, &set, PRIORITY, &PropVal::Int(2));
-    let set = with(rt, &set, FACE, &PropVal::Int(5));
+    let set = with(rt, PropSet::empty(alloc), FACE, &PropVal::Int(1));
+    let set = with(rt, set, PRIORITY, &PropVal::Int(2));
+    let set = with(rt, set, FACE, &PropVal::Int(5));
     set.copy().expect(rt, "memory")
 }
 
@@ -82,9 +82,7 @@ fn a_property_given_anew_has_the_later_value(rt: HostRuntime) {
 
 #[test]
 fn a_property_taken_away_leaves_the_others(rt: HostRuntime) {
-    let set = copied_set(&rt, rt.alloc())
-        .without(PRIORITY)
-        .expect(&rt, "memory");
+    let set = copied_set(&rt, rt.alloc()).without(PRIORITY);
     is(&rt, set.len(), 1);
     is(&rt, number(set.get(FACE)), Some(5));
 }
@@ -92,7 +90,7 @@ fn a_property_taken_away_leaves_the_others(rt: HostRuntime) {
 #[test]
 fn nil_takes_a_property_away(rt: HostRuntime) {
     let nil = PropVal::Syms(ListOf::new(rt.alloc()));
-    let set = with(&rt, &copied_set(&rt, rt.alloc()), FACE, &nil);
+    let set = with(&rt, copied_set(&rt, rt.alloc()), FACE, &nil);
     is(&rt, set.len(), 1);
     is(&rt, number(set.get(PRIORITY)), Some(2));
 }

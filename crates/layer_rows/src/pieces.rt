@@ -28,7 +28,7 @@ pub fn faced(rt: &impl Abort, alloc: Global, face: i64) -> PropSet {
     if face == 0 {
         return set;
     }
-    with(rt, &set, FACE, &PropVal::Int(face))
+    with(rt, set, FACE, &PropVal::Int(face))
 }
 
 /// Gives a part a face, or none where it is 0.

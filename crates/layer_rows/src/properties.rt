@@ -100,7 +100,7 @@ fn changes_are_found_and_a_change_to_what_is_there_is_none(rt: HostRuntime) {
 
 /// A set of a face and one more property.
 fn both_faces(rt: &impl Abort, alloc: Global) -> PropSet {
-    with(rt, &faced(rt, alloc, 2), MOUSE_FACE, &PropVal::Truth)
+    with(rt, faced(rt, alloc, 2), MOUSE_FACE, &PropVal::Truth)
 }
 
 #[test]
@@ -133,7 +133,7 @@ fn runs_join_after_a_change_back(rt: HostRuntime) {
 fn changes_of_one_property_pass_over_those_of_others(rt: HostRuntime) {
     let alloc = rt.alloc();
     let mut props = with_face(&rt, alloc, 4, 0, 3);
-    let mouse = with(&rt, &PropSet::empty(alloc), MOUSE_FACE, &PropVal::Truth);
+    let mouse = with(&rt, PropSet::empty(alloc), MOUSE_FACE, &PropVal::Truth);
     let add = PropEdit::Add(mouse, SymList::new(alloc));
     is(&rt, changes(&rt, &mut props, 1, 2, &add), true);
     is(&rt, next_change(&rt, &props, 0, None), Some(1));

@@ -53,7 +53,7 @@ pub fn plain(rt: &impl Abort, alloc: Global, text: &str) -> Piece {
 }
 
 /// A set with one property more.
-pub fn with(rt: &impl Abort, set: &PropSet, name: Sym, value: &PropVal) -> PropSet {
+pub fn with(rt: &impl Abort, set: PropSet, name: Sym, value: &PropVal) -> PropSet {
     set.with(name, value).expect(rt, "a set")
 }
 

@@ -25,20 +25,20 @@ fn of_names(rt: &impl Abort, alloc: Global) -> PropSet {
     names.push(EVAPORATE).expect(rt, "a name");
     names.push(PRIORITY).expect(rt, "a name");
     let value = PropVal::Syms(names);
-    with(rt, &PropSet::empty(alloc), FRONT_STICKY, &value)
+    with(rt, PropSet::empty(alloc), FRONT_STICKY, &value)
 }
 
 /// A set whose value is a string.
 fn of_string(rt: &impl Abort, alloc: Global) -> PropSet {
     let mut text = chars(rt, alloc, "x\"");
     text.push(Ch::Raw(0x80)).expect(rt, "a character");
-    with(rt, &PropSet::empty(alloc), RUN, &string(rt, alloc, text))
+    with(rt, PropSet::empty(alloc), RUN, &string(rt, alloc, text))
 }
 
 /// A set of a name and a number.
 fn of_both(rt: &impl Abort, alloc: Global) -> PropSet {
-    let set = with(rt, &PropSet::empty(alloc), EXIT, &PropVal::Sym(SIGNAL));
-    with(rt, &set, PRIORITY, &PropVal::Int(-5))
+    let set = with(rt, PropSet::empty(alloc), EXIT, &PropVal::Sym(SIGNAL));
+    with(rt, set, PRIORITY, &PropVal::Int(-5))
 }
 
 /// Three letters with a set each.

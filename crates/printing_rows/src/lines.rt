@@ -15,9 +15,9 @@ use trace_print::{Kind, Names, dump, entry, exit, kill, reply};
 /// A string in which the properties change at each character.
 fn decorated(rt: &impl Abort, alloc: Global) -> Piece {
     let mut text = plain(rt, alloc, "abc");
-    let one = with(rt, &PropSet::empty(alloc), PRIORITY, &PropVal::Int(5));
+    let one = with(rt, PropSet::empty(alloc), PRIORITY, &PropVal::Int(5));
     paint(rt, &mut text, 0, 1, &one);
-    let two = with(rt, &one, EVAPORATE, &PropVal::Truth);
+    let two = with(rt, one, EVAPORATE, &PropVal::Truth);
     paint(rt, &mut text, 1, 2, &two);
     text
 }

@@ -78,7 +78,7 @@ fn lay(rt: &impl Abort, alloc: Global, editor: &mut Editor, laid: &Laid) {
 /// The text of a row, of which a part is invisible.
 fn text(rt: &impl Abort, alloc: Global, row: &Row) -> Piece {
     let mut text = plain(rt, alloc, row.text);
-    let set = with(rt, &PropSet::empty(alloc), INVISIBLE, &PropVal::Truth);
+    let set = with(rt, PropSet::empty(alloc), INVISIBLE, &PropVal::Truth);
     paint(rt, &mut text, row.invisible.0, row.invisible.1, &set);
     text
 }
