@@ -880,8 +880,9 @@ change run, if any do, and those of functions before it are no part of them."
 (defun beside-after-change (from to length)
   (when beside-changed (funcall beside-changed))
   (setq beside-changed nil)
-  (beside-in-bounds (and (nth 2 beside-bounds) beside-bounds)
-                    (lambda () (beside-run-hooks 'beside-after "after" (list from to length)))))
+  (when beside-after
+    (beside-in-bounds (and (nth 2 beside-bounds) beside-bounds)
+                      (lambda () (beside-run-hooks 'beside-after "after" (list from to length))))))
 
 (defun beside-set-hook (hook name adding)
   (let* ((list (if (eq hook 'before-change-functions) 'beside-before 'beside-after)) (names (symbol-value list)))
