@@ -1,14 +1,13 @@
 -- Texts over blocks of their own, as those of another text change.
-use Rattle.std.proofs.Common.{◌≡◌, ◌≢◌, ℕ, ◌+◌, ◌*◌, List, [], ◌∷◌, ◌++◌, length, filter_map, refl, sym, ap, subst, ◌∙◌, arith}
-use Rattle.std.specs.Prelude.{Option, IsSomeAnd, unwrap_or}
+use Rattle.std.proofs.Common.{◌≡◌, ℕ, ◌+◌, List, [], ◌∷◌, ◌++◌, length, filter_map, refl, sym, ap, subst, ◌∙◌, arith}
+use Rattle.std.specs.Prelude.{IsSomeAnd, unwrap_or}
 use Rattle.text_model.specs.Characters.{from_code}
 use Rattle.text_pool.specs.Pool.{Pooled, cells_at, cells, IsLive, live}
-use Rattle.gap_text.specs.Blocks.{cells_of, Absent, AllLive, AllGone, Apart, SameOutside, OnlyFresh}
+use Rattle.gap_text.specs.Blocks.{cells_of, Absent, AllLive, Apart, SameOutside, OnlyFresh}
 use Rattle.ek_types.specs.Seen.{AreCodes}
 use Rattle.gap_text.specs.Text.{Gapped, without_gap, codes, characters, LiesIn}
 use Rattle.gap_text.proofs.BlockLemmas.{apart_nil, apart_sym}
 use Rattle.buffer_core.specs.Blocks.{ChangesBlocks}
-use Rattle.buffer_core.proofs.BlockLemmas.{then_changed}
 
 -- each of these blocks has the cells that it had
 abbrev AllSame : Pooled → Pooled → List ℕ → Type 0

@@ -1,15 +1,15 @@
 -- Markers taken back as deleted text is put back.
-use Rattle.std.proofs.Common.{◌≡◌, ℕ, zero, suc, ◌+◌, ◌<◌, ◌≤◌, ℤ, Bool, true, false, List, [], ◌∷◌, ◌++◌, length, take, drop, filter, All, Option, Some, None, refl, ap, sym, subst, ◌∙◌, arith, option_map, append_assoc, append-nil}
+use Rattle.std.proofs.Common.{◌≡◌, ℕ, zero, suc, ◌+◌, ◌≤◌, ℤ, Bool, true, false, List, [], ◌∷◌, ◌++◌, length, drop, All, Option, Some, None, refl, ap, sym, ◌∙◌, arith, option_map, append_assoc, append-nil}
 use Rattle.std.specs.Prelude.{slice_get, slice_set, IfSome, if◌then◌else◌, ◌==◌, pos, ◌-ℤ◌}
-use Rattle.std.proofs.lemmas.Bool.{eqb-true, eqb-false}
-use Rattle.std.proofs.lemmas.List.Elements.{All-nil, All-cons, All-head, All-tail}
+use Rattle.std.proofs.lemmas.Bool.{eqb-false}
+use Rattle.std.proofs.lemmas.List.Elements.{All-cons, All-head, All-tail}
 use Rattle.text_model.specs.Places.{clip}
 use Rattle.text_model.specs.Properties.{Cell}
-use Rattle.text_model.specs.Undo.{Rec, Moved, Deleted, Entry}
+use Rattle.text_model.specs.Undo.{Moved, Deleted, Entry}
 use Rattle.text_model.specs.Marks.{Marks, Marker, Spot}
 use Rattle.text_model.specs.Commit.{moves_behind, stands_at, marker_less, less, spot_less, place_of, moved_back, Site, inserted, set_point, undo_one}
-use Rattle.text_model.proofs.Cases.{by_test, if_true, if_false}
-use Rattle.text_model.proofs.Lists.{drop_at, All-slice_get}
+use Rattle.text_model.proofs.Cases.{by_test}
+use Rattle.text_model.proofs.Lists.{drop_at}
 use Rattle.undo_list.specs.Records.{rec_of}
 use Rattle.undo_list.specs.declared.rec.Rec as coded
 use Rattle.undo_list.specs.declared.rec.Rec.TheVariants as variant
@@ -19,13 +19,6 @@ use Rattle.buffer_core.specs.Standing.{MarkerWithin, AreWithin}
 use Rattle.buffer_core.specs.Undoing.{standing, all_less}
 
 -- THE RECORDS BEHIND A DELETION'S
-pub in_front_of : {A : Type 0} (xs : List A) (n i : ℕ) → i < n → slice_get (take n xs) i ≡ slice_get xs i
-in_front_of [] zero i h = refl
-in_front_of [] (suc n) i h = refl
-in_front_of (x ∷ xs) zero i h = absurd (omega arith)
-in_front_of (x ∷ xs) (suc n) zero h = refl
-in_front_of (x ∷ xs) (suc n) (suc i) h = in_front_of xs n i (omega arith)
-
 pub behind_at : (es : List Entry) (j : ℕ) (e : Entry) → slice_get es j ≡ Some e → moves_behind (drop j es) ≡ moves_behind (e ∷ drop (j + 1) es)
 behind_at es j e h = ap moves_behind (drop_at es j e h)
 

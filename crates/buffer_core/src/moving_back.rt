@@ -1,5 +1,5 @@
 //! Markers that go back to where they stood before a deletion that is undone.
-ghost use Rattle.std.specs.Prelude.{◌≡◌, pos, ◌-ℤ◌, ◌≤◌, [], ◌∷◌, ◌++◌, length, take, drop};
+ghost use Rattle.std.specs.Prelude.{◌≡◌, pos, ◌-ℤ◌, ◌≤◌, [], ◌∷◌, ◌++◌, length, drop};
 ghost use Rattle.std.specs.Prelude.{option_map, slice_get, All, OnOk, IfOk};
 ghost use Rattle.text_model.specs.Places.{clip};
 ghost use Rattle.text_model.specs.Commit.{moves_behind, place_of, spot_less, stands_at, marker_less};
@@ -43,24 +43,22 @@ fn add_standing(
     Ok(())
 }
 
-/// The moves of the records from `i` to before `end`, up to the first that moves no marker, of those markers that
-/// stand at a place of a buffer.
+/// The moves of the records from `i` on, up to the first that moves no marker, of those markers that stand at a place
+/// of a buffer.
 pub fn standing_moves(
     alloc: Global,
     undo: &Undo,
     i: usize,
-    end: usize,
     markers: &Markers,
     id: u32,
     place: usize,
 ) -> Mem<Vec<(u32, i64)>>
-    requires order { i ≤ end }
-    requires range { end ≤ length undo.now.state.entries }
+    requires { i ≤ length undo.now.state.entries }
     ensures { IfOk result (λ moves. moves.items ≡
-        standing id place markers.now (moves_behind (drop i (take end undo.now.state.entries)))) }
+        standing id place markers.now (moves_behind (drop i undo.now.state.entries))) }
 {
     let mut moves = Vec::new(alloc);
-    for j in i..end {
+    for j in i..undo.len() {
         let Rec::Moved(k, adjustment) = undo.at(j).0 else {
             return Ok(moves);
         };

@@ -1,20 +1,22 @@
 //! Undoing.
-ghost use Rattle.std.specs.Prelude.{◌≡◌, ℕ, ◌+◌, ◌<◌, ◌≤◌, true, [], length, Ok, None, drop, take};
+ghost use Rattle.std.specs.Prelude.{◌≡◌, ℕ, ◌+◌, ◌<◌, ◌≤◌, true, false, [], length, Ok, None, drop};
 ghost use Rattle.std.specs.Prelude.{IfOk, OnOk, OnErr, slice_get, IfSome, All, option_map};
 ghost use Rattle.text_model.specs.Ordered.{IsValue};
 ghost use Rattle.machine_laws.specs.Boundaries.{KeepsBoundaries};
 ghost use Rattle.machine_laws.specs.Good.{Good};
-ghost use Rattle.text_model.specs.Undo.{lies_inside, pass, passed, trial, Deleted};
+ghost use Rattle.text_model.specs.Undo.{lies_inside, passed, trial, Deleted};
 ghost use Rattle.text_model.specs.Commit.{undo_one, undo_each, undone_groups, moves_behind};
 ghost use Rattle.text_model.specs.Commit.{deleted, set_point};
 ghost use Rattle.gap_text.specs.Text.{LiesIn};
 ghost use Rattle.ek_types.specs.Property.{prop_of};
 ghost use Rattle.prop_intervals.specs.Edits.{edit_of};
 ghost use Rattle.undo_list.specs.Plans.{planned};
+ghost use Rattle.undo_list.specs.Records.{rec_of};
 ghost use Rattle.buffer_core.specs.Blocks.{ChangesBlocks};
 ghost use Rattle.buffer_core.specs.Meaning.{buffer_of, site_of, CanBeUndone};
 ghost use Rattle.buffer_core.specs.Standing.{AreWithin};
-ghost use Rattle.buffer_core.specs.Undoing.{value_back};
+ghost use Rattle.buffer_core.specs.Undoing.{value_back, is_change, ChangesOnlyAt, StaysButForPoint};
+ghost use Rattle.buffer_core.specs.Undoing.{with_pending};
 
 use crate::buffer::Buffer;
 use crate::marks::Marks;
@@ -45,6 +47,34 @@ fn value_back(alloc: Global, name: Sym, old: Option<&PropVal>) -> Mem<PropEdit>
             Ok(PropEdit::Remove(names))
         }
     }
+}
+
+/// Whether a record is of a change of text or properties. Undoing another one takes no memory.
+fn is_change(rec: &Rec) -> bool
+    ensures { result ≡ is_change (rec_of rec.now) }
+{
+    matches!(rec, Rec::Inserted(..) | Rec::Deleted(..) | Rec::Prop(..))
+}
+
+/// The place of the first record of a change from place `from` on, or that behind all records.
+fn next_change(records: &Undo, from: usize) -> usize
+    ensures { (i : ℕ) → from ≤ i → i < result →
+        IfSome (slice_get records.now.state.entries i) (λ e. is_change e.what ≡ false) }
+{
+    for i in from..records.len() {
+        if is_change(records.at(i).0) {
+            return i;
+        }
+    }
+    records.len()
+}
+
+/// Whether at most one of the records is of a change.
+fn is_one_change(records: &Undo) -> bool
+    ensures { result ≡ true → (only : ℕ) × ChangesOnlyAt only records.now.state.entries }
+{
+    let only = next_change(records, 0);
+    next_change(records, only.saturating_add(1)) == records.len()
 }
 
 impl Buffer {
@@ -102,6 +132,8 @@ impl Buffer {
         ensures lies { LiesIn pool.new self.new.text }
         ensures site { OnOk result (site_of pool.new self.new marks.new ≡
             deleted id from to (set_point from (site_of pool.old self.old marks.old))) }
+        ensures err { OnErr result (StaysButForPoint (site_of pool.old self.old marks.old)
+            (site_of pool.new self.new marks.new)) }
         ensures marks { AreWithin id (length self.new.sets) marks.new }
         ensures blocks { ChangesBlocks self.old.text.blocks self.new.text.blocks pool.old pool.new }
     {
@@ -111,7 +143,7 @@ impl Buffer {
         self.delete(id, from, to, marks, pool)
     }
 
-    /// Puts deleted text back, and the markers that the records from `i` to before `end` moved.
+    /// Puts deleted text back, and the markers that the records from `i` on moved.
     fn put_back(
         &mut self,
         id: u32,
@@ -119,25 +151,25 @@ impl Buffer {
         place: usize,
         records: &Undo,
         i: usize,
-        end: usize,
         marks: &mut Marks,
         pool: &mut Pool,
     ) -> Mem<()>
         requires lies { LiesIn pool.old self.old.text }
         requires low { self.old.begin ≤ place }
         requires high { place ≤ self.old.end }
-        requires order { i ≤ end }
-        requires range { end ≤ length records.now.state.entries }
+        requires range { i ≤ length records.now.state.entries }
         requires marks { AreWithin id (length self.old.sets) marks.old }
         ensures lies { LiesIn pool.new self.new.text }
         ensures site { OnOk result (site_of pool.new self.new marks.new ≡
             undo_one id (Deleted piece.now place)
-            (moves_behind (drop i (take end records.now.state.entries)))
+            (moves_behind (drop i records.now.state.entries))
             (site_of pool.old self.old marks.old)) }
+        ensures err { OnErr result (StaysButForPoint (site_of pool.old self.old marks.old)
+            (site_of pool.new self.new marks.new)) }
         ensures marks { AreWithin id (length self.new.sets) marks.new }
         ensures blocks { ChangesBlocks self.old.text.blocks self.new.text.blocks pool.old pool.new }
     {
-        let moves = standing_moves(self.alloc, records, i, end, &marks.markers, id, place)?;
+        let moves = standing_moves(self.alloc, records, i, &marks.markers, id, place)?;
         self.set_point(place);
         self.insert(id, place, slice::from_ref(piece), false, false, marks, pool)?;
         let size = self.text.len();
@@ -145,19 +177,18 @@ impl Buffer {
         Ok(())
     }
 
-    /// Undoes one record, behind which those up to before `end` are undone too.
+    /// Undoes the record at place `i`, behind which the others are undone too. A refusal may have moved point. It comes
+    /// only where the record is of a change.
     fn undo_one(
         &mut self,
         id: u32,
         records: &Undo,
         i: usize,
-        end: usize,
         marks: &mut Marks,
         pool: &mut Pool,
     ) -> Mem<()>
         requires lies { LiesIn pool.old self.old.text }
-        requires order { i < end }
-        requires range { end ≤ length records.now.state.entries }
+        requires range { i < length records.now.state.entries }
         requires inside { IfSome (slice_get records.now.state.entries i)
             (λ e. lies_inside self.old.begin self.old.end e.what ≡ true) }
         requires undoable { IfSome (slice_get records.now.state.entries i) (λ e. CanBeUndone e.what) }
@@ -165,15 +196,21 @@ impl Buffer {
         ensures lies { LiesIn pool.new self.new.text }
         ensures site { OnOk result (IfSome (slice_get records.now.state.entries i)
             (λ e. site_of pool.new self.new marks.new ≡
-            undo_one id e.what (moves_behind (drop (i + 1) (take end records.now.state.entries)))
+            undo_one id e.what (moves_behind (drop (i + 1) records.now.state.entries))
             (site_of pool.old self.old marks.old))) }
+        ensures err { OnErr result (StaysButForPoint (site_of pool.old self.old marks.old)
+            (site_of pool.new self.new marks.new)) }
+        ensures change { OnErr result (IfSome (slice_get records.now.state.entries i)
+            (λ e. is_change e.what ≡ true)) }
         ensures marks { AreWithin id (length self.new.sets) marks.new }
         ensures blocks { ChangesBlocks self.old.text.blocks self.new.text.blocks pool.old pool.new }
     {
+        // Read for what it ensures: the records can be counted.
+        let _count = records.len();
         match records.at(i).0 {
             Rec::Inserted(from, to) => self.take_out(id, *from, *to, marks, pool),
             Rec::Deleted(piece, place) => {
-                self.put_back(id, piece, *place, records, i + 1, end, marks, pool)
+                self.put_back(id, piece, *place, records, i + 1, marks, pool)
             }
             Rec::Prop(name, old, from, to) => {
                 let edit = value_back(self.alloc, *name, old.as_ref())?;
@@ -192,40 +229,32 @@ impl Buffer {
         }
     }
 
-    /// Undoes records one after the other: those from place `first` to before `end` of a list, the places of which
-    /// lie in the accessible portion as it then stands.
-    fn undo_each(
-        &mut self,
-        id: u32,
-        records: &Undo,
-        first: usize,
-        end: usize,
-        marks: &mut Marks,
-        pool: &mut Pool,
-    ) -> Mem<()>
+    /// Undoes records one after the other, the places of which lie in the accessible portion as it then stands. Where
+    /// at most one of them is of a change, a refusal leaves all but point and the modified flag as it was.
+    fn undo_each(&mut self, id: u32, records: &Undo, marks: &mut Marks, pool: &mut Pool) -> Mem<()>
         requires lies { LiesIn pool.old self.old.text }
-        requires order { first ≤ end }
-        requires range { end ≤ length records.now.state.entries }
-        requires inside { trial self.old.begin self.old.end
-            (drop first (take end records.now.state.entries)) ≡ None }
+        requires inside { trial self.old.begin self.old.end records.now.state.entries ≡ None }
         requires undoable { All (λ e. CanBeUndone e.what) records.now.state.entries }
         requires marks { AreWithin id (length self.old.sets) marks.old }
         ensures lies { LiesIn pool.new self.new.text }
         ensures site { OnOk result (site_of pool.new self.new marks.new ≡
-            undo_each id (drop first (take end records.now.state.entries))
-            (site_of pool.old self.old marks.old)) }
+            undo_each id records.now.state.entries (site_of pool.old self.old marks.old)) }
+        ensures err { (only : ℕ) → ChangesOnlyAt only records.now.state.entries →
+            OnErr result (StaysButForPoint (site_of pool.old self.old marks.old)
+            (site_of pool.new self.new marks.new)) }
         ensures marks { AreWithin id (length self.new.sets) marks.new }
         ensures blocks { ChangesBlocks self.old.text.blocks self.new.text.blocks pool.old pool.new }
     {
-        for i in first..end {
-            self.undo_one(id, records, i, end, marks, pool)?;
+        for i in 0..records.len() {
+            self.undo_one(id, records, i, marks, pool)?;
         }
         Ok(())
     }
 
     /// Undoes the records of a plan that the undo records of this buffer give for its accessible portion: passes
-    /// them, then undoes the newest first. It works on copies: a refusal leaves all as it was, but for spare room in
-    /// the pool. It takes time in proportion to the records, the text and the marks.
+    /// them, then undoes the newest first. A refusal leaves all as it was, but for spare room in the pool. Where at most
+    /// one of the records is of a change of text or properties, as those of a command mostly are, only these records
+    /// are copied. Else it works on copies, and takes time in proportion to all records, the text and the marks.
     ///
     /// Undoing all that is newer than a boundary that still stands gives the same text as before.
     pub fn apply_plan(
@@ -261,16 +290,6 @@ impl Buffer {
         self.undo_groups(id, plan, marks, pool)
     }
 
-    /// Makes the records of a plan pending no longer. Nothing else changes.
-    fn pass(&mut self, plan: &Plan)
-        ensures rest { self.new ≡ record self.old { undo = self.new.undo } }
-        ensures groups { (groups min max : ℕ) → 1 ≤ groups →
-            planned groups min max self.old.undo.state ≡ Ok plan.now →
-            self.new.undo.state ≡ pass (passed groups self.old.undo.state) self.old.undo.state }
-    {
-        self.undo.pass(plan);
-    }
-
     /// The same, without what it means for undo.
     fn undo_groups(&mut self, id: u32, plan: &Plan, marks: &mut Marks, pool: &mut Pool) -> Mem<()>
         requires lies { LiesIn pool.old self.old.text }
@@ -289,12 +308,97 @@ impl Buffer {
         ensures marks { AreWithin id (length self.new.sets) marks.new }
         ensures blocks { ChangesBlocks self.old.text.blocks self.new.text.blocks pool.old pool.new }
     {
+        let (first, end) = self.undo.passed(plan);
+        let records = self.undo.part(first, end)?;
+        if is_one_change(&records) {
+            self.undo_in_place(id, &records, plan.last, marks, pool)
+        } else {
+            self.undo_on_copies(id, &records, plan.last, marks, pool)
+        }
+    }
+
+    /// Makes the records below a serial number pending, and undoes others, at most one of which is of a change. So a
+    /// refusal has changed nothing but point, the flag and what is pending, which go back.
+    fn undo_in_place(
+        &mut self,
+        id: u32,
+        records: &Undo,
+        below: u64,
+        marks: &mut Marks,
+        pool: &mut Pool,
+    ) -> Mem<()>
+        requires lies { LiesIn pool.old self.old.text }
+        requires inside { trial self.old.begin self.old.end records.now.state.entries ≡ None }
+        requires undoable { All (λ e. CanBeUndone e.what) records.now.state.entries }
+        requires one { (only : ℕ) × ChangesOnlyAt only records.now.state.entries }
+        requires marks { AreWithin id (length self.old.sets) marks.old }
+        ensures lies { LiesIn pool.new self.new.text }
+        ensures ok { OnOk result (site_of pool.new self.new marks.new ≡
+            undo_each id records.now.state.entries
+            (with_pending below (site_of pool.old self.old marks.old))) }
+        ensures err { OnErr result (site_of pool.new self.new marks.new ≡
+            site_of pool.old self.old marks.old) }
+        ensures marks { AreWithin id (length self.new.sets) marks.new }
+        ensures blocks { ChangesBlocks self.old.text.blocks self.new.text.blocks pool.old pool.new }
+    {
+        let bounds = self.bounds;
+        let modified = self.modified;
+        let pending = self.undo.pending_below();
+        self.make_pending(below);
+        match self.undo_each(id, records, marks, pool) {
+            Ok(()) => Ok(()),
+            Err(refused) => {
+                // Read for what it ensures: the accessible portion still lies in the text.
+                let _bounds = self.bounds();
+                self.go_back(bounds, modified, pending);
+                Err(refused)
+            }
+        }
+    }
+
+    /// The accessible portion with point in it, the modified flag, and what is pending are as these say.
+    fn go_back(&mut self, bounds: Bounds, modified: bool, below: u64)
+        requires { bounds.end ≤ length self.old.sets }
+        ensures rest { self.new ≡ record self.old {
+          begin = bounds.start;
+          end = bounds.end;
+          point = bounds.point;
+          modified = modified;
+          undo = self.new.undo;
+        } }
+        ensures state { self.new.undo.state ≡ record self.old.undo.state { pending_below = below } }
+    {
+        self.bounds = bounds;
+        self.modified = modified;
+        self.undo.make_pending(below);
+    }
+
+    /// The same on copies, whatever the records are.
+    fn undo_on_copies(
+        &mut self,
+        id: u32,
+        records: &Undo,
+        below: u64,
+        marks: &mut Marks,
+        pool: &mut Pool,
+    ) -> Mem<()>
+        requires lies { LiesIn pool.old self.old.text }
+        requires inside { trial self.old.begin self.old.end records.now.state.entries ≡ None }
+        requires undoable { All (λ e. CanBeUndone e.what) records.now.state.entries }
+        requires marks { AreWithin id (length self.old.sets) marks.old }
+        ensures lies { LiesIn pool.new self.new.text }
+        ensures ok { OnOk result (site_of pool.new self.new marks.new ≡
+            undo_each id records.now.state.entries
+            (with_pending below (site_of pool.old self.old marks.old))) }
+        ensures err { OnErr result (site_of pool.new self.new marks.new ≡
+            site_of pool.old self.old marks.old) }
+        ensures marks { AreWithin id (length self.new.sets) marks.new }
+        ensures blocks { ChangesBlocks self.old.text.blocks self.new.text.blocks pool.old pool.new }
+    {
         let mut moved = marks.copy()?;
         let mut copy = self.copy(pool)?;
-        copy.pass(plan);
-        let records = self.undo();
-        let (first, end) = records.passed(plan);
-        match copy.undo_each(id, records, first, end, &mut moved, pool) {
+        copy.make_pending(below);
+        match copy.undo_each(id, records, &mut moved, pool) {
             Ok(()) => {
                 let before = mem::replace(self, copy);
                 before.release(pool);
@@ -306,5 +410,13 @@ impl Buffer {
                 Err(refused)
             }
         }
+    }
+
+    /// Makes the records below a serial number pending, and no others. Nothing else changes.
+    fn make_pending(&mut self, below: u64)
+        ensures rest { self.new ≡ record self.old { undo = self.new.undo } }
+        ensures state { self.new.undo.state ≡ record self.old.undo.state { pending_below = below } }
+    {
+        self.undo.make_pending(below);
     }
 }

@@ -5,3 +5,4 @@ pub mod Finding
 pub mod Walking
 pub mod Groups
 pub mod Passing
+pub mod Parts

@@ -1,9 +1,9 @@
 -- Where the records of a plan stand.
 use Rattle.std.proofs.Common.{◌≡◌, ℕ, zero, suc, ◌+◌, ◌-◌, ◌≤◌, ◌<◌, Bool, true, false, List, [], ◌∷◌, ◌++◌, length, take, drop, filter, refl, ap, sym, ◌∙◌, subst, arith, append_assoc, length-append}
-use Rattle.std.specs.Prelude.{nat_lt, if◌then◌else◌}
+use Rattle.std.specs.Prelude.{nat_lt}
 use Rattle.std.proofs.lemmas.Bool.{lt-ltb, le-ltb}
 use Rattle.std.proofs.lemmas.List.{length-drop, length-take-le, take-append-drop}
-use Rattle.text_model.specs.Undo.{Entry, Undo, is_boundary, groups, oldest}
+use Rattle.text_model.specs.Undo.{Entry, is_boundary, groups, oldest}
 use Rattle.text_model.proofs.Cases.{if_true, if_false}
 use Rattle.undo_list.specs.Records.{AreFalling}
 

@@ -1,5 +1,5 @@
 //! Records with their serial numbers, and the cut of the oldest.
-ghost use Rattle.std.specs.Prelude.{◌≡◌, ℕ, ◌+◌, ◌<◌, ◌≤◌, [], ◌∷◌, length, drop, OnOk, OnErr};
+ghost use Rattle.std.specs.Prelude.{◌≡◌, ℕ, ◌+◌, ◌<◌, ◌≤◌, [], ◌∷◌, length, drop, take, OnOk, OnErr};
 ghost use Rattle.std.specs.Prelude.{IfOk, IsOk, IfSome, IfNone, filter, nat_lt, nat_le};
 ghost use Rattle.std.specs.Prelude.{if◌then◌else◌, true, slice_get, Some};
 ghost use Rattle.text_model.specs.Undo as undo;
@@ -217,23 +217,25 @@ impl Records {
         Ok(walk.plan)
     }
 
-    /// The same records again.
-    pub fn copy(&self) -> Mem<Records>
-        ensures { IfOk result (λ copy. copy.entries ≡ self.now.entries) }
+    /// The records from place `from` to before `to` again.
+    pub fn part(&self, from: usize, to: usize) -> Mem<Records>
+        requires fits { fits self.now.entries ≡ true }
+        requires order { from ≤ to }
+        requires range { to ≤ length self.now.entries }
+        ensures { IfOk result (λ part. part.entries ≡ drop from (take to self.now.entries)) }
     {
         let mut entries = VecDeque::new(*self.entries.allocator());
         // A copy is made to be added to, and a full list that grows would be moved to twice the room.
-        entries.reserve(self.entries.len().saturating_add(ADDED))?;
-        for i in 0..self.entries.len() {
+        entries.reserve((to - from).saturating_add(ADDED))?;
+        let mut kept = 0;
+        for i in from..to {
             let entry = &self.entries[i];
+            kept += entry.what.size() as u128;
             entries.push_back(Entry {
                 what: entry.what.copy()?,
                 serial: entry.serial,
             })?;
         }
-        Ok(Records {
-            entries,
-            kept: self.kept,
-        })
+        Ok(Records { entries, kept })
     }
 }

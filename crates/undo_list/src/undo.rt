@@ -196,6 +196,21 @@ impl Undo {
         Ok(())
     }
 
+    /// The serial number below which records are pending.
+    pub fn pending_below(&self) -> u64
+        ensures { result ≡ self.now.state.pending_below }
+    {
+        self.pending_below
+    }
+
+    /// Makes the records below a serial number pending, and no others. All stay in the list.
+    pub fn make_pending(&mut self, below: u64)
+        ensures state { self.new.state ≡ record self.old.state { pending_below = below } }
+        ensures spare { self.new.spare ≡ self.old.spare }
+    {
+        self.pending_below = below;
+    }
+
     /// Makes no record pending. All stay in the list.
     pub fn drop_pending(&mut self)
         ensures state { self.new.state ≡ without_pending self.old.state }
@@ -230,6 +245,10 @@ impl Undo {
         ensures inside { (groups min max : ℕ) → 1 ≤ groups →
             planned groups min max self.now.state ≡ Ok plan.now →
             trial min max (passed groups self.now.state) ≡ None }
+        ensures pass { (groups min max : ℕ) → 1 ≤ groups →
+            planned groups min max self.now.state ≡ Ok plan.now →
+            record self.now.state { pending_below = plan.now.last } ≡
+            pass (passed groups self.now.state) self.now.state }
         ensures order { result.0 ≤ result.1 }
         ensures within { result.1 ≤ length self.now.state.entries }
     {
@@ -271,9 +290,19 @@ impl Undo {
     pub fn copy(&self) -> Mem<Undo>
         ensures { IfOk result (λ copy. copy.state ≡ self.now.state) }
     {
+        self.part(0, self.records.len())
+    }
+
+    /// The same undo state, with the records from place `from` to before `to` alone.
+    pub fn part(&self, from: usize, to: usize) -> Mem<Undo>
+        requires order { from ≤ to }
+        requires range { to ≤ length self.now.state.entries }
+        ensures { IfOk result (λ part. part.state ≡
+            record self.now.state { entries = drop from (take to self.now.state.entries) }) }
+    {
         Ok(Undo {
             on: self.on,
-            records: self.records.copy()?,
+            records: self.records.part(from, to)?,
             next: self.next,
             pending_below: self.pending_below,
         })

@@ -1,4 +1,4 @@
-use Rattle.std.proofs.Common.{Some, None, map, ap, sym, ◌∙◌}
+use Rattle.std.proofs.Common.{map, ap, sym, ◌∙◌}
 use Rattle.text_model.specs.Undo.{Deleted, pushed, pushed_all}
 use Rattle.undo_list.specs.Records.{rec_of}
 use Rattle.buffer_core.specs.Recording.{with_text}

@@ -1,4 +1,4 @@
-use Rattle.std.proofs.Common.{◌≡◌, ◌+◌, ◌≤◌, ◌++◌, length, take, drop}
+use Rattle.std.proofs.Common.{◌≡◌, ◌+◌, ◌++◌, length, take, drop}
 use Rattle.gap_text.specs.Text.{LiesIn, characters}
 use Rattle.gap_text.specs.Blocks.{ChangesCellsOf}
 use Rattle.prop_intervals.specs.Sets.{together}

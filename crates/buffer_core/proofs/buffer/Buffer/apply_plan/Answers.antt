@@ -1,4 +1,4 @@
-use Rattle.std.proofs.Common.{◌≡◌, ◌≤◌, length, Ok, None, ap, sym, subst, ◌∙◌, arith}
+use Rattle.std.proofs.Common.{◌≡◌, ◌≤◌, length, None, ap, sym, subst, ◌∙◌, arith}
 use Rattle.text_model.specs.Undo.{passed, trial}
 use Rattle.text_model.specs.Commit.{Buffer, Site}
 use Rattle.machine_laws.specs.Boundaries.{KeepsBoundaries}

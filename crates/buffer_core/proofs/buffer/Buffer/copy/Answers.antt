@@ -1,4 +1,4 @@
-use Rattle.std.proofs.Common.{◌≡◌, ◌≤◌, length, ap, sym, subst, ◌∙◌, arith}
+use Rattle.std.proofs.Common.{◌≡◌, length, ap, sym, subst, ◌∙◌, arith}
 use Rattle.gap_text.specs.Text.{LiesIn, characters}
 use Rattle.buffer_core.specs.Meaning.{Stored}
 use Rattle.buffer_core.proofs.Recorded.{undoable-same}

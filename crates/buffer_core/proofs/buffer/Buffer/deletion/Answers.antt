@@ -1,11 +1,10 @@
-use Rattle.std.proofs.Common.{◌≡◌, ◌++◌, [], ◌∷◌, false, All, Some, None, map, length, ap, subst, sym, ◌∙◌}
-use Rattle.std.specs.Prelude.{if◌then◌else◌, ◌&&◌, not, ◌==◌}
-use Rattle.std.specs.List.{zip, filter_map, enumerate_from}
-use Rattle.std.proofs.lemmas.List.Elements.{All-nil}
+use Rattle.std.proofs.Common.{◌≡◌, ◌++◌, [], ◌∷◌, false, All, map, ap, subst, sym, ◌∙◌}
+use Rattle.std.specs.Prelude.{◌&&◌, not, ◌==◌}
+use Rattle.std.specs.List.{zip, enumerate_from}
 use Rattle.text_model.specs.Properties.{part}
 use Rattle.text_model.specs.Marks.{Marks}
 use Rattle.text_model.specs.Undo.{Deleted, pushed_all}
-use Rattle.text_model.specs.Commit.{deletion_records, fresh_group, adjustment}
+use Rattle.text_model.specs.Commit.{deletion_records, fresh_group}
 use Rattle.gap_text.specs.Text.{characters}
 use Rattle.undo_list.specs.Records.{rec_of}
 use Rattle.buffer_core.specs.Meaning.{Stored, site_of, CanBeUndone}

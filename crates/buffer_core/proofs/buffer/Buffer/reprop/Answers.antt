@@ -1,4 +1,4 @@
-use Rattle.std.proofs.Common.{◌≡◌, sym, subst}
+use Rattle.std.proofs.Common.{sym, subst}
 use Rattle.text_model.specs.Commit.{Buffer}
 use Rattle.machine_laws.specs.Boundaries.{KeepsBoundaries}
 use Rattle.prop_intervals.specs.Edits.{edit_of}

@@ -1,4 +1,4 @@
-use Rattle.std.proofs.Common.{◌≡◌, ◌≤◌, length, drop, take, Ok, ap, sym, subst, ◌∙◌, arith}
+use Rattle.std.proofs.Common.{◌≡◌, length, drop, take, Ok, ap, subst, ◌∙◌, arith}
 use Rattle.text_model.specs.Undo.{Undo, passed}
 use Rattle.undo_list.specs.Plans.{planned}
 use Rattle.undo_list.specs.State.{Recording}
