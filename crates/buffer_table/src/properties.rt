@@ -5,7 +5,7 @@ ghost use Rattle.text_model.specs.Ordered.{IsProper};
 ghost use Rattle.text_model.specs.PropertyQuestions.{next_change, previous_change};
 ghost use Rattle.editor_model.specs.Editor.{buffer_at};
 ghost use Rattle.ek_types.specs.Property.{number_of};
-ghost use Rattle.prop_intervals.specs.Sets.{sets_in, changes_of, run_end};
+ghost use Rattle.prop_intervals.specs.Sets.{sets_in, changes_of, run_end, before, behind};
 ghost use Rattle.buffer_table.specs.Kept.{editor_of};
 
 use crate::editor::Editor;
@@ -38,28 +38,36 @@ impl Editor {
         }
     }
 
-    /// The first place behind `i` where a set differs from the one in front of it, or only the value of one property, if
-    /// one is named. `None` where there is no such place.
-    pub fn next_change(&self, id: u32, i: usize, name: Option<Sym>) -> Option<usize>
-        requires { i ≤ length (buffer_at (editor_of self.now) id).text }
-        ensures { let text = (buffer_at (editor_of self.now) id).text in
-            result ≡ next_change i (length text) (changes_of (option_map number_of name) (sets_in text)) }
+    /// The first place behind `i` and before `to` where a set differs from the one in front of it, or only the value of
+    /// one property, if one is named. `None` where there is no such place. So it is the first before any later end,
+    /// unless that doesn't lie before `to`.
+    pub fn next_change(&self, id: u32, i: usize, to: usize, name: Option<Sym>) -> Option<usize>
+        requires { to ≤ length (buffer_at (editor_of self.now) id).text }
+        ensures exact { let text = (buffer_at (editor_of self.now) id).text in
+            result ≡ next_change i to (changes_of (option_map number_of name) (sets_in text)) }
+        ensures within { let text = (buffer_at (editor_of self.now) id).text in
+            (end : ℕ) → to ≤ end → result ≡
+            before to (next_change i end (changes_of (option_map number_of name) (sets_in text))) }
     {
         match self.found(id) {
-            Some(buffer) => buffer.props().next_change(i, name),
+            Some(buffer) => buffer.props().next_change(i, to, name),
             None => None,
         }
     }
 
-    /// The last place in front of `i` where a set differs from the one in front of it, or only the value of one property,
-    /// if one is named. `None` where there is no such place.
-    pub fn prev_change(&self, id: u32, i: usize, name: Option<Sym>) -> Option<usize>
+    /// The last place in front of `i` and behind `from` where a set differs from the one in front of it, or only the
+    /// value of one property, if one is named. `None` where there is no such place. So it is the last behind any
+    /// earlier start, unless that doesn't lie behind `from`.
+    pub fn prev_change(&self, id: u32, from: usize, i: usize, name: Option<Sym>) -> Option<usize>
         requires { i ≤ length (buffer_at (editor_of self.now) id).text }
-        ensures { let text = (buffer_at (editor_of self.now) id).text in
-            result ≡ previous_change 0 i (changes_of (option_map number_of name) (sets_in text)) }
+        ensures exact { let text = (buffer_at (editor_of self.now) id).text in result ≡
+            previous_change from i (changes_of (option_map number_of name) (sets_in text)) }
+        ensures within { let text = (buffer_at (editor_of self.now) id).text in
+            (start : ℕ) → start ≤ from → result ≡ behind from
+            (previous_change start i (changes_of (option_map number_of name) (sets_in text))) }
     {
         match self.found(id) {
-            Some(buffer) => buffer.props().prev_change(i, name),
+            Some(buffer) => buffer.props().prev_change(from, i, name),
             None => None,
         }
     }

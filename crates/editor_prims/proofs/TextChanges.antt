@@ -1,106 +1,52 @@
 -- Places where properties change, and characters that have a value.
-use Rattle.std.proofs.Common.{◌≡◌, ℕ, zero, suc, ◌+◌, ◌-◌, ◌<◌, ◌≤◌, Bool, true, false, List, [], ◌∷◌, length, map, take, drop, refl, sym, ap, subst, ◌∙◌, arith}
-use Rattle.std.specs.Prelude.{◌&&◌, not, nat_lt, if◌then◌else◌, Option, Some, None, slice_get, option_map, unwrap_or}
-use Rattle.std.proofs.lemmas.Bool.{ltb-true, ltb-false, le-ltb, lt-ltb}
+use Rattle.std.proofs.Common.{◌≡◌, ℕ, zero, suc, ◌+◌, ◌-◌, ◌<◌, ◌≤◌, Bool, true, false, List, [], ◌∷◌, length, map, take, drop, refl, sym, ap, subst, ◌∙◌, inl, inr, arith}
+use Rattle.std.specs.Prelude.{ℤ, pos, negsuc, int_lt, not, nat_lt, if◌then◌else◌, Option, Some, None, slice_get, option_map, unwrap_or}
+use Rattle.std.proofs.lemmas.Bool.{ltb-true, ltb-false, le-ltb, false≢true}
 use Rattle.std.proofs.lemmas.List.{drop_all, length-take, length-drop}
 use Rattle.std.proofs.lemmas.Option.{slice_get-map, slice_get_within}
 use Rattle.text_model.proofs.Sameness.{same_set-sound}
 use Rattle.text_model.proofs.Lists.{drop_at}
+use Rattle.text_model.proofs.Cases.{if_false}
 use Rattle.text_model.specs.Properties.{Cell, PropSet, get, same_set, same_option, same_value}
-use Rattle.text_model.specs.PropertyQuestions.{first, last, between, changes, changes_after, unless_same, first_where}
-use Rattle.prop_intervals.specs.Sets.{changes_of, other_from, run_end, sets_in}
-use Rattle.editor_prims.specs.PropertyArguments.{found_before, found_behind, changes_in}
+use Rattle.text_model.specs.PropertyQuestions.{changes, first_where}
+use Rattle.prop_intervals.specs.Sets.{changes_of, other_from, run_end, sets_in, before, behind}
+use Rattle.editor_model.specs.PropertyCalls.{up_to, down_to}
+use Rattle.editor_prims.specs.PropertyArguments.{Ends, EndsBehind, changes_in}
 
--- THE PLACES RISE
-abbrev pub Rising : ℕ → List ℕ → Type 0
-Rising n [] = Unit {0}
-Rising n (x ∷ xs) = (n ≤ x) × Rising (x + 1) xs
+-- UP TO A LIMIT
+limit_behind : (to p : ℕ) (l : ℤ) → to ≤ p → int_lt (pos (to + 1)) l ≡ false → int_lt (pos (p + 1)) l ≡ false
+limit_behind to p (pos n) h k = le-ltb (p + 1) n (let m : n ≤ to + 1 = ltb-false (to + 1) n k in omega (arith, m, h))
+limit_behind to p (negsuc n) h k = refl
 
-weaker : (n : ℕ) (xs : List ℕ) → Rising (n + 1) xs → Rising n xs
-weaker n [] h = tt
-weaker n (x ∷ xs) h = (let k = h.0 in omega arith, h.1)
-
-unless_rising : (b : Bool) (n : ℕ) (xs : List ℕ) → Rising (n + 1) xs → Rising n (unless_same b n xs)
-unless_rising true n xs h = weaker n xs h
-unless_rising false n xs h = (omega arith, h)
-
-after_rising : {A : Type 0} (same : A → A → Bool) (before : A) (n : ℕ) (xs : List A) → Rising n (changes_after same before n xs)
-after_rising same before n [] = tt
-after_rising same before n (x ∷ xs) = unless_rising (same before x) n (changes_after same x (n + 1) xs) (after_rising same x (n + 1) xs)
-
-changes_rising : {A : Type 0} (same : A → A → Bool) (xs : List A) → Rising 0 (changes same xs)
-changes_rising same [] = tt
-changes_rising same (x ∷ xs) = weaker 0 (changes_after same x 1 xs) (after_rising same x 1 xs)
-
-pub places_rising : (name : Option ℕ) (sets : List PropSet) → Rising 0 (changes_of name sets)
-places_rising None sets = changes_rising same_set sets
-places_rising (Some name) sets = changes_rising (same_option same_value) (map (λ s. get s name) sets)
-
--- FROM A LARGER PART TO A SMALLER ONE
-none_behind : (low end n : ℕ) (xs : List ℕ) → end ≤ n → Rising n xs → first (between low end xs) ≡ None
-none_behind low end n [] l h = refl
-none_behind low end n (x ∷ xs) l h = rw (outside (nat_lt low x)) (none_behind low end (x + 1) xs (let k = h.0 in omega arith) h.1)
+pub up_to_ends : (end : ℕ) (limit : Option ℤ) (to : ℕ) (r o : Option ℕ) → Ends end limit to → (to ≡ end → r ≡ o) → (to ≤ end → r ≡ before to o) → up_to r limit ≡ up_to o limit
+up_to_ends end limit to r o (inl e) whole part = ap (λ x. up_to x limit) (whole e)
+up_to_ends end None to r o (inr h) whole part = absurd h.1
+up_to_ends end (Some l) to r o (inr h) whole part = ap (λ x. up_to x (Some l)) (part h.0) ∙ go o
   where
-    outside : (b : Bool) → (b && nat_lt x end) ≡ false
-    outside false = refl
-    outside true = le-ltb x end (let k = h.0 in omega arith)
+    cut : (p : ℕ) (b : Bool) → nat_lt p to ≡ b → up_to (if b then Some p else None) (Some l) ≡ up_to (Some p) (Some l)
+    cut p true e = refl
+    cut p false e = sym (if_false _ (limit_behind to p l (ltb-false p to e) h.1))
 
-pub next_within : (low end big n : ℕ) (xs : List ℕ) → end ≤ big → Rising n xs → first (between low end xs) ≡ found_before end (first (between low big xs))
-next_within low end big n [] l h = refl
-next_within low end big n (x ∷ xs) l h = go (nat_lt low x) (nat_lt x big) (nat_lt x end) refl refl refl (next_within low end big (x + 1) xs l h.1)
+    go : (o : Option ℕ) → up_to (before to o) (Some l) ≡ up_to o (Some l)
+    go None = refl
+    go (Some p) = cut p (nat_lt p to) refl
+
+limit_before : (from q : ℕ) (l : ℤ) → q ≤ from → int_lt (pos from) l ≡ true → int_lt l (pos (q + 1)) ≡ false
+limit_before from q (pos n) h k = le-ltb n (q + 1) (let m : from < n = ltb-true from n k in omega (arith, m, h))
+limit_before from q (negsuc n) h k = absurd (false≢true k)
+
+pub down_to_ends : (begin : ℕ) (limit : Option ℤ) (from : ℕ) (r o : Option ℕ) → EndsBehind begin limit from → (from ≡ begin → r ≡ o) → (begin ≤ from → r ≡ behind from o) → down_to r limit ≡ down_to o limit
+down_to_ends begin limit from r o (inl e) whole part = ap (λ x. down_to x limit) (whole e)
+down_to_ends begin None from r o (inr h) whole part = absurd h.1
+down_to_ends begin (Some l) from r o (inr h) whole part = ap (λ x. down_to x (Some l)) (part h.0) ∙ go o
   where
-    go : (a b c : Bool) → nat_lt low x ≡ a → nat_lt x big ≡ b → nat_lt x end ≡ c → first (between low end xs) ≡ found_before end (first (between low big xs)) → first (between low end (x ∷ xs)) ≡ found_before end (first (between low big (x ∷ xs)))
-    go false b c p q r rest = rw p rest
-    go true true true p q r rest = rw (p, q, r) refl
-    go true true false p q r rest = rw (p, q, r) (none_behind low end (x + 1) xs (let k = ltb-false x end r in omega arith) h.1)
-    go true false true p q r rest = absurd (let k = ltb-false x big q in let m = ltb-true x end r in omega arith)
-    go true false false p q r rest = rw (p, q, r) rest
+    cut : (q : ℕ) (b : Bool) → nat_lt from q ≡ b → down_to (if b then Some q else None) (Some l) ≡ down_to (Some q) (Some l)
+    cut q true e = refl
+    cut q false e = sym (if_false _ (limit_before from q l (ltb-false from q e) h.1))
 
-abbrev AllAbove : ℕ → List ℕ → Type 0
-AllAbove n [] = Unit {0}
-AllAbove n (x ∷ xs) = (n < x) × AllAbove n xs
-
-last_above : (start : ℕ) (xs : List ℕ) → AllAbove start xs → last xs ≡ found_behind start (last xs)
-last_above start [] h = refl
-last_above start (x ∷ []) h = rw (lt-ltb start x h.0) refl
-last_above start (x ∷ y ∷ xs) h = last_above start (y ∷ xs) h.1
-
-between_above : (start low place n : ℕ) (xs : List ℕ) → start < n → Rising n xs → AllAbove start (between low place xs)
-between_above start low place n [] l h = tt
-between_above start low place n (x ∷ xs) l h = go (nat_lt low x && nat_lt x place) (between_above start low place (x + 1) xs (let k = h.0 in omega arith) h.1)
-  where
-    go : (b : Bool) → AllAbove start (between low place xs) → AllAbove start (if b then x ∷ between low place xs else between low place xs)
-    go true rest = (let k = h.0 in omega arith, rest)
-    go false rest = rest
-
--- where all places lie above both bounds, these are the same
-same_between : (start place n : ℕ) (xs : List ℕ) → start < n → Rising n xs → between start place xs ≡ between 0 place xs
-same_between start place n [] l h = refl
-same_between start place n (x ∷ xs) l h =
-    let above : nat_lt start x ≡ true = lt-ltb start x (let k = h.0 in omega arith) in
-    let above_0 : nat_lt 0 x ≡ true = lt-ltb 0 x (let k = h.0 in omega arith) in
-    rw (above, above_0) (go (nat_lt x place) (same_between start place (x + 1) xs (let k = h.0 in omega arith) h.1))
-  where
-    go : (b : Bool) → between start place xs ≡ between 0 place xs → (if b then x ∷ between start place xs else between start place xs) ≡ (if b then x ∷ between 0 place xs else between 0 place xs)
-    go true e = ap (λ ys. x ∷ ys) e
-    go false e = e
-
-last_behind : (start x : ℕ) (xs : List ℕ) (o : Option ℕ) → nat_lt start x ≡ false → o ≡ found_behind start (last xs) → o ≡ found_behind start (last (x ∷ xs))
-last_behind start x [] o low h = h ∙ sym (ap (λ b. if b then Some x else None) low)
-last_behind start x (y ∷ xs) o low h = h
-
-pub previous_within : (start place n : ℕ) (xs : List ℕ) → Rising n xs → last (between start place xs) ≡ found_behind start (last (between 0 place xs))
-previous_within start place n [] h = refl
-previous_within start place n (x ∷ xs) h = go (nat_lt start x) (nat_lt 0 x) (nat_lt x place) refl refl refl (previous_within start place (x + 1) xs h.1)
-  where
-    go : (a b c : Bool) → nat_lt start x ≡ a → nat_lt 0 x ≡ b → nat_lt x place ≡ c → last (between start place xs) ≡ found_behind start (last (between 0 place xs)) → last (between start place (x ∷ xs)) ≡ found_behind start (last (between 0 place (x ∷ xs)))
-    go true b c p q r rest =
-        let l : start < x = ltb-true start x p in
-        ap last (same_between start place (start + 1) (x ∷ xs) (omega arith) (omega arith, h.1))
-        ∙ last_above start (between 0 place (x ∷ xs)) (between_above start 0 place (start + 1) (x ∷ xs) (omega arith) (omega arith, h.1))
-    go false false c p q r rest = rw (p, q) rest
-    go false true false p q r rest = rw (p, q, r) rest
-    go false true true p q r rest = rw (p, q, r) (last_behind start x (between 0 place xs) _ p rest)
+    go : (o : Option ℕ) → down_to (behind from o) (Some l) ≡ down_to o (Some l)
+    go None = refl
+    go (Some q) = cut q (nat_lt from q) refl
 
 -- CHARACTERS THAT HAVE A VALUE
 get_taken : {A : Type 0} (xs : List A) (to i : ℕ) → i < to → slice_get (take to xs) i ≡ slice_get xs i

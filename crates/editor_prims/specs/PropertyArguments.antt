@@ -1,6 +1,6 @@
 -- Arguments that give properties.
-use Rattle.std.specs.Prelude.{ℕ, nat_lt, if◌then◌else◌, Bool, true, false, not, List, [], ◌∷◌, ◌++◌}
-use Rattle.std.specs.Prelude.{Option, Some, None, option_map}
+use Rattle.std.specs.Prelude.{◌≡◌, ℕ, ◌+◌, ◌≤◌, ◌⊎◌, ℤ, pos, int_lt, Bool, true, false, not, List, [], ◌∷◌, ◌++◌}
+use Rattle.std.specs.Prelude.{Option, Some, None, IsSomeAnd, option_map}
 use Rattle.text_model.specs.Properties.{PropVal, Cell}
 use Rattle.text_model.specs.PropertyQuestions.{set_changes, value_changes}
 use Rattle.editor_model.specs.Values.{Value, Sym, Pairs, as_prop, with_pair}
@@ -32,14 +32,16 @@ abbrev pub wanted : (has found : Bool) → Bool
 wanted true found = found
 wanted false found = not found
 
--- a place that was found, where it lies before an end, or behind a start
-abbrev pub found_before : (end : ℕ) → Option ℕ → Option ℕ
-found_before end None = None
-found_before end (Some place) = if nat_lt place end then Some place else None
+-- where a search for the next change may end: at an end, or in front of it, where a limit comes that counts
+-- from 1
+abbrev pub Ends : (end : ℕ) → (limit : Option ℤ) → (to : ℕ) → Type 0
+Ends end limit to =
+    (to ≡ end) ⊎ ((to ≤ end) × IsSomeAnd limit (λ l. int_lt (pos (to + 1)) l ≡ false))
 
-abbrev pub found_behind : (start : ℕ) → Option ℕ → Option ℕ
-found_behind start None = None
-found_behind start (Some place) = if nat_lt start place then Some place else None
+-- where one for the change before may end: at a beginning, or behind it, where a limit comes
+abbrev pub EndsBehind : (begin : ℕ) → (limit : Option ℤ) → (from : ℕ) → Type 0
+EndsBehind begin limit from =
+    (from ≡ begin) ⊎ ((begin ≤ from) × IsSomeAnd limit (λ l. int_lt (pos from) l ≡ true))
 
 -- where the sets of a text change, or the values of one property, if one is named
 abbrev pub changes_in : Option ℕ → List Cell → List ℕ

@@ -2,10 +2,9 @@
 //! Manual).
 ghost use Rattle.std.specs.Prelude.{◌≡◌, ◌≤◌, length, IfOk, map, option_map, unwrap_or, [], None};
 ghost use Rattle.text_model.specs.Properties.{get, part};
-ghost use Rattle.text_model.specs.PropertyQuestions.{next_change, previous_change, first_where};
-ghost use Rattle.text_model.specs.PropertyQuestions.{has_value};
+ghost use Rattle.text_model.specs.PropertyQuestions.{first_where, has_value};
 ghost use Rattle.editor_model.specs.Values.{of_prop, of_set, Int as integer};
-ghost use Rattle.editor_prims.specs.PropertyArguments.{wanted, changes_in, found_before, found_behind};
+ghost use Rattle.editor_prims.specs.PropertyArguments.{wanted, changes_in, Ends, EndsBehind};
 ghost use Rattle.editor_model.specs.Answers.{first_fault};
 ghost use Rattle.editor_model.specs.Arguments.{number, place, symbol_of, value_of, from_of};
 ghost use Rattle.editor_model.specs.Arguments.{must_be_accessible};
@@ -78,48 +77,6 @@ pub(crate) fn text_properties_at(editor: &Editor, p: &Value) -> Result<Value, Fa
     Ok(text_properties(editor, place(editor, p))?)
 }
 
-/// A place that was found, if it lies before an end.
-fn found_before(end: usize, found: Option<usize>) -> Option<usize>
-    ensures { result ≡ found_before end found }
-{
-    match found {
-        Some(place) if place < end => Some(place),
-        _ => None,
-    }
-}
-
-/// A place that was found, if it lies behind a start.
-fn found_behind(start: usize, found: Option<usize>) -> Option<usize>
-    ensures { result ≡ found_behind start found }
-{
-    match found {
-        Some(place) if start < place => Some(place),
-        _ => None,
-    }
-}
-
-/// The first place behind another, and in the accessible portion of the current buffer but at its end, where the sets or
-/// the values of a property change.
-fn next_in(editor: &Editor, place: usize, name: Option<Sym>) -> Option<usize>
-    requires { place ≤ length (here (editor_of editor.now)).text }
-    ensures { result ≡ next_change place (here (editor_of editor.now)).end
-        (changes_in (option_map number_of name) (here (editor_of editor.now)).text) }
-{
-    let id = editor.current();
-    found_before(editor.bounds(id).end, editor.next_change(id, place, name))
-}
-
-/// The last place in front of another, and in the accessible portion of the current buffer but at its beginning,
-/// where the sets or the values of a property change.
-fn previous_in(editor: &Editor, place: usize, name: Option<Sym>) -> Option<usize>
-    requires { place ≤ length (here (editor_of editor.now)).text }
-    ensures { result ≡ previous_change (here (editor_of editor.now)).begin place
-        (changes_in (option_map number_of name) (here (editor_of editor.now)).text) }
-{
-    let id = editor.current();
-    found_behind(editor.bounds(id).start, editor.prev_change(id, place, name))
-}
-
 /// A number as a value. One that no value can hold counts as want of memory.
 fn whole(n: i128) -> Mem<Value>
     ensures { IfOk result (λ v. view v ≡ integer n) }
@@ -166,6 +123,26 @@ fn down_to(found: Option<usize>, limit: Option<i128>) -> Mem<Value>
     }
 }
 
+/// Where a search ends that begins in front of an end: there, or where the limit comes first.
+fn ends(end: usize, limit: Option<i128>) -> usize
+    ensures { Ends end limit result }
+{
+    match limit {
+        Some(limit) if limit <= end as i128 => (limit.max(1) - 1) as usize,
+        _ => end,
+    }
+}
+
+/// Where a search ends that goes back to a beginning: there, or where the limit comes first.
+fn ends_behind(begin: usize, limit: Option<i128>) -> usize
+    ensures { EndsBehind begin limit result }
+{
+    match limit {
+        Some(limit) if limit > begin as i128 => usize::try_from(limit - 1).unwrap_or(usize::MAX),
+        _ => begin,
+    }
+}
+
 /// Where the sets change, or the values of one property, behind a position.
 fn next_after(editor: &Editor, p: &Value, name: Option<Sym>, limit: &Value) -> Mem<Value>
     requires { must_be_accessible (here (editor_of editor.now)) (editor_of editor.now)
@@ -174,12 +151,10 @@ fn next_after(editor: &Editor, p: &Value, name: Option<Sym>, limit: &Value) -> M
         (view limit.now) (changes_in (option_map number_of name)
         (here (editor_of editor.now)).text)) }
 {
-    // Read for what it ensures: the accessible portion lies in the text.
-    let _portion = editor.bounds(editor.current());
-    up_to(
-        next_in(editor, place(editor, p), name),
-        number(editor, limit),
-    )
+    let id = editor.current();
+    let limit = number(editor, limit);
+    let to = ends(editor.bounds(id).end, limit);
+    up_to(editor.next_change(id, place(editor, p), to, name), limit)
 }
 
 /// Where the sets change, or the values of one property, in front of a position.
@@ -190,12 +165,10 @@ fn previous_before(editor: &Editor, p: &Value, name: Option<Sym>, limit: &Value)
         (view limit.now) (changes_in (option_map number_of name)
         (here (editor_of editor.now)).text)) }
 {
-    // Read for what it ensures: the accessible portion lies in the text.
-    let _portion = editor.bounds(editor.current());
-    down_to(
-        previous_in(editor, place(editor, p), name),
-        number(editor, limit),
-    )
+    let id = editor.current();
+    let limit = number(editor, limit);
+    let from = ends_behind(editor.bounds(id).start, limit);
+    down_to(editor.prev_change(id, from, place(editor, p), name), limit)
 }
 
 pub(crate) fn next_property_change(

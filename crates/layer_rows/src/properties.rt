@@ -30,13 +30,33 @@ fn run_end(rt: &impl Abort, props: &Props, i: usize) -> usize {
 }
 
 fn next_change(rt: &impl Abort, props: &Props, i: usize, name: Option<Sym>) -> Option<usize> {
-    assert!(rt; i <= size(props));
-    props.next_change(i, name)
+    next_before(rt, props, i, size(props), name)
+}
+
+fn next_before(
+    rt: &impl Abort,
+    props: &Props,
+    i: usize,
+    to: usize,
+    name: Option<Sym>,
+) -> Option<usize> {
+    assert!(rt; to <= size(props));
+    props.next_change(i, to, name)
 }
 
 fn prev_change(rt: &impl Abort, props: &Props, i: usize, name: Option<Sym>) -> Option<usize> {
+    prev_behind(rt, props, 0, i, name)
+}
+
+fn prev_behind(
+    rt: &impl Abort,
+    props: &Props,
+    from: usize,
+    i: usize,
+    name: Option<Sym>,
+) -> Option<usize> {
     assert!(rt; i <= size(props));
-    props.prev_change(i, name)
+    props.prev_change(from, i, name)
 }
 
 /// The faces of all characters are these.
@@ -92,6 +112,12 @@ fn changes_are_found_and_a_change_to_what_is_there_is_none(rt: HostRuntime) {
     is(&rt, prev_change(&rt, &props, 3, None), Some(1));
     is(&rt, prev_change(&rt, &props, 1, None), None);
     is(&rt, prev_change(&rt, &props, 0, None), None);
+    is(&rt, next_before(&rt, &props, 0, 1, None), None);
+    is(&rt, next_before(&rt, &props, 0, 2, None), Some(1));
+    is(&rt, next_before(&rt, &props, 3, 1, None), None);
+    is(&rt, prev_behind(&rt, &props, 3, 4, None), None);
+    is(&rt, prev_behind(&rt, &props, 2, 4, None), Some(3));
+    is(&rt, prev_behind(&rt, &props, 4, 2, None), None);
     let again = PropEdit::Add(faced(&rt, alloc, 1), SymList::new(alloc));
     is(&rt, changes(&rt, &mut props, 1, 3, &again), false);
     is(&rt, changes(&rt, &mut props, 1, 4, &again), true);

@@ -191,6 +191,10 @@ fn a_copy_is_another_list(rt: HostRuntime) {
     undo.disable();
     is(&rt, inserted(&copy), Some((0, 2)));
     is(&rt, planned(&rt, &copy, 1, 0, 2), Err(Refused::Outside(0)));
+    let part = copy.part(1, 2).expect(&rt, "a copy");
+    is(&rt, part.len(), 1);
+    is(&rt, inserted(&part), None);
+    is(&rt, copy.part(1, 1).expect(&rt, "a copy").len(), 0);
 }
 
 /// So many records in one group, each point at its number.

@@ -6,3 +6,4 @@ pub mod ChangeLemmas
 pub mod QuestionLemmas
 pub mod Stepping
 pub mod Together
+pub mod PartLemmas

@@ -1,5 +1,5 @@
 -- Pieces one behind the other.
-use Rattle.std.proofs.Common.{◌≡◌, ℕ, ◌+◌, ◌<◌, ◌≤◌, List, [], ◌∷◌, ◌++◌, length, take, drop, map, refl, sym, ap, ◌∙◌, arith, append-nil, append_assoc, length-append}
+use Rattle.std.proofs.Common.{◌≡◌, ℕ, ◌+◌, ◌≤◌, List, [], ◌∷◌, ◌++◌, length, take, drop, sym, ap, ◌∙◌, arith, append-nil, length-append}
 use Rattle.std.specs.Prelude.{slice_get, Some, replicate}
 use Rattle.std.proofs.lemmas.List.{map-append, replicate-append-replicate, take-append-drop}
 use Rattle.std.proofs.lemmas.Grind.{flat_map-append}

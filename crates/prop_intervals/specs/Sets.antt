@@ -1,6 +1,6 @@
 -- The property sets of a text, and where they change.
 use Rattle.std.specs.Prelude.{ℕ, Bool, ◌+◌, not, List, [], ◌∷◌, map, flat_map, length, drop, Option}
-use Rattle.std.specs.Prelude.{Some, None, unwrap_or}
+use Rattle.std.specs.Prelude.{Some, None, unwrap_or, nat_lt, if◌then◌else◌}
 use Rattle.text_model.specs.Properties.{PropSet, Cell, get, same_set, same_value, same_option}
 use Rattle.text_model.specs.PropertyQuestions.{first_where, changes}
 
@@ -24,6 +24,15 @@ run_end place sets =
 abbrev pub changes_of : Option ℕ → List PropSet → List ℕ
 changes_of None sets = changes same_set sets
 changes_of (Some name) sets = changes (same_option same_value) (map (λ s. get s name) sets)
+
+-- a place that was found, where it lies before an end, or behind a start
+abbrev pub before : (end : ℕ) → Option ℕ → Option ℕ
+before end None = None
+before end (Some place) = if nat_lt place end then Some place else None
+
+abbrev pub behind : (start : ℕ) → Option ℕ → Option ℕ
+behind start None = None
+behind start (Some place) = if nat_lt start place then Some place else None
 
 -- whether two sets are the same, or only the values of one property, if one is named
 abbrev pub same_by : Option ℕ → PropSet → PropSet → Bool

@@ -8,7 +8,8 @@ ghost use Rattle.text_model.specs.PropertyQuestions.{next_change, previous_chang
 ghost use Rattle.ek_types.specs.Property.{number_of};
 ghost use Rattle.prop_intervals.specs.Edits.{edit_of};
 ghost use Rattle.prop_intervals.specs.Runs.{sets_of, AreApart};
-ghost use Rattle.prop_intervals.specs.Sets.{sets_in, together, run_end, changes_of};
+ghost use Rattle.prop_intervals.specs.Sets.{sets_in, together, run_end, changes_of, before};
+ghost use Rattle.prop_intervals.specs.Sets.{behind};
 
 use crate::change::edited_runs;
 use crate::edit::PropEdit;
@@ -150,24 +151,29 @@ impl Props {
         Ok(true)
     }
 
-    /// The first place behind another where a set differs from the one in front of it, or only the value of one
-    /// property, if one is named ("Property Search" in the GNU Emacs Lisp Reference Manual). `None` where there is no
-    /// such place.
-    pub fn next_change(&self, i: usize, name: Option<Sym>) -> Option<usize>
-        requires { i ≤ length self.now }
-        ensures { result ≡ next_change i (length self.now)
-            (changes_of (option_map number_of name) self.now) }
+    /// The first place behind another and before `to` where a set differs from the one in front of it, or only the value
+    /// of one property, if one is named ("Property Search" in the GNU Emacs Lisp Reference Manual). `None` where there
+    /// is no such place. So it is the first before any later end, unless that doesn't lie before `to`.
+    pub fn next_change(&self, i: usize, to: usize, name: Option<Sym>) -> Option<usize>
+        requires { to ≤ length self.now }
+        ensures exact { result ≡ next_change i to (changes_of (option_map number_of name) self.now) }
+        ensures within { (end : ℕ) → to ≤ end →
+            result ≡ before to (next_change i end (changes_of (option_map number_of name) self.now)) }
     {
-        questions::next_change(&self.tree, i, name)
+        questions::next_change(&self.tree, i, to, name)
     }
 
-    /// The last place in front of another where a set differs from the one in front of it, or only the value of one
-    /// property, if one is named. `None` where there is no such place.
-    pub fn prev_change(&self, i: usize, name: Option<Sym>) -> Option<usize>
+    /// The last place in front of another and behind `from` where a set differs from the one in front of it, or only the
+    /// value of one property, if one is named. `None` where there is no such place. So it is the last behind any earlier
+    /// start, unless that doesn't lie behind `from`.
+    pub fn prev_change(&self, from: usize, i: usize, name: Option<Sym>) -> Option<usize>
         requires { i ≤ length self.now }
-        ensures { result ≡ previous_change 0 i (changes_of (option_map number_of name) self.now) }
+        ensures exact { result ≡
+            previous_change from i (changes_of (option_map number_of name) self.now) }
+        ensures within { (start : ℕ) → start ≤ from → result ≡
+            behind from (previous_change start i (changes_of (option_map number_of name) self.now)) }
     {
-        questions::previous_change(&self.tree, i, name)
+        questions::previous_change(&self.tree, from, i, name)
     }
 
     /// Puts `n` characters in by making a run longer, if all of them have the set of a run that is there.

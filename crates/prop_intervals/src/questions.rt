@@ -1,5 +1,5 @@
 //! Where the sets of a text change.
-ghost use Rattle.std.specs.Prelude.{◌≡◌, ◌≤◌, not, length, option_map};
+ghost use Rattle.std.specs.Prelude.{◌≡◌, ◌≤◌, not, option_map};
 ghost use Rattle.text_model.specs.PropertyQuestions.{next_change, previous_change};
 ghost use Rattle.ek_types.specs.Property.{number_of};
 ghost use Rattle.prop_intervals.specs.Runs.{size, sets_of};
@@ -18,20 +18,18 @@ fn differ(a: &PropSet, b: &PropSet, name: Option<Sym>) -> bool
     }
 }
 
-/// The first place behind another where the sets or the values change.
-pub(crate) fn next_change(tree: &Tree, i: usize, name: Option<Sym>) -> Option<usize>
-    requires { i ≤ size tree.now }
-    ensures { result ≡ next_change i (length (sets_of tree.now))
-        (changes_of (option_map number_of name) (sets_of tree.now)) }
+/// The first place behind another and before `to` where the sets or the values change.
+pub(crate) fn next_change(tree: &Tree, i: usize, to: usize, name: Option<Sym>) -> Option<usize>
+    requires { to ≤ size tree.now }
+    ensures { result ≡ next_change i to (changes_of (option_map number_of name) (sets_of tree.now)) }
 {
-    let size = tree.len();
-    if i == size {
+    if i >= to {
         return None;
     }
     let run = tree.find(i);
     let set = run.set;
     let mut end = run.end;
-    while end < size {
+    while end < to {
         let next = tree.find(end);
         if differ(set, next.set, name) {
             return Some(end);
@@ -41,18 +39,24 @@ pub(crate) fn next_change(tree: &Tree, i: usize, name: Option<Sym>) -> Option<us
     None
 }
 
-/// The last place in front of another where the sets or the values change.
-pub(crate) fn previous_change(tree: &Tree, i: usize, name: Option<Sym>) -> Option<usize>
+/// The last place in front of another and behind `from` where the sets or the values change.
+pub(crate) fn previous_change(
+    tree: &Tree,
+    from: usize,
+    i: usize,
+    name: Option<Sym>,
+) -> Option<usize>
     requires { i ≤ size tree.now }
-    ensures { result ≡ previous_change 0 i (changes_of (option_map number_of name) (sets_of tree.now)) }
+    ensures { result ≡ previous_change from i
+        (changes_of (option_map number_of name) (sets_of tree.now)) }
 {
-    if i == 0 {
+    if i <= from {
         return None;
     }
     let run = tree.find(i - 1);
     let set = run.set;
     let mut start = run.start;
-    while start > 0 {
+    while start > from {
         let last = tree.find(start - 1);
         if differ(last.set, set, name) {
             return Some(start);

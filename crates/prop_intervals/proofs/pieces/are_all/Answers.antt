@@ -1,4 +1,4 @@
-use Rattle.std.proofs.Common.{length, refl, ◌<◌, arith}
+use Rattle.std.proofs.Common.{length, refl, arith}
 use Rattle.std.proofs.lemmas.Option.{slice_get_read}
 use Rattle.prop_intervals.proofs.Together.{all_more_together}
 use Rattle.prop_intervals.proofs.pieces.are_all.Goals as goal

@@ -1,4 +1,4 @@
-use Rattle.std.proofs.Common.{◌≡◌, ◌≤◌, length, take}
+use Rattle.std.proofs.Common.{◌≡◌, length, take}
 use Rattle.std.specs.Prelude.{replicate}
 use Rattle.prop_intervals.specs.Sets.{sets_in, together}
 use Rattle.prop_intervals.proofs.pieces.are_all.Given as goal

@@ -1,5 +1,4 @@
-use Rattle.std.proofs.Common.{◌≡◌, ◌≤◌, ◌-◌, ◌++◌, length, take}
-use Rattle.std.specs.Prelude.{replicate}
+use Rattle.std.proofs.Common.{◌≤◌, ◌-◌, length}
 use Rattle.prop_intervals.specs.Sets.{sets_in}
 use Rattle.prop_intervals.proofs.Stepping.{OneSet}
 use Rattle.prop_intervals.proofs.pieces.is_all.Given as goal

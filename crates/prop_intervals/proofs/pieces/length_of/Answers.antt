@@ -1,4 +1,4 @@
-use Rattle.std.proofs.Common.{◌+◌, arith, length, refl, ◌<◌}
+use Rattle.std.proofs.Common.{◌+◌, arith, length, refl}
 use Rattle.std.proofs.lemmas.Option.{slice_get_read}
 use Rattle.prop_intervals.proofs.Together.{length_more, length_within}
 use Rattle.prop_intervals.proofs.pieces.length_of.Goals as goal

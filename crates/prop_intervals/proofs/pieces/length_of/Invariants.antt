@@ -1,4 +1,4 @@
-use Rattle.std.proofs.Common.{◌≡◌, ◌≤◌, length, take}
+use Rattle.std.proofs.Common.{◌≡◌, length, take}
 use Rattle.prop_intervals.specs.Sets.{together}
 use Rattle.prop_intervals.proofs.pieces.length_of.Given as goal
 

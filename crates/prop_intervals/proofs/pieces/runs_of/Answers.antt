@@ -1,4 +1,4 @@
-use Rattle.std.proofs.Common.{◌+◌, ◌++◌, ap, ◌∙◌, length, take, sym, arith, refl, ◌<◌}
+use Rattle.std.proofs.Common.{◌+◌, ◌++◌, ap, ◌∙◌, length, take, sym, arith, refl}
 use Rattle.std.proofs.lemmas.List.{length-map}
 use Rattle.prop_intervals.specs.Sets.{sets_in, together}
 use Rattle.prop_intervals.proofs.SetLemmas.{length-sets_of}

@@ -1,4 +1,4 @@
-use Rattle.std.proofs.Common.{◌≡◌, ◌≤◌, length, take}
+use Rattle.std.proofs.Common.{◌≡◌, take}
 use Rattle.prop_intervals.specs.Runs.{sets_of, AreApart}
 use Rattle.prop_intervals.specs.Sets.{sets_in, together}
 use Rattle.prop_intervals.proofs.pieces.runs_of.Given as goal

@@ -10,4 +10,4 @@ invariant-loop-end l =
     next_change l.i (length (sets_of l.tree)) (changes_of (option_map number_of l.name) (sets_of l.tree)) ≡ first (changes_after (same_by (option_map number_of l.name)) l.set l.end (drop l.end (sets_of l.tree)))
 
 abbrev pub decreases-loop-end : goal.decreases-loop-end
-decreases-loop-end l = l.size - l.end
+decreases-loop-end l = l.to - l.end
