@@ -4,7 +4,7 @@ use Rattle.std.specs.Prelude.{nat_lt, ◌==◌, if◌then◌else◌, MatchBool}
 use Rattle.std.proofs.lemmas.Bool.{ne_eqb, lt-ltb, le-ltb, ltb-true, ltb-false}
 use Rattle.text_model.specs.Properties.{PropSet, same_set}
 use Rattle.text_model.proofs.Cases.{by_test, if_true, if_false}
-use Rattle.prop_intervals.specs.Runs.{Run, size, grown, shrunk, before, behind, in_front, glued, IsPartOfRun, IsRunAt, SetAt}
+use Rattle.prop_intervals.specs.Runs.{Run, size, grown, shrunk, before, behind, in_front, glued, IsPartOfRun, IsRunAt, CanCut}
 
 pub size-append : (xs ys : List Run) → size (xs ++ ys) ≡ size xs + size ys
 size-append [] ys = omega arith
@@ -139,29 +139,29 @@ second_by : (b : Bool) (P Q : Type 0) → b ≡ false → MatchBool b P Q → Q
 second_by true P Q k h = cc
 second_by false P Q k h = h
 
-pub set_at-front : (at : ℕ) (xs ys : List Run) (s : PropSet) → at < size xs → SetAt (xs ++ ys) at s → SetAt xs at s
-set_at-front at [] ys s h k = tt
-set_at-front at (x ∷ xs) ys s h k =
-    kept_by (nat_lt at x.1) (x.0 ≡ s) (SetAt (xs ++ ys) (at - x.1) s) (SetAt xs (at - x.1) s)
-    (λ e. let past : x.1 ≤ at = ltb-false at x.1 e in set_at-front (at - x.1) xs ys s (omega arith)) k
+pub can_cut-front : (at : ℕ) (xs ys : List Run) (s : PropSet) → at < size xs → CanCut (xs ++ ys) at s → CanCut xs at s
+can_cut-front at [] ys s h k = tt
+can_cut-front at (x ∷ xs) ys s h k =
+    kept_by (nat_lt at x.1) (0 < at → x.0 ≡ s) (CanCut (xs ++ ys) (at - x.1) s) (CanCut xs (at - x.1) s)
+    (λ e. let past : x.1 ≤ at = ltb-false at x.1 e in can_cut-front (at - x.1) xs ys s (omega arith)) k
 
-pub set_at-behind : (at : ℕ) (xs ys : List Run) (s : PropSet) → size xs ≤ at → SetAt (xs ++ ys) at s → SetAt ys (at - size xs) s
-set_at-behind at [] ys s h k = let e : at - 0 ≡ at = omega arith in rw e k
-set_at-behind at (x ∷ xs) ys s h k =
+pub can_cut-behind : (at : ℕ) (xs ys : List Run) (s : PropSet) → size xs ≤ at → CanCut (xs ++ ys) at s → CanCut ys (at - size xs) s
+can_cut-behind at [] ys s h k = let e : at - 0 ≡ at = omega arith in rw e k
+can_cut-behind at (x ∷ xs) ys s h k =
     let e : at - (x.1 + size xs) ≡ at - x.1 - size xs = omega arith in
-    rw e (set_at-behind (at - x.1) xs ys s (omega arith) (second_by (nat_lt at x.1) (x.0 ≡ s) (SetAt (xs ++ ys) (at - x.1) s) (le-ltb at x.1 (omega arith)) k))
+    rw e (can_cut-behind (at - x.1) xs ys s (omega arith) (second_by (nat_lt at x.1) (0 < at → x.0 ≡ s) (CanCut (xs ++ ys) (at - x.1) s) (le-ltb at x.1 (omega arith)) k))
 
-pub set_at-here : (at : ℕ) (x : Run) (ys : List Run) (s : PropSet) → at < x.1 → SetAt (x ∷ ys) at s → x.0 ≡ s
-set_at-here at x ys s h k = first_by (nat_lt at x.1) (x.0 ≡ s) (SetAt ys (at - x.1) s) (lt-ltb at x.1 h) k
+pub can_cut-here : (at : ℕ) (x : Run) (ys : List Run) (s : PropSet) → at < x.1 → CanCut (x ∷ ys) at s → 0 < at → x.0 ≡ s
+can_cut-here at x ys s h k = first_by (nat_lt at x.1) (0 < at → x.0 ≡ s) (CanCut ys (at - x.1) s) (lt-ltb at x.1 h) k
 
-pub set_at-next : (at : ℕ) (x : Run) (ys : List Run) (s : PropSet) → x.1 ≤ at → SetAt (x ∷ ys) at s → SetAt ys (at - x.1) s
-set_at-next at x ys s h k = second_by (nat_lt at x.1) (x.0 ≡ s) (SetAt ys (at - x.1) s) (le-ltb at x.1 h) k
+pub can_cut-next : (at : ℕ) (x : Run) (ys : List Run) (s : PropSet) → x.1 ≤ at → CanCut (x ∷ ys) at s → CanCut ys (at - x.1) s
+can_cut-next at x ys s h k = second_by (nat_lt at x.1) (0 < at → x.0 ≡ s) (CanCut ys (at - x.1) s) (le-ltb at x.1 h) k
 
 -- in a node
-pub set_at-right : (at front own : ℕ) (left : List Run) (x : Run) (right : List Run) (s : PropSet) → front ≡ size left → own ≡ x.1 → front ≤ at → own ≤ at - front → SetAt (left ++ x ∷ right) at s → SetAt right (at - front - own) s
-set_at-right at front own left x right s e o h l k =
+pub can_cut-right : (at front own : ℕ) (left : List Run) (x : Run) (right : List Run) (s : PropSet) → front ≡ size left → own ≡ x.1 → front ≤ at → own ≤ at - front → CanCut (left ++ x ∷ right) at s → CanCut right (at - front - own) s
+can_cut-right at front own left x right s e o h l k =
     let same : at - front - own ≡ at - size left - x.1 = omega arith in
-    rw same (set_at-next (at - size left) x right s (omega arith) (set_at-behind at left (x ∷ right) s (omega arith) k))
+    rw same (can_cut-next (at - size left) x right s (omega arith) (can_cut-behind at left (x ∷ right) s (omega arith) k))
 
 pub before-right : (at front own : ℕ) (left : List Run) (x : Run) (right new : List Run) → front ≡ size left → own ≡ x.1 → front ≤ at → own ≤ at - front → new ≡ before (at - front - own) right → left ++ x ∷ new ≡ before at (left ++ x ∷ right)
 before-right at front own left x right new e o h l g =
@@ -183,10 +183,10 @@ before-within at front left x right e h k =
     let same : at - size left ≡ at - front = omega arith in
     sym (before-behind at left (x ∷ right) (omega arith) ∙ ap (λ i. left ++ before i (x ∷ right)) same ∙ ap (λ r. left ++ r) (before-here (at - front) x right k (omega arith)))
 
-pub behind-within : (at front : ℕ) (left : List Run) (x : Run) (right : List Run) (s : PropSet) → front ≡ size left → front < at → at - front < x.1 → SetAt (left ++ x ∷ right) at s → (s, x.1 - (at - front)) ∷ right ≡ behind at (left ++ x ∷ right)
+pub behind-within : (at front : ℕ) (left : List Run) (x : Run) (right : List Run) (s : PropSet) → front ≡ size left → front < at → at - front < x.1 → CanCut (left ++ x ∷ right) at s → (s, x.1 - (at - front)) ∷ right ≡ behind at (left ++ x ∷ right)
 behind-within at front left x right s e h k set =
     let same : at - size left ≡ at - front = omega arith in
-    let own : x.0 ≡ s = set_at-here (at - size left) x right s (omega arith) (set_at-behind at left (x ∷ right) s (omega arith) set) in
+    let own : x.0 ≡ s = can_cut-here (at - size left) x right s (omega arith) (can_cut-behind at left (x ∷ right) s (omega arith) set) (omega arith) in
     sym (behind-behind at left (x ∷ right) (omega arith) ∙ ap (λ i. behind i (x ∷ right)) same ∙ behind-here (at - front) x right k ∙ ap (λ (r : PropSet). (r, x.1 - (at - front)) ∷ right) own)
 
 -- A SHORTER RUN

@@ -5,7 +5,7 @@ use Rattle.std.proofs.lemmas.Bool.{eqb-true, lt-ltb, le-ltb, ltb-true, ltb-false
 use Rattle.std.proofs.lemmas.List.{length-replicate, take-take, drop-drop, replicate_more, drop-append-le, take-append-le, take-replicate, drop-replicate, replicate-append-replicate}
 use Rattle.std.proofs.Math.Seq.{take-append-add, drop-append-add}
 use Rattle.text_model.specs.Properties.{PropSet, same_set}
-use Rattle.prop_intervals.specs.Runs.{Run, size, sets_of, grown, shrunk, before, behind, in_front, glued, IsPartOfRun, IsRunAt, SetAt, AreApart, BeginsOther}
+use Rattle.prop_intervals.specs.Runs.{Run, size, sets_of, grown, shrunk, before, behind, in_front, glued, IsPartOfRun, IsRunAt, CanCut, AreApart, BeginsOther}
 use Rattle.text_model.specs.PropertyQuestions.{first_where}
 use Rattle.text_model.proofs.Lists.{drop_at, take_one_more}
 use Rattle.text_model.proofs.Sameness.{same_set-sound, same_set-same}
@@ -60,18 +60,18 @@ size-cut at (r ∷ runs) = go (size-cut (at - r.1) runs) (nat_lt at r.1) refl
     go ih true k = let here : at < r.1 = ltb-true at r.1 k in by_test (λ g. size g + ((r.1 - at) + size runs) ≤ r.1 + size runs) (at == 0) [] ((r.0, at) ∷ []) (λ e. omega arith) (λ e. omega arith)
     go ih false k = omega arith
 
-pub set_at-before : (place at : ℕ) (runs : List Run) (s : PropSet) → SetAt runs place s → SetAt (before at runs) place s
-set_at-before place at [] s h = tt
-set_at-before place at (r ∷ runs) s h = by_test (λ g. SetAt g place s) (nat_lt at r.1) (if at == 0 then [] else (r.0, at) ∷ []) (r ∷ before (at - r.1) runs)
-    (λ k. let here : at < r.1 = ltb-true at r.1 k in by_test (λ g. SetAt g place s) (at == 0) [] ((r.0, at) ∷ []) (λ e. tt) (λ e. in_part here (nat_lt place at) (nat_lt place r.1) refl refl h))
-    (λ k. rest (set_at-before (place - r.1) (at - r.1) runs s) (nat_lt place r.1) h)
+pub can_cut-before : (place at : ℕ) (runs : List Run) (s : PropSet) → CanCut runs place s → CanCut (before at runs) place s
+can_cut-before place at [] s h = tt
+can_cut-before place at (r ∷ runs) s h = by_test (λ g. CanCut g place s) (nat_lt at r.1) (if at == 0 then [] else (r.0, at) ∷ []) (r ∷ before (at - r.1) runs)
+    (λ k. let here : at < r.1 = ltb-true at r.1 k in by_test (λ g. CanCut g place s) (at == 0) [] ((r.0, at) ∷ []) (λ e. tt) (λ e. in_part here (nat_lt place at) (nat_lt place r.1) refl refl h))
+    (λ k. rest (can_cut-before (place - r.1) (at - r.1) runs s) (nat_lt place r.1) h)
   where
-    in_part : at < r.1 → (a b : Bool) → nat_lt place at ≡ a → nat_lt place r.1 ≡ b → MatchBool b (r.0 ≡ s) (SetAt runs (place - r.1) s) → MatchBool a (r.0 ≡ s) (Unit {0})
+    in_part : at < r.1 → (a b : Bool) → nat_lt place at ≡ a → nat_lt place r.1 ≡ b → MatchBool b (0 < place → r.0 ≡ s) (CanCut runs (place - r.1) s) → MatchBool a (0 < place → r.0 ≡ s) (Unit {0})
     in_part l true true p q g = g
     in_part l true false p q g = let x = ltb-true place at p in let y = ltb-false place r.1 q in absurd (omega arith)
     in_part l false b p q g = tt
 
-    rest : (SetAt runs (place - r.1) s → SetAt (before (at - r.1) runs) (place - r.1) s) → (b : Bool) → MatchBool b (r.0 ≡ s) (SetAt runs (place - r.1) s) → MatchBool b (r.0 ≡ s) (SetAt (before (at - r.1) runs) (place - r.1) s)
+    rest : (CanCut runs (place - r.1) s → CanCut (before (at - r.1) runs) (place - r.1) s) → (b : Bool) → MatchBool b (0 < place → r.0 ≡ s) (CanCut runs (place - r.1) s) → MatchBool b (0 < place → r.0 ≡ s) (CanCut (before (at - r.1) runs) (place - r.1) s)
     rest ih true g = g
     rest ih false g = ih g
 
@@ -142,7 +142,7 @@ spliced tree middle from to h =
     ∙ ap (λ s. (take from (sets_of tree) ++ sets_of middle) ++ s) (sets_of-behind to tree)
     ∙ append_assoc (take from (sets_of tree)) (sets_of middle) (drop to (sets_of tree))
 
-pub ruleset cut_twice = (set_at-before, size-before, size-behind, size-glued, apart-before, apart-behind, apart-glued)
+pub ruleset cut_twice = (can_cut-before, size-before, size-behind, size-glued, apart-before, apart-behind, apart-glued)
 
 -- THE RUN AT A PLACE
 -- from a place on: what is left of the run there, and then the others
@@ -159,6 +159,11 @@ drop_found runs place set start end h =
     let e : size h.front + (end - start) - place ≡ end - place = omega arith in
     ap (λ r. drop place (sets_of r)) h.runs_are ∙ drop_run h.front set (end - start) h.back place (omega arith) (omega arith) ∙ ap (λ i. replicate i set ++ sets_of h.back) e
 
+-- a set stands at a place, unless the place is the end
+abbrev SetAt : List Run → (place : ℕ) → PropSet → Type 0
+SetAt [] place set = Unit {0}
+SetAt (r ∷ runs) place set = MatchBool (nat_lt place r.1) (r.0 ≡ set) (SetAt runs (place - r.1) set)
+
 set_at-front : (front : List Run) (set : PropSet) (n : ℕ) (back : List Run) (place : ℕ) → size front ≤ place → place < size front + n → SetAt (front ++ (set, n) ∷ back) place set
 set_at-front [] set n back place h k = let t : nat_lt place n ≡ true = lt-ltb place n (omega arith) in rw t refl
 set_at-front (x ∷ front) set n back place h k = let t : nat_lt place x.1 ≡ false = le-ltb place x.1 (omega arith) in rw t (set_at-front front set n back (place - x.1) (omega arith) (omega arith))
@@ -169,9 +174,31 @@ set_at-found runs place set start end h =
     let a = h.start_is in let s = h.starts in let t = h.ends in
     rw h.runs_are (set_at-front h.front set (end - start) h.back place (omega arith) (omega arith))
 
-pub set_at-end : (runs : List Run) (place : ℕ) (set : PropSet) → size runs ≤ place → SetAt runs place set
-set_at-end [] place set h = tt
-set_at-end (x ∷ runs) place set h = let t : nat_lt place x.1 ≡ false = le-ltb place x.1 (omega arith) in rw t (set_at-end runs (place - x.1) set (omega arith))
+-- so a run can be cut there with it
+can_cut-set : (runs : List Run) (place : ℕ) (set : PropSet) → SetAt runs place set → CanCut runs place set
+can_cut-set [] place set h = tt
+can_cut-set (r ∷ runs) place set h = go (can_cut-set runs (place - r.1) set) (nat_lt place r.1) h
+  where
+    go : (SetAt runs (place - r.1) set → CanCut runs (place - r.1) set) → (b : Bool) → MatchBool b (r.0 ≡ set) (SetAt runs (place - r.1) set) → MatchBool b (0 < place → r.0 ≡ set) (CanCut runs (place - r.1) set)
+    go ih true e = λ inside. e
+    go ih false k = ih k
+
+pub can_cut-found : (runs : List Run) (place : ℕ) (set : PropSet) (start end : ℕ) → IsRunAt runs place set start end → CanCut runs place set
+can_cut-found runs place set start end h = can_cut-set runs place set (set_at-found runs place set start end h)
+
+-- where a run starts, and behind the last, none is cut
+can_cut-front : (front : List Run) (set other : PropSet) (n : ℕ) (back : List Run) (place : ℕ) → place ≡ size front → 0 < n → CanCut (front ++ (set, n) ∷ back) place other
+can_cut-front [] set other n back place h k = let t : nat_lt place n ≡ true = lt-ltb place n (omega arith) in rw t (λ inside. absurd (omega (arith, inside, h)))
+can_cut-front (x ∷ front) set other n back place h k = let t : nat_lt place x.1 ≡ false = le-ltb place x.1 (omega arith) in rw t (can_cut-front front set other n back (place - x.1) (omega arith) k)
+
+pub can_cut-start : (runs : List Run) (place : ℕ) (set other : PropSet) (start end : ℕ) → IsRunAt runs place set start end → place ≤ start → CanCut runs place other
+can_cut-start runs place set other start end h k =
+    let a = h.start_is in let s = h.starts in let t = h.ends in
+    rw h.runs_are (can_cut-front h.front set other (end - start) h.back place (omega arith) (omega arith))
+
+pub can_cut-end : (runs : List Run) (place : ℕ) (set : PropSet) → size runs ≤ place → CanCut runs place set
+can_cut-end [] place set h = tt
+can_cut-end (x ∷ runs) place set h = let t : nat_lt place x.1 ≡ false = le-ltb place x.1 (omega arith) in rw t (can_cut-end runs (place - x.1) set (omega arith))
 
 head_dropped : {A : Type 0} (xs : List A) (i : ℕ) (x : A) (ys : List A) → drop i xs ≡ x ∷ ys → slice_get xs i ≡ Some x
 head_dropped [] zero x ys h = cc

@@ -70,7 +70,8 @@ pub record IsRunAt (runs : List Run) (place : ℕ) (set : PropSet) (start end : 
   pub starts : start ≤ place
   pub ends : place < end
 
--- a set stands at a place, unless the place is the end
-abbrev pub SetAt : List Run → (place : ℕ) → PropSet → Type 0
-SetAt [] place set = Unit {0}
-SetAt (r ∷ runs) place set = MatchBool (nat_lt place r.1) (r.0 ≡ set) (SetAt runs (place - r.1) set)
+-- a set with which a run can be cut at a place: that of the run which has the place inside, if one has
+abbrev pub CanCut : List Run → (place : ℕ) → PropSet → Type 0
+CanCut [] place set = Unit {0}
+CanCut (r ∷ runs) place set =
+    MatchBool (nat_lt place r.1) (0 < place → r.0 ≡ set) (CanCut runs (place - r.1) set)

@@ -1,16 +1,16 @@
 //! Trees cut at a place, and put behind one another.
 ghost use Rattle.std.specs.Prelude.{◌≡◌, ◌+◌, ◌<◌, ◌^◌, [], ◌∷◌, ◌++◌, MatchOption};
-ghost use Rattle.prop_intervals.specs.Runs.{size, before, behind, in_front, glued, SetAt};
+ghost use Rattle.prop_intervals.specs.Runs.{size, before, behind, in_front, glued, CanCut};
 ghost use Rattle.prop_intervals.specs.Tree.{run_of};
 
 use crate::balance::join;
 use crate::tree::{Link, Node, Tree, take_sides};
 
-/// The runs in front of a place, and those from it on. The spare, which has the set that stands at the place, takes
-/// the second part of a run that is cut.
+/// The runs in front of a place, and those from it on. The spare takes the second part of a run that is cut, whose
+/// set it has then.
 #[tactic(auto, using(crate::proofs::RunLemmas::size_steps))]
 pub(crate) fn cut(tree: Tree, at: usize, spare: Box<Node>) -> (Tree, Tree)
-    requires { SetAt tree at spare.value.set }
+    requires { CanCut tree at spare.value.set }
     ensures front { result.0 ≡ before at tree }
     ensures back { result.1 ≡ behind at tree }
 {

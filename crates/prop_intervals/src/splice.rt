@@ -1,6 +1,6 @@
 //! Runs of a tree replaced by others.
 ghost use Rattle.std.specs.Prelude.{◌≡◌, ◌+◌, ◌<◌, ◌≤◌, ◌++◌, ◌^◌, IfOk, OnOk, OnErr, take, drop};
-ghost use Rattle.prop_intervals.specs.Runs.{size, sets_of, AreApart, SetAt};
+ghost use Rattle.prop_intervals.specs.Runs.{size, sets_of, AreApart, CanCut};
 
 use crate::cut::{cut, glue};
 use crate::tree::{Node, Tree, alone};
@@ -8,22 +8,24 @@ use ek_types::{Mem, NoMemory, PropSet};
 use std::alloc::Global;
 use std::mem;
 
-/// The set that stands at a place, or no property behind the last run.
-fn set_at(alloc: Global, tree: &Tree, at: usize) -> Mem<PropSet>
-    ensures { IfOk result (SetAt tree.now at) }
+/// The set of the run that has a place inside; no property where none has.
+fn set_inside(alloc: Global, tree: &Tree, at: usize) -> Mem<PropSet>
+    ensures { IfOk result (CanCut tree.now at) }
 {
     if at < tree.len() {
-        tree.find(at).set.copy()
-    } else {
-        Ok(PropSet::empty(alloc))
+        let run = tree.find(at);
+        if run.start < at {
+            return run.set.copy();
+        }
     }
+    Ok(PropSet::empty(alloc))
 }
 
-/// A run by itself, with the set that stands at a place.
+/// A run by itself, which can take what is cut off a run at a place.
 fn spare(alloc: Global, tree: &Tree, at: usize) -> Mem<Box<Node>>
-    ensures { IfOk result (λ n. SetAt tree.now at n.value.set) }
+    ensures { IfOk result (λ n. CanCut tree.now at n.value.set) }
 {
-    let set = set_at(alloc, tree, at)?;
+    let set = set_inside(alloc, tree, at)?;
     alone(alloc, set, 1)
 }
 
@@ -42,8 +44,8 @@ fn put_between(
     requires apart { AreApart tree }
     requires apart_too { AreApart middle }
     requires fits { size tree + size middle < 2 ^ 64 }
-    requires first { SetAt tree from first.value.set }
-    requires second { SetAt tree to second.value.set }
+    requires first { CanCut tree from first.value.set }
+    requires second { CanCut tree to second.value.set }
     ensures sets { sets_of result ≡ take from (sets_of tree) ++
         (sets_of middle ++ drop to (sets_of tree)) }
     ensures apart { AreApart result }

@@ -2,7 +2,7 @@ use Rattle.std.proofs.Common.{◌≡◌, ◌-◌, Box, Global, [], ◌∷◌, �
 use Rattle.prop_intervals.specs.Runs.{size, before, behind}
 use Rattle.prop_intervals.specs.Tree.{run_of}
 use Rattle.prop_intervals.specs.declared.tree.Node.{Node}
-use Rattle.prop_intervals.proofs.RunLemmas.{size-append, size-before, size-behind, set_at-front, set_at-right, before-front, before-between, before-right, before-within, behind-front, behind-between, behind-right, behind-within}
+use Rattle.prop_intervals.proofs.RunLemmas.{size-append, size-before, size-behind, can_cut-front, can_cut-right, before-front, before-between, before-right, before-within, behind-front, behind-between, behind-right, behind-within}
 use Rattle.prop_intervals.proofs.cut.+cut.Goals as goal
 
 pub cut-a-requires : goal.cut-a-requires
@@ -12,7 +12,7 @@ cut-a-requires t c =
     let right = c.take_sides-left.result.1 in
     let value : c.deref_mut.result.now ≡ c.in-Full.node.value = c.deref_mut.ensures.value ∙ ap (λ (b : Box Node Global). b.value) c.in-Full.node-is in
     let seen : c.args.tree ≡ left ++ run_of n ∷ right = rw (← c.tree.view_is, c.in-Full.is, ← value, c.take_sides-left.ensures.left, c.take_sides-left.ensures.right, c.take_sides-left.ensures.run) refl in
-    (omega (arith, c.decreases, ap length seen, length-append left (run_of n ∷ right)), set_at-front c.args.at left (run_of n ∷ right) c.args.spare.value.set (omega arith) (rw seen at c.requires))
+    (omega (arith, c.decreases, ap length seen, length-append left (run_of n ∷ right)), can_cut-front c.args.at left (run_of n ∷ right) c.args.spare.value.set (omega arith) (rw seen at c.requires))
 
 pub join-requires : goal.join-requires
 join-requires t c =
@@ -51,7 +51,7 @@ cut-a-requires-then-at-front-2 t c =
     let value : c.deref_mut.result.now ≡ c.in-Full.node.value = c.deref_mut.ensures.value ∙ ap (λ (b : Box Node Global). b.value) c.in-Full.node-is in
     let seen : c.args.tree ≡ left ++ run_of n ∷ right = rw (← c.tree.view_is, c.in-Full.is, ← value, c.take_sides-left.ensures.left, c.take_sides-left.ensures.right, c.take_sides-left.ensures.run) refl in
     let own : c.deref-in-Full.result.now.len ≡ n.len = ap (λ (m : Node). m.len) c.deref-in-Full.ensures in
-    (omega (arith, c.decreases, ap length seen, length-append left (run_of n ∷ right)), set_at-right c.args.at c.len-front.result c.deref-in-Full.result.now.len left (run_of n) right c.args.spare.value.set c.len-front.ensures own c.if-at-front.false c.if-at-front-2.true (rw seen at c.requires))
+    (omega (arith, c.decreases, ap length seen, length-append left (run_of n ∷ right)), can_cut-right c.args.at c.len-front.result c.deref-in-Full.result.now.len left (run_of n) right c.args.spare.value.set c.len-front.ensures own c.if-at-front.false c.if-at-front-2.true (rw seen at c.requires))
 
 pub join-requires-then-at-front-2 : goal.join-requires-then-at-front-2
 join-requires-then-at-front-2 t c =
