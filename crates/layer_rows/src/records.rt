@@ -18,6 +18,11 @@ fn put_deletion(rt: &impl Abort, alloc: Global, undo: &mut Undo, n: usize, place
     put(rt, undo, Rec::Deleted(bare_text(rt, alloc, n), place));
 }
 
+fn part(rt: &impl Abort, undo: &Undo, from: usize, to: usize) -> Undo {
+    assert!(rt; from <= to && to <= undo.len());
+    undo.part(from, to).expect(rt, "a copy")
+}
+
 /// Copies of these records, all pending.
 fn started(rt: &impl Abort, alloc: Global, records: &[Rec]) -> Undo {
     let mut undo = Undo::new(alloc);
@@ -191,10 +196,10 @@ fn a_copy_is_another_list(rt: HostRuntime) {
     undo.disable();
     is(&rt, inserted(&copy), Some((0, 2)));
     is(&rt, planned(&rt, &copy, 1, 0, 2), Err(Refused::Outside(0)));
-    let part = copy.part(1, 2).expect(&rt, "a copy");
-    is(&rt, part.len(), 1);
-    is(&rt, inserted(&part), None);
-    is(&rt, copy.part(1, 1).expect(&rt, "a copy").len(), 0);
+    let older = part(&rt, &copy, 1, 2);
+    is(&rt, older.len(), 1);
+    is(&rt, inserted(&older), None);
+    is(&rt, part(&rt, &copy, 1, 1).len(), 0);
 }
 
 /// So many records in one group, each point at its number.
