@@ -7,3 +7,4 @@ pub mod QuestionLemmas
 pub mod Stepping
 pub mod Together
 pub mod PartLemmas
+pub mod OtherLemmas

@@ -1,14 +1,13 @@
 -- Places where properties change, in a part of a text.
-use Rattle.std.proofs.Common.{◌≡◌, ℕ, ◌+◌, ◌<◌, ◌≤◌, Bool, true, false, List, [], ◌∷◌, ◌++◌, length, map, take, drop, refl, sym, ap, ◌∙◌, arith}
+use Rattle.std.proofs.Common.{◌≡◌, ℕ, ◌+◌, ◌<◌, ◌≤◌, Bool, true, false, List, [], ◌∷◌, map, refl, sym, ap, ◌∙◌, arith}
 use Rattle.std.specs.Prelude.{◌&&◌, nat_lt, if◌then◌else◌, Option, Some, None}
 use Rattle.std.proofs.lemmas.Bool.{ltb-true, ltb-false, le-ltb, lt-ltb}
-use Rattle.std.proofs.lemmas.List.{length-append, length-take-le}
 use Rattle.text_model.specs.Properties.{PropSet, get, same_set, same_option, same_value}
 use Rattle.text_model.specs.PropertyQuestions.{first, last, between, changes, changes_after, unless_same, next_change, previous_change}
-use Rattle.prop_intervals.specs.Sets.{changes_of, same_by, before, behind}
+use Rattle.prop_intervals.specs.Sets.{changes_of, before, behind}
 
 -- THE PLACES RISE
-abbrev Rising : ℕ → List ℕ → Type 0
+abbrev pub Rising : ℕ → List ℕ → Type 0
 Rising n [] = Unit {0}
 Rising n (x ∷ xs) = (n ≤ x) × Rising (x + 1) xs
 
@@ -131,46 +130,3 @@ no_next_before i to xs h = sym (ap first (none_between i to xs h))
 
 pub no_previous_behind : (from i : ℕ) (xs : List ℕ) → i ≤ from → None ≡ previous_change from i xs
 no_previous_behind from i xs h = sym (ap last (none_between from i xs h))
-
--- WHERE A WALK ALONG RUNS STOPS
-first_not_before : (to n : ℕ) (xs : List ℕ) → to ≤ n → Rising n xs → before to (first xs) ≡ None
-first_not_before to n [] h k = refl
-first_not_before to n (x ∷ xs) h k = rw (le-ltb x to (let l = k.0 in omega (arith, l, h))) refl
-
-pub next_before : (name : Option ℕ) (sets : List PropSet) (i to place : ℕ) → to ≤ length sets → place < to → Some place ≡ next_change i (length sets) (changes_of name sets) → Some place ≡ next_change i to (changes_of name sets)
-next_before name sets i to place h k found = sym (next_part name sets i to (length sets) h ∙ ap (before to) (sym found) ∙ ap (λ b. if b then Some place else None) (lt-ltb place to k))
-
-pub none_before : (name : Option ℕ) (sets : List PropSet) (old : PropSet) (i to end : ℕ) → to ≤ length sets → to ≤ end
-    → next_change i (length sets) (changes_of name sets) ≡ first (changes_after (same_by name) old end (drop end sets)) → None ≡ next_change i to (changes_of name sets)
-none_before name sets old i to end h k walked =
-    sym (next_part name sets i to (length sets) h ∙ ap (before to) walked ∙ first_not_before to end _ k (after_rising (same_by name) old end (drop end sets)))
-
-abbrev UpTo : ℕ → List ℕ → Type 0
-UpTo n [] = Unit {0}
-UpTo n (x ∷ xs) = (x ≤ n) × UpTo n xs
-
-after_up_to : {A : Type 0} (same : A → A → Bool) (x : A) (place bound : ℕ) (xs : List A) → place + length xs ≤ bound + 1 → UpTo bound (changes_after same x place xs)
-after_up_to same x place bound [] h = tt
-after_up_to same x place bound (y ∷ xs) h = go (same x y) (after_up_to same y (place + 1) bound xs (omega arith))
-  where
-    go : (b : Bool) → UpTo bound (changes_after same y (place + 1) xs) → UpTo bound (unless_same b place (changes_after same y (place + 1) xs))
-    go true rest = rest
-    go false rest = (omega (arith, h), rest)
-
-changes_up_to : {A : Type 0} (same : A → A → Bool) (bound : ℕ) (xs : List A) → length xs ≤ bound + 1 → UpTo bound (changes same xs)
-changes_up_to same bound [] h = tt
-changes_up_to same bound (x ∷ xs) h = after_up_to same x 1 bound xs (omega (arith, h))
-
-last_not_behind : (from bound : ℕ) (xs : List ℕ) → bound ≤ from → UpTo bound xs → behind from (last xs) ≡ None
-last_not_behind from bound [] h k = refl
-last_not_behind from bound (x ∷ []) h k = rw (le-ltb from x (let l = k.0 in omega (arith, l, h))) refl
-last_not_behind from bound (x ∷ y ∷ xs) h k = last_not_behind from bound (y ∷ xs) h k.1
-
-pub previous_behind : (name : Option ℕ) (sets : List PropSet) (from i place : ℕ) → from < place → Some place ≡ previous_change 0 i (changes_of name sets) → Some place ≡ previous_change from i (changes_of name sets)
-previous_behind name sets from i place k found = sym (previous_part name sets 0 from i (omega arith) ∙ ap (behind from) (sym found) ∙ ap (λ b. if b then Some place else None) (lt-ltb from place k))
-
-pub none_behind_start : (name : Option ℕ) (sets : List PropSet) (set : PropSet) (from i start : ℕ) → start ≤ length sets → start ≤ from
-    → previous_change 0 i (changes_of name sets) ≡ last (changes (same_by name) (take start sets ++ set ∷ [])) → None ≡ previous_change from i (changes_of name sets)
-none_behind_start name sets set from i start h k walked =
-    let few : length (take start sets ++ set ∷ []) ≤ start + 1 = omega (arith, length-append (take start sets) (set ∷ []), length-take-le start sets h) in
-    sym (previous_part name sets 0 from i (omega arith) ∙ ap (behind from) walked ∙ last_not_behind from start _ k (changes_up_to (same_by name) start (take start sets ++ set ∷ []) few))

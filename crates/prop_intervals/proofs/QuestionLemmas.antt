@@ -1,8 +1,8 @@
 -- The places between neighbours that differ.
-use Rattle.std.proofs.Common.{◌≡◌, ℕ, zero, suc, ◌+◌, ◌-◌, ◌≤◌, ◌<◌, Bool, true, false, List, [], ◌∷◌, ◌++◌, length, map, take, drop, refl, ap, sym, ◌∙◌, append-nil, append_assoc, length-take, length-append, arith}
+use Rattle.std.proofs.Common.{◌≡◌, ℕ, zero, suc, ◌+◌, ◌-◌, ◌≤◌, ◌<◌, Bool, true, false, List, [], ◌∷◌, ◌++◌, length, map, take, drop, refl, ap, sym, ◌∙◌, arith}
 use Rattle.std.specs.Prelude.{◌&&◌, nat_lt, filter, replicate, Option, Some, None}
 use Rattle.std.proofs.lemmas.Bool.{lt-ltb, le-ltb}
-use Rattle.std.proofs.lemmas.List.{drop-drop, drop_at, drop_all, length-replicate, take-append-le, take-replicate, replicate_more}
+use Rattle.std.proofs.lemmas.List.{drop-drop, drop_at, length-replicate, take-append-le, take-replicate}
 use Rattle.text_model.specs.Properties.{PropSet, get, same_set, same_option, same_value}
 use Rattle.text_model.specs.PropertyQuestions.{first, last, unless_same, changes_after, changes, between, next_change, previous_change}
 use Rattle.text_model.proofs.Sameness.{same_set-sound, same_set-same, same_option-sound, same_option-same}
@@ -99,37 +99,24 @@ next_is same zero (x ∷ xs) y rest h =
 next_is same (suc i) [] y rest h = cc
 next_is same (suc i) (x ∷ xs) y rest h = ap first (from_place same i (suc i) (suc (length xs)) x 1 xs y rest (omega arith) h (omega arith))
 
-pub no_next : {A : Type 0} (same : A → A → Bool) (xs : List A) → next_change (length xs) (length xs) (changes same xs) ≡ None
-no_next same [] = refl
-no_next same (x ∷ xs) = ap first (nothing same (suc (length xs)) x 1 xs (omega arith))
-  where
-    nothing : {A : Type 0} (same : A → A → Bool) (n : ℕ) (x : A) (place : ℕ) (xs : List A) → place + length xs ≤ n → between n n (changes_after same x place xs) ≡ []
-    nothing same n x place [] h = refl
-    nothing same n x place (y ∷ xs) h =
-        filter_out (λ q. nat_lt n q && nat_lt q n) (same x y) place (changes_after same y (place + 1) xs) (below n n place (omega arith)) ∙ nothing same n y (place + 1) xs (omega arith)
-
 -- in front of a place
 pub previous_is : {A : Type 0} (same : A → A → Bool) (i : ℕ) (xs : List A) → 0 < i → previous_change 0 i (changes same xs) ≡ last (changes same (take i xs))
 previous_is same zero xs h = absurd (omega arith)
 previous_is same (suc i) [] h = refl
 previous_is same (suc i) (x ∷ xs) h = ap last (up_to_place same i (suc i) x 1 xs (omega arith) (omega arith))
 
-pub no_previous : {A : Type 0} (same : A → A → Bool) (xs : List A) → previous_change 0 0 (changes same xs) ≡ None
-no_previous same [] = refl
-no_previous same (x ∷ xs) = ap last (none_in same 0 0 x 1 xs (omega arith))
-
 -- ALONG RUNS
-along_run : {A : Type 0} (same : A → A → Bool) (x : A) (n place : ℕ) (xs : List A) → same x x ≡ true → changes_after same x place (replicate n x ++ xs) ≡ changes_after same x (place + n) xs
+pub along_run : {A : Type 0} (same : A → A → Bool) (x : A) (n place : ℕ) (xs : List A) → same x x ≡ true → changes_after same x place (replicate n x ++ xs) ≡ changes_after same x (place + n) xs
 along_run same x zero place xs h = let e : place ≡ place + 0 = omega arith in ap (λ p. changes_after same x p xs) e
 along_run same x (suc n) place xs h =
     let e : place + 1 + n ≡ place + suc n = omega arith in
     ap (λ b. unless_same b place (changes_after same x (place + 1) (replicate n x ++ xs))) h ∙ along_run same x n (place + 1) xs h ∙ ap (λ p. changes_after same x p xs) e
 
-after_like : {A : Type 0} (same : A → A → Bool) (a b : A) (place : ℕ) (xs : List A) → ((c : A) → same a c ≡ same b c) → changes_after same a place xs ≡ changes_after same b place xs
+pub after_like : {A : Type 0} (same : A → A → Bool) (a b : A) (place : ℕ) (xs : List A) → ((c : A) → same a c ≡ same b c) → changes_after same a place xs ≡ changes_after same b place xs
 after_like same a b place [] h = refl
 after_like same a b place (c ∷ xs) h = ap (λ t. unless_same t place (changes_after same c (place + 1) xs)) (h c)
 
-behind_run : (runs : List Run) (place : ℕ) (set : PropSet) (start end : ℕ) (h : IsRunAt runs place set start end) → sets_of h.back ≡ drop end (sets_of runs)
+pub behind_run : (runs : List Run) (place : ℕ) (set : PropSet) (start end : ℕ) (h : IsRunAt runs place set start end) → sets_of h.back ≡ drop end (sets_of runs)
 behind_run runs place set start end h =
     let t = h.ends in
     let e : place + (end - place) ≡ end = omega arith in
@@ -145,27 +132,8 @@ next_starts name runs i set start end h =
     ∙ ap first (along_run (same_by name) set (end - i - 1) (i + 1) (sets_of h.back) (same_by-same name set)) ∙ ap (λ p. first (changes_after (same_by name) set p (sets_of h.back))) e
     ∙ ap (λ l. first (changes_after (same_by name) set end l)) (behind_run runs i set start end h)
 
-pub next_found : (name : Option ℕ) (runs : List Run) (place : ℕ) (old set : PropSet) (start end : ℕ) → IsRunAt runs place set start end → same_by name old set ≡ false →
-    Some place ≡ first (changes_after (same_by name) old place (drop place (sets_of runs)))
-next_found name runs place old set start end h k =
-    sym (ap (λ l. first (changes_after (same_by name) old place l)) (rest_found runs place set start end h) ∙ ap (λ b. first (unless_same b place (changes_after (same_by name) set (place + 1) (replicate (end - place - 1) set ++ sets_of h.back)))) k)
-
-pub next_goes_on : (name : Option ℕ) (runs : List Run) (place : ℕ) (old set : PropSet) (start end : ℕ) → IsRunAt runs place set start end → same_by name old set ≡ true →
-    first (changes_after (same_by name) old place (drop place (sets_of runs))) ≡ first (changes_after (same_by name) old end (drop end (sets_of runs)))
-next_goes_on name runs place old set start end h k =
-    let t = h.ends in
-    let e : place + 1 + (end - place - 1) ≡ end = omega arith in
-    ap (λ l. first (changes_after (same_by name) old place l)) (rest_found runs place set start end h)
-    ∙ ap (λ b. first (unless_same b place (changes_after (same_by name) set (place + 1) (replicate (end - place - 1) set ++ sets_of h.back)))) k
-    ∙ ap first (along_run (same_by name) set (end - place - 1) (place + 1) (sets_of h.back) (same_by-same name set)) ∙ ap (λ p. first (changes_after (same_by name) set p (sets_of h.back))) e
-    ∙ ap (λ l. first (changes_after (same_by name) set end l)) (behind_run runs place set start end h)
-    ∙ sym (ap first (after_like (same_by name) old set end (drop end (sets_of runs)) (same_by-left name old set k)))
-
-pub next_ends : (name : Option ℕ) (runs : List Run) (place : ℕ) (old : PropSet) → size runs ≤ place → None ≡ first (changes_after (same_by name) old place (drop place (sets_of runs)))
-next_ends name runs place old h = sym (ap (λ l. first (changes_after (same_by name) old place l)) (drop_all place (sets_of runs) (let w = length-sets_of runs in omega arith)))
-
 -- BACKWARDS
-append_unless : (b : Bool) (place : ℕ) (l m : List ℕ) → unless_same b place (l ++ m) ≡ unless_same b place l ++ m
+pub append_unless : (b : Bool) (place : ℕ) (l m : List ℕ) → unless_same b place (l ++ m) ≡ unless_same b place l ++ m
 append_unless true place l m = refl
 append_unless false place l m = refl
 
@@ -193,19 +161,6 @@ one_more : {A : Type 0} (same : A → A → Bool) (ys : List A) (y x : A) → ch
 one_more same [] y x = refl
 one_more same (z ∷ ys) y x = let e : 1 + length ys + 1 ≡ suc (length ys) + 1 = omega arith in after_one_more same z 1 ys y x ∙ ap (λ p. changes_after same z 1 (ys ++ y ∷ []) ++ unless_same (same y x) p []) e
 
-last_push : (places : List ℕ) (q : ℕ) → last (places ++ q ∷ []) ≡ Some q
-last_push [] q = refl
-last_push (p ∷ []) q = refl
-last_push (p ∷ r ∷ places) q = last_push (r ∷ places) q
-
-after_last_like : {A : Type 0} (same : A → A → Bool) (w : A) (place : ℕ) (ys : List A) (a b : A) → ((c : A) → same c a ≡ same c b) → changes_after same w place (ys ++ a ∷ []) ≡ changes_after same w place (ys ++ b ∷ [])
-after_last_like same w place [] a b h = ap (λ t. unless_same t place []) (h w)
-after_last_like same w place (y ∷ ys) a b h = ap (unless_same (same w y) place) (after_last_like same y (place + 1) ys a b h)
-
-last_like : {A : Type 0} (same : A → A → Bool) (ys : List A) (a b : A) → ((c : A) → same c a ≡ same c b) → changes same (ys ++ a ∷ []) ≡ changes same (ys ++ b ∷ [])
-last_like same [] a b h = refl
-last_like same (y ∷ ys) a b h = after_last_like same y 1 ys a b h
-
 -- the sets in front of a place in a run: those in front of the run, and the first of the run
 in_run : (runs : List Run) (place : ℕ) (set : PropSet) (start end : ℕ) → IsRunAt runs place set start end → take (place + 1) (sets_of runs) ≡ take start (sets_of runs) ++ set ∷ replicate (place - start) set
 in_run runs place set start end h =
@@ -231,41 +186,3 @@ previous_starts name runs i set start end l h =
     ap (previous_change 0 i) (changes_by name (sets_of runs)) ∙ previous_is (same_by name) i (sets_of runs) l
     ∙ ap (λ xs. last (changes (same_by name) xs)) (ap (λ n. take n (sets_of runs)) (sym e) ∙ in_run runs (i - 1) set start end h)
     ∙ ap last (collapsed (same_by name) (take start (sets_of runs)) set (i - 1 - start) (same_by-same name set))
-
--- two neighbouring runs and the first of the second
-two_runs : (runs : List Run) (place : ℕ) (old set : PropSet) (start end : ℕ) → 0 < place → IsRunAt runs (place - 1) set start end →
-    take place (sets_of runs) ++ old ∷ [] ≡ (take start (sets_of runs) ++ replicate (place - 1 - start) set) ++ set ∷ old ∷ []
-two_runs runs place old set start end l h =
-    let e : place - 1 + 1 ≡ place = omega arith in
-    let s = h.starts in
-    let turned : set ∷ replicate (place - 1 - start) set ≡ replicate (place - 1 - start) set ++ set ∷ [] = sym (replicate_more (place - 1 - start) set ∙ one_first (place - 1 - start) set) in
-    ap (λ t. t ++ old ∷ []) (ap (λ n. take n (sets_of runs)) (sym e) ∙ in_run runs (place - 1) set start end h ∙ ap (λ t. take start (sets_of runs) ++ t) turned ∙ sym (append_assoc (take start (sets_of runs)) (replicate (place - 1 - start) set) (set ∷ [])))
-    ∙ append_assoc (take start (sets_of runs) ++ replicate (place - 1 - start) set) (set ∷ []) (old ∷ [])
-  where
-    one_first : (n : ℕ) (x : PropSet) → replicate (n + 1) x ≡ x ∷ replicate n x
-    one_first n x = let e : n + 1 ≡ suc n = omega arith in ap (λ k. replicate k x) e
-
-pub previous_found : (name : Option ℕ) (runs : List Run) (place : ℕ) (old set : PropSet) (start end : ℕ) → 0 < place → place ≤ size runs → IsRunAt runs (place - 1) set start end → same_by name set old ≡ false →
-    Some place ≡ last (changes (same_by name) (take place (sets_of runs) ++ old ∷ []))
-previous_found name runs place old set start end l w h k =
-    let front : List PropSet = take start (sets_of runs) ++ replicate (place - 1 - start) set in
-    let whole : length (take place (sets_of runs)) ≡ place = omega (arith, length-take place (sets_of runs), length-sets_of runs) in
-    let parts = ap length (two_runs runs place old set start end l h) in
-    let pushed : length (take place (sets_of runs) ++ old ∷ []) ≡ place + 1 = omega (arith, length-append (take place (sets_of runs)) (old ∷ [])) in
-    let place_is : length front + 1 ≡ place = omega (arith, length-append front (set ∷ old ∷ [])) in
-    sym (ap (λ xs. last (changes (same_by name) xs)) (two_runs runs place old set start end l h) ∙ ap last (one_more (same_by name) front set old ∙ ap (λ b. changes (same_by name) (front ++ set ∷ []) ++ unless_same b (length front + 1) []) k)
-    ∙ last_push (changes (same_by name) (front ++ set ∷ [])) (length front + 1) ∙ ap Some place_is)
-
-pub previous_goes_on : (name : Option ℕ) (runs : List Run) (place : ℕ) (old set : PropSet) (start end : ℕ) → 0 < place → IsRunAt runs (place - 1) set start end → same_by name set old ≡ true →
-    last (changes (same_by name) (take place (sets_of runs) ++ old ∷ [])) ≡ last (changes (same_by name) (take start (sets_of runs) ++ old ∷ []))
-previous_goes_on name runs place old set start end l h k =
-    let n = place - 1 - start in
-    let ys = take start (sets_of runs) in
-    let front : List PropSet = ys ++ replicate n set in
-    let turned : front ++ set ∷ [] ≡ ys ++ set ∷ replicate n set = append_assoc ys (replicate n set) (set ∷ []) ∙ ap (λ t. ys ++ t) (replicate_more n set ∙ one_first n set) in
-    ap (λ xs. last (changes (same_by name) xs)) (two_runs runs place old set start end l h)
-    ∙ ap last (one_more (same_by name) front set old ∙ ap (λ b. changes (same_by name) (front ++ set ∷ []) ++ unless_same b (length front + 1) []) k ∙ append-nil (changes (same_by name) (front ++ set ∷ []))
-    ∙ ap (changes (same_by name)) turned ∙ collapsed (same_by name) ys set n (same_by-same name set) ∙ last_like (same_by name) ys set old (same_by-right name set old k))
-  where
-    one_first : (n : ℕ) (x : PropSet) → replicate (n + 1) x ≡ x ∷ replicate n x
-    one_first n x = let e : n + 1 ≡ suc n = omega arith in ap (λ k. replicate k x) e

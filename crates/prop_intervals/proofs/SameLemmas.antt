@@ -16,10 +16,6 @@ pub same_from : (a b : Bool) → a ≡ not b → a ≡ false → b ≡ true
 same_from a true h k = refl
 same_from a false h k = cc
 
-pub other_from_test : (a b : Bool) → a ≡ not b → a ≡ true → b ≡ false
-other_from_test a true h k = cc
-other_from_test a false h k = refl
-
 pub unchanged_where_equal : (changed : Bool) (old new : List PropSet) → changed ≡ not (same_list same_set old new) → changed ≡ false ↔ new ≡ old
 unchanged_where_equal changed old new h =
     (λ e. sym ((all_same_where_equal old new).0 (same_from changed _ h e)), λ e. h ∙ ap not ((all_same_where_equal old new).1 (sym e)))

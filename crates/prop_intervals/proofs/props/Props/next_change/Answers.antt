@@ -11,5 +11,5 @@ returns-clause-within c = λ end h.
     let name = option_map number_of c.args.name in
     c.next_change.ensures ∙ ap (λ sets. next_change c.args.i c.args.to (changes_of name sets)) c.self.view_is ∙ next_part name c.args.self.now c.args.i c.args.to end h
 
-pub next_change-requires : goal.next_change-requires
-next_change-requires c = omega (arith, length-sets_of c.self.inside.tree, ap length c.self.view_is)
+pub next_change-requires-clause-within : goal.next_change-requires-clause-within
+next_change-requires-clause-within c = omega (arith, length-sets_of c.self.inside.tree, ap length c.self.view_is, c.requires)

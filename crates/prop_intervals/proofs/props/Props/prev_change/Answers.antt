@@ -11,5 +11,5 @@ returns-clause-within c = λ start h.
     let name = option_map number_of c.args.name in
     c.previous_change.ensures ∙ ap (λ sets. previous_change c.args.from c.args.i (changes_of name sets)) c.self.view_is ∙ previous_part name c.args.self.now start c.args.from c.args.i h
 
-pub previous_change-requires : goal.previous_change-requires
-previous_change-requires c = omega (arith, length-sets_of c.self.inside.tree, ap length c.self.view_is)
+pub previous_change-requires-clause-within : goal.previous_change-requires-clause-within
+previous_change-requires-clause-within c = omega (arith, length-sets_of c.self.inside.tree, ap length c.self.view_is, c.requires)
