@@ -104,15 +104,22 @@ lt-shift to k q = same_tests _ _
     (λ e. lt-ltb q (to - k) (let l = ltb-true (k + q) to e in omega (arith, l)))
     (λ e. lt-ltb (k + q) to (let l = ltb-true q (to - k) e in omega (arith, l)))
 
-first-shift : (from to k : ℕ) (xs : List ℕ) → first_from from to (map (λ q. k + q) xs) ≡ option_map (λ q. k + q) (first_from (from - k) (to - k) xs)
-first-shift from to k [] = refl
-first-shift from to k (x ∷ xs) = rw (le-shift from k x, lt-shift to k x) (go (nat_le (from - k) x && nat_lt x (to - k)) (first-shift from to k xs))
+filter-shift : (from to k : ℕ) (xs : List ℕ) → filter (lies_from from to) (map (λ q. k + q) xs) ≡ map (λ q. k + q) (filter (lies_from (from - k) (to - k)) xs)
+filter-shift from to k [] = refl
+filter-shift from to k (x ∷ xs) = rw (le-shift from k x, lt-shift to k x) (go (nat_le (from - k) x && nat_lt x (to - k)) (filter-shift from to k xs))
   where
-    go : (b : Bool) → first_from from to (map (λ q. k + q) xs) ≡ option_map (λ q. k + q) (first_from (from - k) (to - k) xs)
-        → first (if b then (k + x) ∷ filter (lies_from from to) (map (λ q. k + q) xs) else filter (lies_from from to) (map (λ q. k + q) xs))
-        ≡ option_map (λ q. k + q) (first (if b then x ∷ filter (lies_from (from - k) (to - k)) xs else filter (lies_from (from - k) (to - k)) xs))
-    go true ih = refl
+    go : (b : Bool) → filter (lies_from from to) (map (λ q. k + q) xs) ≡ map (λ q. k + q) (filter (lies_from (from - k) (to - k)) xs)
+        → (if b then (k + x) ∷ filter (lies_from from to) (map (λ q. k + q) xs) else filter (lies_from from to) (map (λ q. k + q) xs))
+        ≡ map (λ q. k + q) (if b then x ∷ filter (lies_from (from - k) (to - k)) xs else filter (lies_from (from - k) (to - k)) xs)
+    go true ih = ap (λ l. (k + x) ∷ l) ih
     go false ih = ih
+
+first-map : (k : ℕ) (xs : List ℕ) → first (map (λ q. k + q) xs) ≡ option_map (λ q. k + q) (first xs)
+first-map k [] = refl
+first-map k (x ∷ xs) = refl
+
+first-shift : (from to k : ℕ) (xs : List ℕ) → first_from from to (map (λ q. k + q) xs) ≡ option_map (λ q. k + q) (first_from (from - k) (to - k) xs)
+first-shift from to k xs = ap first (filter-shift from to k xs) ∙ first-map k (filter (lies_from (from - k) (to - k)) xs)
 
 first-append : (xs ys : List ℕ) (f : ℕ) → Some f ≡ first xs → Some f ≡ first (xs ++ ys)
 first-append [] ys f h = cc
@@ -144,6 +151,10 @@ starts-node name set left x right front past e f =
     ∙ ap (λ i. starts_of name set 0 left ++ unless_same (same_by name set x.0) i (starts_of name set (i + x.1) right)) p
     ∙ ap (λ i. starts_of name set 0 left ++ unless_same (same_by name set x.0) front (starts_of name set i right)) q
     ∙ ap (λ l. starts_of name set 0 left ++ unless_same (same_by name set x.0) front l) (starts-shift name set past 0 right)
+
+-- a question to the right side, whose bounds are counted from its start
+pub from_start : (P : ℕ → ℕ → Option ℕ) (r : Option ℕ) (from to from_there to_there : ℕ) → r ≡ P from_there to_there → from_there ≡ from → to_there ≡ to → r ≡ P from to
+from_start P r from to from_there to_there h e f = h ∙ ap (λ k. P k to_there) e ∙ ap (P from) f
 
 pub not_there : (name : Option ℕ) (set : PropSet) (from to : ℕ) (runs : List Run) → size runs < from → None ≡ first_from from to (starts_of name set 0 runs)
 not_there name set from to runs h = sym (ap first (none_low from to (size runs) (starts_of name set 0 runs) h (starts-up_to name set 0 (size runs) runs (omega arith))))
@@ -307,16 +318,6 @@ last-append (x ∷ xs) ys f h = last-cons x (xs ++ ys) f (last-append xs ys f h)
 none_last : (xs : List ℕ) → None ≡ last xs → xs ≡ []
 none_last [] h = refl
 none_last (x ∷ xs) h = absurd (no_last x xs h)
-
-filter-shift : (from to k : ℕ) (xs : List ℕ) → filter (lies_from from to) (map (λ q. k + q) xs) ≡ map (λ q. k + q) (filter (lies_from (from - k) (to - k)) xs)
-filter-shift from to k [] = refl
-filter-shift from to k (x ∷ xs) = rw (le-shift from k x, lt-shift to k x) (go (nat_le (from - k) x && nat_lt x (to - k)) (filter-shift from to k xs))
-  where
-    go : (b : Bool) → filter (lies_from from to) (map (λ q. k + q) xs) ≡ map (λ q. k + q) (filter (lies_from (from - k) (to - k)) xs)
-        → (if b then (k + x) ∷ filter (lies_from from to) (map (λ q. k + q) xs) else filter (lies_from from to) (map (λ q. k + q) xs))
-        ≡ map (λ q. k + q) (if b then x ∷ filter (lies_from (from - k) (to - k)) xs else filter (lies_from (from - k) (to - k)) xs)
-    go true ih = ap (λ l. (k + x) ∷ l) ih
-    go false ih = ih
 
 last-map : (k : ℕ) (xs : List ℕ) → last (map (λ q. k + q) xs) ≡ option_map (λ q. k + q) (last xs)
 last-map k [] = refl

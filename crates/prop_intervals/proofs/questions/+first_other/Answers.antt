@@ -1,8 +1,8 @@
-use Rattle.std.proofs.Common.{◌+◌, ◌-◌, None, Some, refl, sym, ap, ◌∙◌, option_map, arith}
+use Rattle.std.proofs.Common.{◌+◌, ◌-◌, None, Some, refl, sym, ◌∙◌, option_map, arith}
 use Rattle.ek_types.specs.Property.{number_of}
 use Rattle.prop_intervals.specs.Tree.{run_of}
 use Rattle.prop_intervals.specs.Others.{starts_of, first_from}
-use Rattle.prop_intervals.proofs.OtherLemmas.{not_there, found_left, none_behind, found_here, found_right, found_below}
+use Rattle.prop_intervals.proofs.OtherLemmas.{not_there, found_left, none_behind, found_here, found_right, found_below, from_start}
 use Rattle.prop_intervals.proofs.questions.+first_other.Goals as goal
 
 pub returns-then-len-from : goal.returns-then-len-from
@@ -31,13 +31,12 @@ pub returns-in_err-found-in-Full : goal.returns-in_err-found-in-Full
 returns-in_err-found-in-Full t c =
     let n = c.deref-node.result.now in
     let name = option_map number_of c.args.name in
-    let behind = c.len-front.result + n.len in
-    let found = c.first_other-in-Full.ensures
-    ∙ ap (λ k. first_from k c.saturating_sub-in-Full.result (starts_of name c.args.set.now 0 n.right)) c.saturating_sub.ensures
-    ∙ ap (λ k. first_from (c.args.from - behind) k (starts_of name c.args.set.now 0 n.right)) c.saturating_sub-in-Full.ensures in
+    let past = c.len-front.result + n.len in
+    let found = from_start (λ f t. first_from f t (starts_of name c.args.set.now 0 n.right)) c.first_other-in-Full.result (c.args.from - past) (c.args.to - past) c.saturating_sub.result c.saturating_sub-in-Full.result
+    c.first_other-in-Full.ensures c.saturating_sub.ensures c.saturating_sub-in-Full.ensures in
     rw (← c.tree.view_is, c.in-Full.is, ← c.deref-node.ensures)
     (c.from_residual.ensures
-    ∙ found_right name c.args.set.now c.args.from c.args.to c.len-front.result behind n.left (run_of n) n.right None c.len-front.ensures refl (sym c.in_default.is ∙ c.first_other.ensures)
+    ∙ found_right name c.args.set.now c.args.from c.args.to c.len-front.result past n.left (run_of n) n.right None c.len-front.ensures refl (sym c.in_default.is ∙ c.first_other.ensures)
     (sym c.differ_where.ensures ∙ c.if-differ_where.false) (sym c.in_err-found-in-Full.was ∙ found))
 
 pub overflow_add-result : goal.overflow_add-result
@@ -49,10 +48,9 @@ pub returns-in_ok-found-in-Full : goal.returns-in_ok-found-in-Full
 returns-in_ok-found-in-Full t c =
     let n = c.deref-node.result.now in
     let name = option_map number_of c.args.name in
-    let behind = c.len-front.result + n.len in
-    let found = c.first_other-in-Full.ensures
-    ∙ ap (λ k. first_from k c.saturating_sub-in-Full.result (starts_of name c.args.set.now 0 n.right)) c.saturating_sub.ensures
-    ∙ ap (λ k. first_from (c.args.from - behind) k (starts_of name c.args.set.now 0 n.right)) c.saturating_sub-in-Full.ensures in
+    let past = c.len-front.result + n.len in
+    let found = from_start (λ f t. first_from f t (starts_of name c.args.set.now 0 n.right)) c.first_other-in-Full.result (c.args.from - past) (c.args.to - past) c.saturating_sub.result c.saturating_sub-in-Full.result
+    c.first_other-in-Full.ensures c.saturating_sub.ensures c.saturating_sub-in-Full.ensures in
     rw (← c.tree.view_is, c.in-Full.is, ← c.deref-node.ensures)
-    (found_right name c.args.set.now c.args.from c.args.to c.len-front.result behind n.left (run_of n) n.right (Some c.in_ok-found-in-Full.found) c.len-front.ensures refl (sym c.in_default.is ∙ c.first_other.ensures)
+    (found_right name c.args.set.now c.args.from c.args.to c.len-front.result past n.left (run_of n) n.right (Some c.in_ok-found-in-Full.found) c.len-front.ensures refl (sym c.in_default.is ∙ c.first_other.ensures)
     (sym c.differ_where.ensures ∙ c.if-differ_where.false) (sym c.in_ok-found-in-Full.was ∙ found))

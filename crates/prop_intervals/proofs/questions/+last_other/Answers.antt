@@ -2,7 +2,7 @@ use Rattle.std.proofs.Common.{◌+◌, ◌-◌, sym, ap, ◌∙◌, option_map, 
 use Rattle.ek_types.specs.Property.{number_of}
 use Rattle.prop_intervals.specs.Tree.{run_of}
 use Rattle.prop_intervals.specs.Others.{ends_of, last_from}
-use Rattle.prop_intervals.proofs.OtherLemmas.{none_before_0, last_right, none_from, last_here, last_left, last_below}
+use Rattle.prop_intervals.proofs.OtherLemmas.{none_before_0, last_right, none_from, last_here, last_left, last_below, from_start}
 use Rattle.prop_intervals.proofs.questions.+last_other.Goals as goal
 
 pub returns-then-to-eq0 : goal.returns-then-to-eq0
@@ -18,9 +18,8 @@ returns-in-Some t c =
     let n = c.deref-node.result.now in
     let name = option_map number_of c.args.name in
     let past = c.len.result + n.len in
-    let right = c.last_other-right.ensures
-    ∙ ap (λ k. last_from k c.saturating_sub-in-Full.result (ends_of name c.args.set.now 0 n.right)) c.saturating_sub.ensures
-    ∙ ap (λ k. last_from (c.args.from - past) k (ends_of name c.args.set.now 0 n.right)) c.saturating_sub-in-Full.ensures in
+    let right = from_start (λ f t. last_from f t (ends_of name c.args.set.now 0 n.right)) c.last_other-right.result (c.args.from - past) (c.args.to - past) c.saturating_sub.result c.saturating_sub-in-Full.result
+    c.last_other-right.ensures c.saturating_sub.ensures c.saturating_sub-in-Full.ensures in
     rw (← c.tree.view_is, c.in-Full.is, ← c.deref-node.ensures)
     (last_right name c.args.set.now c.args.from c.args.to past c.in-Some.found n.left (run_of n) n.right (ap (λ k. k + n.len) c.len.ensures) (sym c.in-Some.is ∙ right))
 
@@ -29,9 +28,8 @@ returns-then-behind-from t c =
     let n = c.deref-node.result.now in
     let name = option_map number_of c.args.name in
     let past = c.len.result + n.len in
-    let right = c.last_other-right.ensures
-    ∙ ap (λ k. last_from k c.saturating_sub-in-Full.result (ends_of name c.args.set.now 0 n.right)) c.saturating_sub.ensures
-    ∙ ap (λ k. last_from (c.args.from - past) k (ends_of name c.args.set.now 0 n.right)) c.saturating_sub-in-Full.ensures in
+    let right = from_start (λ f t. last_from f t (ends_of name c.args.set.now 0 n.right)) c.last_other-right.result (c.args.from - past) (c.args.to - past) c.saturating_sub.result c.saturating_sub-in-Full.result
+    c.last_other-right.ensures c.saturating_sub.ensures c.saturating_sub-in-Full.ensures in
     rw (← c.tree.view_is, c.in-Full.is, ← c.deref-node.ensures)
     (none_from name c.args.set.now c.args.from c.args.to past n.left (run_of n) n.right (ap (λ k. k + n.len) c.len.ensures) (sym c.in_default.is ∙ right) (omega (arith, c.if-behind-from.true)))
 
@@ -40,9 +38,8 @@ returns-then-differ_where t c =
     let n = c.deref-node.result.now in
     let name = option_map number_of c.args.name in
     let past = c.len.result + n.len in
-    let right = c.last_other-right.ensures
-    ∙ ap (λ k. last_from k c.saturating_sub-in-Full.result (ends_of name c.args.set.now 0 n.right)) c.saturating_sub.ensures
-    ∙ ap (λ k. last_from (c.args.from - past) k (ends_of name c.args.set.now 0 n.right)) c.saturating_sub-in-Full.ensures in
+    let right = from_start (λ f t. last_from f t (ends_of name c.args.set.now 0 n.right)) c.last_other-right.result (c.args.from - past) (c.args.to - past) c.saturating_sub.result c.saturating_sub-in-Full.result
+    c.last_other-right.ensures c.saturating_sub.ensures c.saturating_sub-in-Full.ensures in
     rw (← c.tree.view_is, c.in-Full.is, ← c.deref-node.ensures)
     (last_here name c.args.set.now c.args.from c.args.to past n.left (run_of n) n.right (ap (λ k. k + n.len) c.len.ensures) (sym c.in_default.is ∙ right) (omega (arith, c.if-behind-from.false))
     (sym c.differ_where.ensures ∙ c.if-differ_where.true))
@@ -52,8 +49,7 @@ returns-else-differ_where t c =
     let n = c.deref-node.result.now in
     let name = option_map number_of c.args.name in
     let past = c.len.result + n.len in
-    let right = c.last_other-right.ensures
-    ∙ ap (λ k. last_from k c.saturating_sub-in-Full.result (ends_of name c.args.set.now 0 n.right)) c.saturating_sub.ensures
-    ∙ ap (λ k. last_from (c.args.from - past) k (ends_of name c.args.set.now 0 n.right)) c.saturating_sub-in-Full.ensures in
+    let right = from_start (λ f t. last_from f t (ends_of name c.args.set.now 0 n.right)) c.last_other-right.result (c.args.from - past) (c.args.to - past) c.saturating_sub.result c.saturating_sub-in-Full.result
+    c.last_other-right.ensures c.saturating_sub.ensures c.saturating_sub-in-Full.ensures in
     rw (← c.tree.view_is, c.in-Full.is, ← c.deref-node.ensures)
     (c.last_other.ensures ∙ last_left name c.args.set.now c.args.from c.args.to past n.left (run_of n) n.right (ap (λ k. k + n.len) c.len.ensures) (sym c.in_default.is ∙ right) (sym c.differ_where.ensures ∙ c.if-differ_where.false))
