@@ -311,19 +311,19 @@ impl Buffer {
         let (first, end) = self.undo.passed(plan);
         let records = self.undo.part(first, end)?;
         if is_one_change(&records) {
-            self.undo_in_place(id, &records, plan.last, marks, pool)
+            self.undo_in_place(id, &records, plan, marks, pool)
         } else {
-            self.undo_on_copies(id, &records, plan.last, marks, pool)
+            self.undo_on_copies(id, &records, plan, marks, pool)
         }
     }
 
-    /// Makes the records below a serial number pending, and undoes others, at most one of which is of a change. So a
-    /// refusal has changed nothing but point, the flag and what is pending, which go back.
+    /// Passes a plan and undoes its records, at most one of which is of a change. So a refusal has changed nothing but
+    /// point, the flag and what is pending, which go back.
     fn undo_in_place(
         &mut self,
         id: u32,
         records: &Undo,
-        below: u64,
+        plan: &Plan,
         marks: &mut Marks,
         pool: &mut Pool,
     ) -> Mem<()>
@@ -335,7 +335,7 @@ impl Buffer {
         ensures lies { LiesIn pool.new self.new.text }
         ensures ok { OnOk result (site_of pool.new self.new marks.new ≡
             undo_each id records.now.state.entries
-            (with_pending below (site_of pool.old self.old marks.old))) }
+            (with_pending plan.now.last (site_of pool.old self.old marks.old))) }
         ensures err { OnErr result (site_of pool.new self.new marks.new ≡
             site_of pool.old self.old marks.old) }
         ensures marks { AreWithin id (length self.new.sets) marks.new }
@@ -344,7 +344,7 @@ impl Buffer {
         let bounds = self.bounds;
         let modified = self.modified;
         let pending = self.undo.pending_below();
-        self.make_pending(below);
+        self.pass(plan);
         match self.undo_each(id, records, marks, pool) {
             Ok(()) => Ok(()),
             Err(refused) => {
@@ -378,7 +378,7 @@ impl Buffer {
         &mut self,
         id: u32,
         records: &Undo,
-        below: u64,
+        plan: &Plan,
         marks: &mut Marks,
         pool: &mut Pool,
     ) -> Mem<()>
@@ -389,7 +389,7 @@ impl Buffer {
         ensures lies { LiesIn pool.new self.new.text }
         ensures ok { OnOk result (site_of pool.new self.new marks.new ≡
             undo_each id records.now.state.entries
-            (with_pending below (site_of pool.old self.old marks.old))) }
+            (with_pending plan.now.last (site_of pool.old self.old marks.old))) }
         ensures err { OnErr result (site_of pool.new self.new marks.new ≡
             site_of pool.old self.old marks.old) }
         ensures marks { AreWithin id (length self.new.sets) marks.new }
@@ -397,7 +397,7 @@ impl Buffer {
     {
         let mut moved = marks.copy()?;
         let mut copy = self.copy(pool)?;
-        copy.make_pending(below);
+        copy.pass(plan);
         match copy.undo_each(id, records, &mut moved, pool) {
             Ok(()) => {
                 let before = mem::replace(self, copy);
@@ -412,11 +412,12 @@ impl Buffer {
         }
     }
 
-    /// Makes the records below a serial number pending, and no others. Nothing else changes.
-    fn make_pending(&mut self, below: u64)
+    /// Makes the records of a plan pending no longer. Nothing else changes.
+    fn pass(&mut self, plan: &Plan)
         ensures rest { self.new ≡ record self.old { undo = self.new.undo } }
-        ensures state { self.new.undo.state ≡ record self.old.undo.state { pending_below = below } }
+        ensures state { self.new.undo.state ≡
+            record self.old.undo.state { pending_below = plan.now.last } }
     {
-        self.undo.make_pending(below);
+        self.undo.pass(plan);
     }
 }
