@@ -7,7 +7,7 @@
 //! The lines so far are handed on before each call but a kill. Where that fails no child is asked, and the answer is a
 //! fault; only an input is closed all the same. The next line can't be written then, which ends the run.
 ghost use Rattle.std.specs.Prelude.{◌≡◌, ◌<◌, ◌-◌, ◌^◌, ℕ, List, [], map, length, None, Some, false, true};
-ghost use Rattle.std.specs.Prelude.{slice_get, slice_set, string_bytes, IsSome, IsTrue, IfSome, IfOk, OnOk, OnErr};
+ghost use Rattle.std.specs.Prelude.{vec_len, vec_capacity, slice_get, slice_set, string_bytes, IsSome, IsTrue, IfSome, IfOk, OnOk, OnErr};
 ghost use Rattle.std.specs.Io.KnownBytes.{Keeps};
 ghost use Rattle.std.specs.Process.{child_status, command_program, command_args, command_var};
 ghost use Rattle.std.specs.Process.{command_dir, clears_env};
@@ -69,10 +69,29 @@ impl<'a, R: Processes, W: Write + Drop> RealHost<'a, R, W> {
     }
 
     /// Starts a child of a command.
-    fn start(&self, command: &mut Command) -> io::Result<Child<R::Started>> {
+    fn started(&self, command: &mut Command) -> io::Result<Child<R::Started>> {
         self.output.hand_on()?;
         command.spawn(self.rt)
     }
+
+    /// Starts a child of these words.
+    fn start(&self, program: &str, args: &[String]) -> Mem<io::Result<Child<R::Started>>> {
+        let mut command = command_of(self.alloc, program, args)?;
+        Ok(self.started(&mut command))
+    }
+}
+
+/// Takes room for one child more.
+fn reserve_one<C>(children: &mut Vec<C>, kills: &mut Vec<bool>) -> Mem<()>
+    ensures children { children.new.items ≡ children.old.items }
+    ensures count { vec_len children.new ≡ vec_len children.old }
+    ensures kills { kills.new.items ≡ kills.old.items }
+    ensures room { IfOk result (λ _. vec_len children.new < vec_capacity children.new) }
+    ensures kill { IfOk result (λ _. vec_len kills.new < vec_capacity kills.new) }
+{
+    children.reserve(1)?;
+    kills.reserve(1)?;
+    Ok(())
 }
 
 /// Reaps what is left: children that were never killed, whose end couldn't be had, or that couldn't be killed. One that
@@ -196,10 +215,8 @@ impl<'a, R: Processes, W: Write + Drop> Host for RealHost<'a, R, W> {
             self.old self.new (Spawn program.now (map string_bytes args.now)) 0 (spawned_answer s)) }
         ensures unchanged { OnErr result (self.new ≡ self.old) }
     {
-        let mut command = command_of(self.alloc, program, args)?;
-        self.children.reserve(1)?;
-        self.kills.reserve(1)?;
-        match self.start(&mut command) {
+        reserve_one(&mut self.children, &mut self.kills)?;
+        match self.start(program, args)? {
             Ok(child) => {
                 let number = self.children.len() as u32;
                 self.children.push_reserved(child);

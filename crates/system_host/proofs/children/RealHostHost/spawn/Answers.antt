@@ -6,14 +6,7 @@ returns-in-Ok-clause-made g c = rw (← c.self.view_is) record {
   faults = refl;
   others = tt;
   did = (
-    c.len-number.ensures ∙ c.reserve.ensures.len ∙ c.self.inside.children.ok.0,
-    (c.in-Ok.child, c.push_reserved.ensures.items ∙ ap (λ children. children ++ c.in-Ok.child ∷ []) c.reserve.ensures.items),
+    c.len-number.ensures ∙ c.reserve_one.ensures.count ∙ c.self.inside.children.ok.0,
+    (c.in-Ok.child, c.push_reserved.ensures.items ∙ ap (λ children. children ++ c.in-Ok.child ∷ []) c.reserve_one.ensures.children),
   );
-}
-
-pub returns-clause-asked : goal.returns-clause-asked
-returns-clause-asked g c = rw (← c.self.view_is) record {
-  told = refl;
-  kills = c.reserve-2.ensures.items;
-  cause = record { later = omega arith; rose = λ _. omega arith };
 }
