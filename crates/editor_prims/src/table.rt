@@ -7,18 +7,16 @@ ghost use Rattle.ek_types.specs.Listing.{items_of};
 ghost use Rattle.ek_call.specs.Meaning.{view, reply_of};
 ghost use Rattle.ek_call.specs.Primitives.{prim_of};
 ghost use Rattle.buffer_table.specs.Kept.{editor_of};
-ghost use Rattle.editor_prims.specs.Meaning.{Answers, Applies, Prepares, prepared_of};
+ghost use Rattle.prim_arguments.specs.Meaning.{Answers, Applies};
+ghost use Rattle.prim_changes.specs.Meaning.{Prepares, prepared_of};
 
-use crate::change::Prepared;
-use crate::failure::Failure;
-use crate::replies::{prepared, reply};
-use crate::{
-    buffers, inserts, markers, overlay_questions, overlays, properties, property_changes, texts,
-    undo, undo_more, undo_records,
-};
 use buffer_table::Editor;
 use ek_call::{Fault, Prim, Reply, Value, Values, argument};
 use ek_types::Mem;
+use prim_arguments::Failure;
+use prim_changes::replies::{prepared, reply};
+use prim_changes::{Prepared, inserts, property_changes, texts, undo, undo_more};
+use prim_questions::{buffers, markers, overlay_questions, overlays, properties, undo_records};
 
 /// An argument by its place, counted from 0; nil where it was left out.
 pub fn arg<'a>(args: &'a Values, i: usize, nil: &'a Value) -> &'a Value

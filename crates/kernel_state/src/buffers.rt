@@ -4,7 +4,7 @@ ghost use Rattle.plain_machine.specs.Arguments.{running_in, runs, stands_in};
 ghost use Rattle.plain_machine.specs.Refusals.{is_last, must_be_replaceable};
 ghost use Rattle.ek_call.specs.Meaning.{reply_of};
 ghost use Rattle.buffer_table.specs.Kept.{editor_of};
-ghost use Rattle.editor_prims.specs.Meaning.{fault_in};
+ghost use Rattle.prim_arguments.specs.Meaning.{fault_in};
 ghost use Rattle.kernel_steps.specs.Waits.{killed_by};
 ghost use Rattle.editor_model.specs.Editor.{is_live, killed};
 ghost use Rattle.editor_model.specs.Values.{Answered, T};
@@ -12,10 +12,10 @@ ghost use Rattle.kernel_state.specs.Meaning.{state_of};
 
 use crate::kernel::KernelState;
 use buffer_table::Editor;
-use editor_prims::limits::must_be_fewer;
 use ek_call::{Fault, Reply, Value};
 use ek_types::Mem;
 use ek_types::limits::MOST_BUFFERS;
+use prim_arguments::limits::must_be_fewer;
 use process_table::{Process, Status};
 
 /// Whether a buffer is the only one that lives.

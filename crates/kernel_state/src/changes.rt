@@ -7,15 +7,16 @@ ghost use Rattle.ek_types.specs.Listing.{items_of};
 ghost use Rattle.ek_call.specs.Meaning.{view};
 ghost use Rattle.buffer_table.specs.Kept.{editor_of};
 ghost use Rattle.buffer_table.specs.Places.{IsKeptPlace};
-ghost use Rattle.editor_prims.specs.Meaning.{IsFailed, change_of, committed_of};
+ghost use Rattle.prim_changes.specs.Meaning.{IsFailed, change_of, committed_of};
 ghost use Rattle.kernel_steps.specs.Changes.{begun, behind_commit, done_at, ends_behind, ends_of};
 ghost use Rattle.kernel_state.specs.Meaning.{state_of};
 
 use crate::kernel::KernelState;
-use editor_prims::{Change, Committed, commit_at, values};
+use editor_prims::{Change, Committed, commit_at};
 use ek_call::{Value, Values};
 use ek_types::{ListOf, Mem, NoMemory};
 use narrow_region::Saved;
+use prim_arguments::values;
 use std::alloc::Global;
 
 /// Whether the ends of a change lie in the text of a live buffer, in their order.

@@ -10,7 +10,7 @@ ghost use Rattle.change_hooks.specs.Hooked.{hook};
 ghost use Rattle.ek_types.specs.Listing.{items_of};
 ghost use Rattle.ek_types.specs.Property.{number_of};
 ghost use Rattle.ek_call.specs.Meaning.{view};
-ghost use Rattle.editor_prims.specs.Meaning.{prepared_of};
+ghost use Rattle.prim_changes.specs.Meaning.{prepared_of};
 ghost use Rattle.handler_code.specs.Calls.{allowed as may, call_asked};
 ghost use Rattle.handler_code.specs.Counts.{AreMade};
 ghost use Rattle.kernel_steps.specs.Handlers.{default_prepared, default_state, ended_state};

@@ -13,12 +13,12 @@ ghost use Rattle.kernel_state.specs.Meaning.{state_of};
 
 use crate::kernel::KernelState;
 use buffer_table::Editor;
-use editor_prims::kinds::flag;
-use editor_prims::objects::find;
 use editor_prims::{arg, nil};
 use ek_call::{Value, Values};
 use ek_types::limits::{MOST_PROCESSES, MOST_ROUNDS};
 use ek_types::{Mem, NoMemory};
+use prim_arguments::kinds::flag;
+use prim_arguments::objects::find;
 use wait_loop::Wait;
 
 /// The process that a value gives: itself, or the listed one of a name. Where there is none it is the first.

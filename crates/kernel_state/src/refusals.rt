@@ -26,7 +26,7 @@ ghost use Rattle.ek_call.specs.Meaning.{view};
 ghost use Rattle.ek_call.specs.Faults.{fault_of};
 ghost use Rattle.ek_call.specs.Primitives.{prim_of};
 ghost use Rattle.buffer_table.specs.Kept.{editor_of};
-ghost use Rattle.editor_prims.specs.Meaning.{fault_in};
+ghost use Rattle.prim_arguments.specs.Meaning.{fault_in};
 ghost use Rattle.kernel_steps.specs.Outside.{deepest};
 ghost use Rattle.kernel_steps.specs.Waits.{refusal_of};
 ghost use Rattle.kernel_state.specs.Meaning.{state_of};
@@ -38,14 +38,14 @@ use crate::questions::{buffer, process};
 use crate::words::{encoded_length, is_word};
 use buffer_table::Editor;
 use change_hooks::MOST_HOOKS;
-use editor_prims::kinds::{must, must_be_buffer_or_nil, name, string, symbol};
-use editor_prims::limits::{must_be_fewer, must_be_short};
-use editor_prims::objects::{self, find};
 use editor_prims::{arg, nil};
 use ek_call::{Fault, Primitive, Value, Values};
 use ek_types::Piece;
 use ek_types::limits::{MOST_BUFFERS, MOST_MARKERS, MOST_PROCESSES, MOST_ROUNDS};
 use kernel_steps::Program;
+use prim_arguments::kinds::{must, must_be_buffer_or_nil, name, string, symbol};
+use prim_arguments::limits::{must_be_fewer, must_be_short};
+use prim_arguments::objects::{self, find};
 
 /// The most exchanges of a run but for kills.
 const MOST_EXCHANGES: u32 = 65_536;

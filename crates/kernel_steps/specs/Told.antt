@@ -1,7 +1,7 @@
 -- What the hook functions of a change are told.
 use Rattle.std.specs.Prelude.{List, Option, None, Some}
 use Rattle.editor_model.specs.Values.{Value}
-use Rattle.editor_prims.specs.declared.change.Change.{Change}
+use Rattle.prim_changes.specs.declared.change.Change.{Change}
 use Rattle.kernel_steps.specs.Changes.{ends_behind, ends_of}
 use Rattle.kernel_steps.specs.declared.changes.Made.{Made}
 

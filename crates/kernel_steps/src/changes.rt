@@ -6,7 +6,7 @@ ghost use Rattle.ek_types.specs.Listing.{items_of};
 ghost use Rattle.ek_types.specs.Property.{number_of};
 ghost use Rattle.ek_call.specs.Meaning.{view};
 ghost use Rattle.ek_call.specs.Primitives.{prim_of};
-ghost use Rattle.editor_prims.specs.Meaning.{change_of};
+ghost use Rattle.prim_changes.specs.Meaning.{change_of};
 ghost use Rattle.kernel_steps.specs.Handlers.{HooksAround, IsHook, kind_of};
 ghost use Rattle.kernel_steps.specs.Told.{told_of};
 ghost use Rattle.kernel_steps.specs.Work.{Answers, Does, lifted};
@@ -17,10 +17,10 @@ use crate::kernel::{Kernel, Kind};
 use crate::program::Program;
 use crate::reply::{refuse, tell};
 use crate::stop::{Halt, Stop};
-use editor_prims::{Change, Committed, Prepared};
 use ek_call::{Primitive, Reply, Value, Values};
 use ek_types::{Mem, Sink, SymList};
 use host_link::Host;
+use prim_changes::{Change, Committed, Prepared};
 use std::alloc::Global;
 
 /// A call that changes a text.

@@ -17,11 +17,11 @@ use crate::kernel::{Kernel, Kind};
 use crate::program::Program;
 use crate::reply::refuse;
 use crate::stop::{Halt, Stop};
-use editor_prims::Prepared;
 use ek_call::{Fault, Reply, Value, Values};
 use ek_types::{ListOf, Sink, Sym};
 use handler_code::{NativeCall, Next};
 use host_link::Host;
+use prim_changes::Prepared;
 
 /// The most calls that a native makes.
 const MOST_REPLIES: u32 = 256;

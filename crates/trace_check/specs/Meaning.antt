@@ -5,7 +5,7 @@ use Rattle.ek_types.specs.Property.{number_of}
 use Rattle.ek_call.specs.Faults.{fault_of}
 use Rattle.ek_call.specs.Meaning.{form_of, joined, reply_of, view}
 use Rattle.ek_call.specs.Primitives.{prim_of}
-use Rattle.editor_prims.specs.Meaning.{change_of}
+use Rattle.prim_changes.specs.Meaning.{change_of}
 use Rattle.kernel_steps.specs.Blocks.{kept_as}
 use Rattle.kernel_steps.specs.Handlers.{kind_of}
 use Rattle.plain_machine.specs.Items as plain

@@ -6,7 +6,7 @@ ghost use Rattle.plain_machine.specs.State.{Program as Plain, State};
 ghost use Rattle.ek_types.specs.Listing.{items_of};
 ghost use Rattle.ek_types.specs.Property.{number_of};
 ghost use Rattle.ek_call.specs.Meaning.{view};
-ghost use Rattle.editor_prims.specs.Meaning.{change_of};
+ghost use Rattle.prim_changes.specs.Meaning.{change_of};
 ghost use Rattle.kernel_steps.specs.Handlers.{around, kind_of};
 ghost use Rattle.kernel_steps.specs.Work.{working};
 ghost use Rattle.trace_check.specs.Meaning.{list_of};

@@ -13,11 +13,11 @@ ghost use Rattle.wait_loop.specs.KeptWaits.{noted};
 ghost use Rattle.kernel_steps.specs.Waits.{waiting_of};
 ghost use Rattle.trace_check.specs.Waits.{ahead_of, in_next_round, without_first};
 
-use editor_prims::kinds::flag;
 use editor_prims::{arg, nil};
 use ek_call::{Value, Values};
 use ek_types::Mem;
 use kernel_steps::Kernel;
+use prim_arguments::kinds::flag;
 use process_table::Processes;
 use std::alloc::Global;
 use std::marker::Model;

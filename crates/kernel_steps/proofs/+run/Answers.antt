@@ -25,7 +25,7 @@ use Rattle.ek_call.specs.Meaning.{reply_of}
 use Rattle.ek_call.specs.Primitives.{prim_of}
 use Rattle.ek_call.specs.Faults.{fault_of}
 use Rattle.editor_model.specs.Answers.{Done, Failed}
-use Rattle.editor_prims.specs.Meaning.{change_of}
+use Rattle.prim_changes.specs.Meaning.{change_of}
 use Rattle.kernel_steps.specs.Changes.{ends_of}
 use Rattle.kernel_steps.specs.Handlers.{around, kind_of}
 use Rattle.kernel_steps.specs.Work.{lifted, call_form, target_of}

@@ -5,7 +5,7 @@ use Rattle.editor_model.specs.Answers.{first_fault}
 use Rattle.plain_machine.specs.Refusals.{must_be_word}
 use Rattle.ek_call.specs.Meaning.{view}
 use Rattle.ek_call.specs.Faults.{fault_of}
-use Rattle.editor_prims.specs.Meaning.{fault_in}
+use Rattle.prim_arguments.specs.Meaning.{fault_in}
 use Rattle.kernel_state.proofs.Refusing.{item_at, word_met, other_met}
 use Rattle.kernel_state.proofs.refusals.must_be_words.Goals as goal
 

@@ -5,8 +5,8 @@ use Rattle.editor_model.specs.Answers.{Test, refuse}
 use Rattle.plain_machine.specs.Arguments.{is_running, is_closed, encoded}
 use Rattle.plain_machine.specs.Refusals.{must_ask, most_sent}
 use Rattle.ek_call.specs.Faults.{fault_of}
-use Rattle.editor_prims.specs.Meaning.{fault_in}
-use Rattle.editor_prims.proofs.Strings.{alone}
+use Rattle.prim_arguments.specs.Meaning.{fault_in}
+use Rattle.prim_changes.proofs.Strings.{alone}
 use Rattle.kernel_state.specs.Meaning.{state_of}
 use Rattle.kernel_state.proofs.Refusing.{stops, goes}
 use Rattle.kernel_state.proofs.refusals.must_send.Goals as goal

@@ -5,8 +5,8 @@ use Rattle.plain_machine.specs.Arguments.{process_of, is_running}
 use Rattle.plain_machine.specs.Refusals.{only_where, must_nest}
 use Rattle.ek_call.specs.Meaning.{view}
 use Rattle.ek_call.specs.Faults.{fault_of}
-use Rattle.editor_prims.specs.Meaning.{fault_in}
-use Rattle.editor_prims.proofs.Strings.{alone, first_of_both, first_in_front}
+use Rattle.prim_arguments.specs.Meaning.{fault_in}
+use Rattle.prim_changes.proofs.Strings.{alone, first_of_both, first_in_front}
 use Rattle.kernel_steps.specs.Outside.{deepest}
 use Rattle.kernel_state.specs.Meaning.{state_of}
 use Rattle.kernel_state.proofs.Refusing.{one_tests}

@@ -7,7 +7,7 @@ use Rattle.plain_machine.specs.Arguments.{process_of, is_empty}
 use Rattle.plain_machine.specs.Refusals.{must_be_process, process_there}
 use Rattle.ek_call.specs.Meaning.{view}
 use Rattle.ek_call.specs.Faults.{fault_of}
-use Rattle.editor_prims.specs.Meaning.{fault_in}
+use Rattle.prim_arguments.specs.Meaning.{fault_in}
 use Rattle.kernel_state.specs.Meaning.{state_of}
 use Rattle.kernel_state.proofs.Refusing.{stops, goes, send_tests, sent_tests}
 use Rattle.kernel_state.proofs.refusals.test_send.Goals as goal

@@ -6,8 +6,8 @@ use Rattle.plain_machine.specs.Arguments.{is_coding, is_fed, process_of}
 use Rattle.plain_machine.specs.Refusals.{must_be_process, process_there}
 use Rattle.ek_call.specs.Meaning.{view}
 use Rattle.ek_call.specs.Faults.{fault_of}
-use Rattle.editor_prims.specs.Meaning.{fault_in}
-use Rattle.editor_prims.proofs.Strings.{alone}
+use Rattle.prim_arguments.specs.Meaning.{fault_in}
+use Rattle.prim_changes.proofs.Strings.{alone}
 use Rattle.kernel_state.specs.Meaning.{state_of}
 use Rattle.kernel_state.proofs.Refusing.{stops, goes, coding_tests, unfed_tests}
 use Rattle.kernel_state.proofs.refusals.test_set_coding.Goals as goal

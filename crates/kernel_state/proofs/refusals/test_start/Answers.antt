@@ -5,8 +5,8 @@ use Rattle.editor_model.specs.Arguments.{arg}
 use Rattle.ek_types.specs.Listing.{items_of}
 use Rattle.ek_call.specs.Meaning.{view}
 use Rattle.ek_call.specs.Faults.{fault_of}
-use Rattle.editor_prims.specs.Meaning.{fault_in}
-use Rattle.editor_prims.proofs.Strings.{first_of_both, first_in_front}
+use Rattle.prim_arguments.specs.Meaning.{fault_in}
+use Rattle.prim_changes.proofs.Strings.{first_of_both, first_in_front}
 use Rattle.kernel_state.specs.Meaning.{state_of}
 use Rattle.kernel_state.proofs.Refusing.{command_tests, place_tests}
 use Rattle.kernel_state.proofs.refusals.test_start.Goals as goal

@@ -4,7 +4,7 @@ use Rattle.ek_types.specs.Listing.{items_of}
 use Rattle.ek_call.specs.Faults.{fault_of}
 use Rattle.ek_call.specs.Meaning.{view}
 use Rattle.ek_call.specs.Primitives.{prim_of}
-use Rattle.editor_prims.specs.Meaning.{change_of}
+use Rattle.prim_changes.specs.Meaning.{change_of}
 use Rattle.trace_check.specs.Meaning.{list_of, target_of}
 use Rattle.trace_check.proofs.CallItems.{change_put, quiet_put, nothing_put, barred_put}
 use Rattle.trace_check.proofs.calls.change_text.Goals as goal

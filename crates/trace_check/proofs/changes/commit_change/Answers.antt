@@ -2,7 +2,7 @@ use Rattle.std.proofs.Common.{◌≡◌, ◌∷◌, ap, ◌∙◌, sym}
 use Rattle.editor_model.specs.Answers.{Done, Failed}
 use Rattle.plain_machine.specs.Lines.{OfAfter}
 use Rattle.ek_call.specs.Faults.{fault_of}
-use Rattle.editor_prims.specs.Meaning.{change_of}
+use Rattle.prim_changes.specs.Meaning.{change_of}
 use Rattle.kernel_steps.specs.Changes.{behind_commit}
 use Rattle.kernel_steps.specs.Handlers.{around}
 use Rattle.trace_check.specs.Meaning.{list_of}

@@ -1,7 +1,7 @@
 use Rattle.std.proofs.Common.{◌≡◌, ◌∷◌, ap, ◌∙◌, sym}
 use Rattle.plain_machine.specs.Lines.{OfBefore}
 use Rattle.plain_machine.specs.Items.{CommitChange}
-use Rattle.editor_prims.specs.Meaning.{change_of}
+use Rattle.prim_changes.specs.Meaning.{change_of}
 use Rattle.kernel_steps.specs.Changes.{ends_of}
 use Rattle.kernel_steps.specs.Handlers.{around}
 use Rattle.trace_check.specs.Meaning.{list_of}

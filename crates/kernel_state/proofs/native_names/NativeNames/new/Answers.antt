@@ -3,7 +3,7 @@ use Rattle.std.specs.Prelude.{slice_get, unwrap_or}
 use Rattle.text_model.specs.Names.{number_from}
 use Rattle.ek_types.specs.Listing.{items_of}
 use Rattle.ek_types.specs.Property.{number_of}
-use Rattle.editor_prims.proofs.Loops.{seen_more}
+use Rattle.prim_arguments.proofs.Loops.{seen_more}
 use Rattle.kernel_state.proofs.RunNames.{name_there}
 use Rattle.kernel_state.proofs.native_names.NativeNames.new.Goals as goal
 

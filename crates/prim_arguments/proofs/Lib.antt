@@ -1,0 +1,5 @@
+pub mod Found
+pub mod Loops
+pub mod Words
+pub mod Pairing
+pub mod Symbols

@@ -1,0 +1,9 @@
+pub mod Changing
+pub mod Twice
+pub mod Writable
+pub mod Strings
+pub mod Refusing
+pub mod Inheriting
+pub mod Sets
+pub mod Committing
+pub mod Planning

@@ -1,0 +1,16 @@
+use Rattle.std.proofs.Common.{◌≡◌, ap, subst, ◌∙◌, map}
+use Rattle.std.specs.Prelude.{IfOk}
+use Rattle.text_model.specs.OverlayQuestions.{overlays_where, covers}
+use Rattle.editor_model.specs.Arguments.{position}
+use Rattle.editor_model.specs.Values.{TheOverlay, list}
+use Rattle.ek_call.specs.Meaning.{view}
+use Rattle.buffer_table.specs.Kept.{editor_of}
+use Rattle.prim_questions.proofs.Standing.{as_values}
+use Rattle.prim_questions.proofs.overlay_questions.covering_list.Goals as goal
+
+pub returns : goal.returns
+returns c =
+    let e = editor_of c.args.editor.now in
+    let same = ap (λ l. list (map TheOverlay l)) c.in_ok-covering.ensures
+    ∙ as_values (overlays_where e.current (covers (position e (view c.args.p.now))) e.marks.overlays) in
+    subst (λ w. IfOk c.overlay_list.result (λ v. view v ≡ w)) same c.overlay_list.ensures
