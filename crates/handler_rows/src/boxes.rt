@@ -1,7 +1,7 @@
 //! The shipped handlers against the reference, reply by reply, and lists of boxes.
-use crate::checking::{holds, is};
+use crate::checking::is;
 use ek_call::{Fault, Primitive, Replies, Reply, Value, Values};
-use ek_types::{Copied, ListOf, Mem, Sym};
+use ek_types::{Copied, ListOf, Sym};
 use handler_box::{Boxed, DropFilter, Handler, InsertFilter, NoteSentinel};
 use handler_code::{Natives, Next};
 use std::alloc::Global;
@@ -30,51 +30,64 @@ fn noted(call: usize) -> Value {
 }
 
 /// The first replies to the calls of the insert filter.
-fn replies(alloc: Global, count: usize, point: i64) -> Mem<Replies> {
+fn replies(rt: &impl Abort, alloc: Global, count: usize, point: i64) -> Replies {
     let mut past = ListOf::new(alloc);
     for call in 0..count {
-        past.push(Reply::Value(inserted(call, point)))?;
+        push(rt, &mut past, Reply::Value(inserted(call, point)));
     }
-    Ok(past)
+    past
 }
 
 /// The first replies to the calls of the note sentinel.
-fn notes(alloc: Global, count: usize) -> Mem<Replies> {
+fn notes(rt: &impl Abort, alloc: Global, count: usize) -> Replies {
     let mut past = ListOf::new(alloc);
     for call in 0..count {
-        past.push(Reply::Value(noted(call)))?;
+        push(rt, &mut past, Reply::Value(noted(call)));
     }
-    Ok(past)
+    past
+}
+
+/// One reply more.
+fn push(rt: &impl Abort, past: &mut Replies, reply: Reply) {
+    past.push(reply).expect(rt, "memory");
 }
 
 /// A process and no text.
-fn arguments(alloc: Global) -> Mem<Values> {
+fn arguments(rt: &impl Abort, alloc: Global) -> Values {
     let mut args = ListOf::new(alloc);
-    args.push(Value::Process(4))?;
-    args.push(Value::Nil)?;
-    Ok(args)
+    args.push(Value::Process(4)).expect(rt, "memory");
+    args.push(Value::Nil).expect(rt, "memory");
+    args
+}
+
+/// The call that comes next, and the number that it gives as the first argument.
+fn shown(next: &Next) -> Option<(Primitive, i64)> {
+    match next {
+        Next::Call(call) => Some((call.prim, first_number(&call.args))),
+        Next::Done => None,
+    }
 }
 
 /// The call that a handler makes next, and the number that it gives as the first argument.
-fn asked<H: Handler>(alloc: Global, handler: &H, past: &Replies) -> Mem<Option<(Primitive, i64)>> {
-    let args = arguments(alloc)?;
-    match handler.next(&args, past)? {
-        Next::Call(call) => Ok(Some((call.prim, first_number(&call.args)))),
-        Next::Done => Ok(None),
-    }
+fn asked<H: Handler>(
+    rt: &impl Abort,
+    alloc: Global,
+    handler: &H,
+    past: &Replies,
+) -> Option<(Primitive, i64)> {
+    let args = arguments(rt, alloc);
+    shown(&handler.next(&args, past).expect(rt, "memory"))
 }
 
 /// The number of the first argument.
 fn first_number(args: &Values) -> i64 {
-    if args.len() == 0 {
-        return -1;
-    }
-    match args.at(0) {
-        Value::Int(i) => *i,
-        Value::Buffer(n) => i64::from(*n),
-        Value::Marker(n) => i64::from(*n),
-        Value::Process(n) => i64::from(*n),
-        _ => -2,
+    match args.as_slice().first() {
+        Some(Value::Int(i)) => *i,
+        Some(Value::Buffer(n)) => i64::from(*n),
+        Some(Value::Marker(n)) => i64::from(*n),
+        Some(Value::Process(n)) => i64::from(*n),
+        Some(_) => -2,
+        None => -1,
     }
 }
 
@@ -86,13 +99,13 @@ fn asks<H: Handler>(
     past: &Replies,
     call: Option<(Primitive, i64)>,
 ) {
-    is(rt, asked(alloc, handler, past).expect(rt, "memory"), call);
+    is(rt, asked(rt, alloc, handler, past), call);
 }
 
 /// The first replies to the calls of the insert filter, and one more.
 fn replies_and(rt: &impl Abort, alloc: Global, count: usize, last: Reply) -> Replies {
-    let mut past = replies(alloc, count, 5).expect(rt, "memory");
-    past.push(last).expect(rt, "memory");
+    let mut past = replies(rt, alloc, count, 5);
+    push(rt, &mut past, last);
     past
 }
 
@@ -113,19 +126,29 @@ const INSERTING: [Option<(Primitive, i64)>; 11] = [
 #[test]
 fn the_insert_filter_makes_its_calls_in_order(rt: HostRuntime) {
     for (count, call) in INSERTING.iter().enumerate() {
-        let past = replies(rt.alloc(), count, 5).expect(&rt, "memory");
+        let past = replies(&rt, rt.alloc(), count, 5);
         asks(&rt, rt.alloc(), &InsertFilter::new(), &past, *call);
     }
+}
+
+/// The insert filter ends where this reply is a fault.
+fn ends_at_a_fault(rt: &impl Abort, alloc: Global, count: usize) {
+    let past = replies_and(rt, alloc, count, Reply::Fault(Fault::WrongType));
+    asks(rt, alloc, &InsertFilter::new(), &past, None);
+}
+
+/// Whether the insert filter goes on where this reply is nil.
+fn goes_on_at_nil(rt: &impl Abort, alloc: Global, count: usize) -> bool {
+    let past = replies_and(rt, alloc, count, Reply::Value(Value::Nil));
+    asked(rt, alloc, &InsertFilter::new(), &past).is_some()
 }
 
 #[test]
 fn a_fault_or_nil_at_any_place_ends_the_insert_filter(rt: HostRuntime) {
     for count in 0..9 {
-        let past = replies_and(&rt, rt.alloc(), count, Reply::Fault(Fault::WrongType));
-        asks(&rt, rt.alloc(), &InsertFilter::new(), &past, None);
-        let past = replies_and(&rt, rt.alloc(), count, Reply::Value(Value::Nil));
-        let call = asked(rt.alloc(), &InsertFilter::new(), &past).expect(&rt, "memory");
-        is(&rt, call.is_some(), [1, 5, 6, 8].contains(&count));
+        ends_at_a_fault(&rt, rt.alloc(), count);
+        let goes_on = goes_on_at_nil(&rt, rt.alloc(), count);
+        is(&rt, goes_on, [1, 5, 6, 8].contains(&count));
     }
 }
 
@@ -143,22 +166,17 @@ fn of_kind(kind: usize) -> Value {
     }
 }
 
-/// Whether a handler goes on where a value of each kind is the last reply: only that kind is wanted, if one is.
-fn goes_on_at<H: Handler>(
+/// Whether a handler goes on where a value of this kind is the last reply.
+fn goes_on<H: Handler>(
+    rt: &impl Abort,
     alloc: Global,
     handler: &H,
     before: &Replies,
-    wanted: Option<usize>,
-) -> Mem<bool> {
-    for kind in 0..8 {
-        let mut past = before.copy()?;
-        past.push(Reply::Value(of_kind(kind)))?;
-        let goes_on = asked(alloc, handler, &past)?.is_some();
-        if goes_on != (wanted.is_none() || wanted == Some(kind)) {
-            return Ok(false);
-        }
-    }
-    Ok(true)
+    kind: usize,
+) -> bool {
+    let mut past = before.copy().expect(rt, "memory");
+    push(rt, &mut past, Reply::Value(of_kind(kind)));
+    asked(rt, alloc, handler, &past).is_some()
 }
 
 /// The kind of value that the insert filter wants as each reply, if one is wanted.
@@ -174,36 +192,38 @@ const WANTED: [Option<usize>; 9] = [
     None,
 ];
 
-/// A handler goes on behind these replies where a value of the wanted kind is the next, and not where it is of another.
+/// A handler goes on behind these replies where a value of the wanted kind is the next, and not where it is of another;
+/// behind a value of any kind, if none is wanted.
 fn wants<H: Handler>(
     rt: &impl Abort,
     alloc: Global,
     handler: &H,
-    before: Mem<Replies>,
-    kind: Option<usize>,
+    before: &Replies,
+    wanted: Option<usize>,
 ) {
-    let before = before.expect(rt, "memory");
-    let holds_for_all = goes_on_at(alloc, handler, &before, kind);
-    holds(rt, holds_for_all.expect(rt, "memory"));
+    for kind in 0..8 {
+        let fits = wanted.is_none() || wanted == Some(kind);
+        is(rt, goes_on(rt, alloc, handler, before, kind), fits);
+    }
 }
 
 #[test]
 fn a_value_of_another_kind_ends_each_handler(rt: HostRuntime) {
     let alloc = rt.alloc();
     for (count, kind) in WANTED.iter().enumerate() {
-        let before = replies(alloc, count, 5);
-        wants(&rt, alloc, &InsertFilter::new(), before, *kind);
+        let before = replies(&rt, alloc, count, 5);
+        wants(&rt, alloc, &InsertFilter::new(), &before, *kind);
     }
     for (count, kind) in [Some(3), None, Some(2), None].iter().enumerate() {
-        let before = notes(alloc, count);
-        wants(&rt, alloc, &NoteSentinel::new(), before, *kind);
+        let before = notes(&rt, alloc, count);
+        wants(&rt, alloc, &NoteSentinel::new(), &before, *kind);
     }
 }
 
 /// Point goes to this place, where it stood at `point`.
 fn goes_back(rt: &impl Abort, alloc: Global, point: i64, place: Option<i64>) {
-    let past = replies(alloc, 9, point).expect(rt, "memory");
-    let call = asked(alloc, &InsertFilter::new(), &past).expect(rt, "memory");
+    let past = replies(rt, alloc, 9, point);
+    let call = asked(rt, alloc, &InsertFilter::new(), &past);
     is(rt, call.map(|c| c.1), place);
 }
 
@@ -228,7 +248,7 @@ const NOTING: [Option<(Primitive, i64)>; 6] = [
 #[test]
 fn the_note_sentinel_makes_its_calls_in_order(rt: HostRuntime) {
     for (count, call) in NOTING.iter().enumerate() {
-        let past = notes(rt.alloc(), count).expect(&rt, "memory");
+        let past = notes(&rt, rt.alloc(), count);
         asks(&rt, rt.alloc(), &NoteSentinel::new(), &past, *call);
     }
 }
@@ -236,52 +256,67 @@ fn the_note_sentinel_makes_its_calls_in_order(rt: HostRuntime) {
 #[test]
 fn a_fault_at_any_place_ends_the_note_sentinel(rt: HostRuntime) {
     for count in 0..5 {
-        let mut past = notes(rt.alloc(), count).expect(&rt, "memory");
-        past.push(Reply::Fault(Fault::BufferKilled))
-            .expect(&rt, "memory");
+        let mut past = notes(&rt, rt.alloc(), count);
+        push(&rt, &mut past, Reply::Fault(Fault::BufferKilled));
         asks(&rt, rt.alloc(), &NoteSentinel::new(), &past, None);
     }
 }
 
 #[test]
 fn after_256_replies_each_is_done(rt: HostRuntime) {
-    let past = replies(rt.alloc(), 256, 5).expect(&rt, "memory");
+    let past = replies(&rt, rt.alloc(), 256, 5);
     asks(&rt, rt.alloc(), &InsertFilter::new(), &past, None);
     asks(&rt, rt.alloc(), &NoteSentinel::new(), &past, None);
     asks(&rt, rt.alloc(), &DropFilter::new(), &past, None);
 }
 
+/// A note sentinel and an insert filter.
+fn two_boxes(rt: &impl Abort, alloc: Global) -> Boxed {
+    let mut list: Vec<Box<dyn Handler>> = Vec::new(alloc);
+    list.push(Box::new(alloc, NoteSentinel::new()).expect(rt, "memory"))
+        .expect(rt, "memory");
+    list.push(Box::new(alloc, InsertFilter::new()).expect(rt, "memory"))
+        .expect(rt, "memory");
+    Boxed::new(list)
+}
+
+/// The call that a box makes first, as `shown` tells it.
+fn first_call(
+    rt: &impl Abort,
+    alloc: Global,
+    boxed: &Boxed,
+    number: u32,
+) -> Option<(Primitive, i64)> {
+    let args = arguments(rt, alloc);
+    let next = boxed.next(number, &args, &ListOf::new(alloc));
+    shown(&next.expect(rt, "memory"))
+}
+
 #[test]
 fn boxes_are_natives_in_their_order(rt: HostRuntime) {
-    let alloc = rt.alloc();
-    let mut list: Vec<Box<dyn Handler>> = Vec::new(alloc);
-    list.push(Box::new(alloc, NoteSentinel::new()).expect(&rt, "memory"))
-        .expect(&rt, "memory");
-    list.push(Box::new(alloc, InsertFilter::new()).expect(&rt, "memory"))
-        .expect(&rt, "memory");
-    let boxed = Boxed::new(list);
+    let boxed = two_boxes(&rt, rt.alloc());
     is(&rt, boxed.count(), 2);
     is(&rt, boxed.name(0), "note-sentinel");
     is(&rt, boxed.name(1), "insert-filter");
-    let args = arguments(alloc).expect(&rt, "memory");
-    let past = ListOf::new(alloc);
-    let Next::Call(call) = boxed.next(1, &args, &past).expect(&rt, "memory") else {
-        panic!(rt; "no call");
-    };
-    is(&rt, call.prim, Primitive::ProcessBuffer);
+    let call = first_call(&rt, rt.alloc(), &boxed, 1);
+    is(&rt, call, Some((Primitive::ProcessBuffer, 4)));
+}
+
+/// As many drop filters as fit, but for an insert filter at the end.
+fn many_boxes(rt: &impl Abort, alloc: Global) -> Boxed {
+    let mut list: Vec<Box<dyn Handler>> = Vec::new(alloc);
+    for _ in 0..65535_u32 {
+        list.push(Box::new(alloc, DropFilter::new()).expect(rt, "memory"))
+            .expect(rt, "memory");
+    }
+    list.push(Box::new(alloc, InsertFilter::new()).expect(rt, "memory"))
+        .expect(rt, "memory");
+    Boxed::new(list)
 }
 
 #[test]
 fn a_list_has_up_to_65536_boxes(rt: HostRuntime) {
-    let alloc = rt.alloc();
-    let mut list: Vec<Box<dyn Handler>> = Vec::new(alloc);
-    for _ in 0..65535_u32 {
-        list.push(Box::new(alloc, DropFilter::new()).expect(&rt, "memory"))
-            .expect(&rt, "memory");
-    }
-    list.push(Box::new(alloc, InsertFilter::new()).expect(&rt, "memory"))
-        .expect(&rt, "memory");
-    let boxed = Boxed::new(list);
+    let boxed = many_boxes(&rt, rt.alloc());
     is(&rt, boxed.count(), 65536);
     is(&rt, boxed.name(65534), "drop-filter");
     is(&rt, boxed.name(65535), "insert-filter");

@@ -57,6 +57,14 @@ fn what_a_list_withholds_at_the_rear_comes_from_the_front(rt: HostRuntime) {
     is(&rt, set, (1, 31, 0));
 }
 
+/// Which properties a character inherits between the two, and at an end.
+fn are_inherited(rt: &impl Abort, before: &PropSet, after: &PropSet) {
+    is(rt, inherits(Some(before), Some(after), MOUSE_FACE), true);
+    is(rt, inherits(Some(before), None, MOUSE_FACE), false);
+    is(rt, inherits(None, Some(after), FRONT_STICKY), false);
+    is(rt, inherits(Some(after), Some(before), FACE), true);
+}
+
 #[test]
 fn the_preceding_value_is_taken_where_both_offer_one(rt: HostRuntime) {
     let alloc = rt.alloc();
@@ -64,10 +72,7 @@ fn the_preceding_value_is_taken_where_both_offer_one(rt: HostRuntime) {
     let after = faces(&rt, alloc, FRONT_STICKY, &PropVal::Truth, &ITALIC);
     let set = inherit(&rt, alloc, Some(&before), Some(&after));
     is(&rt, set, (2, 30, 31));
-    is(&rt, inherits(Some(&before), Some(&after), MOUSE_FACE), true);
-    is(&rt, inherits(Some(&before), None, MOUSE_FACE), false);
-    is(&rt, inherits(None, Some(&after), FRONT_STICKY), false);
-    is(&rt, inherits(Some(&after), Some(&before), FACE), true);
+    are_inherited(&rt, &before, &after);
 }
 
 #[test]

@@ -1,6 +1,6 @@
 //! Characters, lists and property sets: each call that takes memory, once with ample memory.
 
-use crate::checking::{holds, is};
+use crate::checking::{copied, holds, is};
 use ek_types::{Ch, Chars, Copied, ListOf, PropSet, PropVal, Sym, SymList};
 use std::alloc::Global;
 use std::process::Abort;
@@ -13,8 +13,8 @@ fn a_list_and_its_copy_have_the_same_items(rt: HostRuntime) {
     list.push_spare(7u32);
     list.push(9u32).expect(&rt, "memory");
     let copy = list.copy().expect(&rt, "memory");
-    is(&rt, list.as_slice(), [7u32, 9].as_slice());
-    is(&rt, copy.as_slice(), [7u32, 9].as_slice());
+    is(&rt, list.as_slice(), &[7, 9]);
+    is(&rt, copy.as_slice(), &[7, 9]);
     is(&rt, copy.len(), 2);
 }
 
@@ -23,6 +23,21 @@ pub fn at(rt: &impl Abort, text: &Chars, i: usize) -> Ch {
     text.at(i)
 }
 
+/// A text is these characters.
+fn are(rt: &impl Abort, text: &Chars, expected: &[Ch]) {
+    is(rt, text.len(), expected.len());
+    for (i, c) in expected.iter().enumerate() {
+        is(rt, at(rt, text, i), *c);
+    }
+}
+
+const TWICE: [Ch; 4] = [
+    Ch::Scalar('a'),
+    Ch::Scalar('é'),
+    Ch::Scalar('a'),
+    Ch::Scalar('é'),
+];
+
 #[test]
 fn characters_are_put_behind_others(rt: HostRuntime) {
     let mut text = Chars::new(rt.alloc());
@@ -30,9 +45,7 @@ fn characters_are_put_behind_others(rt: HostRuntime) {
     let mut whole = Chars::new(rt.alloc());
     whole.extend(&text).expect(&rt, "memory");
     whole.extend(&text).expect(&rt, "memory");
-    is(&rt, whole.len(), 4);
-    is(&rt, at(&rt, &whole, 2), Ch::Scalar('a'));
-    is(&rt, at(&rt, &whole, 3), Ch::Scalar('é'));
+    are(&rt, &whole, &TWICE);
 }
 
 #[test]
@@ -42,9 +55,7 @@ fn characters_are_copied(rt: HostRuntime) {
     text.push_spare(Ch::Scalar('€'));
     text.push(Ch::Raw(0x82)).expect(&rt, "memory");
     let copy = text.copy().expect(&rt, "memory");
-    is(&rt, copy.len(), 2);
-    is(&rt, at(&rt, &copy, 0), Ch::Scalar('€'));
-    is(&rt, at(&rt, &copy, 1), Ch::Raw(0x82));
+    are(&rt, &copy, &[Ch::Scalar('€'), Ch::Raw(0x82)]);
 }
 
 /// The number, where the value is one.
@@ -95,16 +106,19 @@ fn nil_takes_a_property_away(rt: HostRuntime) {
     is(&rt, number(set.get(PRIORITY)), Some(2));
 }
 
-/// The copy is of the same kind and word.
-fn copies_as_itself(rt: &impl Abort, value: &PropVal) {
-    let copy = value.copy().expect(rt, "memory");
-    let copied = match (value, &copy) {
+/// Whether two values are of the same kind and word.
+fn are_same(one: &PropVal, other: &PropVal) -> bool {
+    match (one, other) {
         (PropVal::Truth, PropVal::Truth) => true,
         (PropVal::Int(one), PropVal::Int(other)) => one == other,
         (PropVal::Sym(one), PropVal::Sym(other)) => one == other,
         _ => false,
-    };
-    holds(rt, copied);
+    }
+}
+
+fn copies_as_itself(rt: &impl Abort, value: &PropVal) {
+    let copy = value.copy().expect(rt, "memory");
+    holds(rt, are_same(value, &copy));
 }
 
 #[test]
@@ -131,8 +145,7 @@ fn names_one(value: &PropVal, name: Sym) -> bool {
 
 #[test]
 fn names_are_copied(rt: HostRuntime) {
-    let names = PropVal::Syms(just(&rt, rt.alloc(), Sym(14)));
-    let copy = names.copy().expect(&rt, "memory");
+    let copy = copied(&rt, PropVal::Syms(just(&rt, rt.alloc(), Sym(14))));
     holds(&rt, names_one(&copy, Sym(14)));
 }
 
@@ -144,11 +157,15 @@ fn is_text(value: &PropVal, len: usize) -> bool {
     }
 }
 
+/// A text of one letter.
+fn text(rt: &impl Abort, alloc: Global) -> PropVal {
+    let mut text = Chars::new(alloc);
+    text.push(Ch::Scalar('a')).expect(rt, "memory");
+    PropVal::Text(Rc::new(alloc, text).expect(rt, "memory"))
+}
+
 #[test]
 fn a_text_is_copied(rt: HostRuntime) {
-    let mut text = Chars::new(rt.alloc());
-    text.push(Ch::Scalar('a')).expect(&rt, "memory");
-    let text = Rc::new(rt.alloc(), text).expect(&rt, "memory");
-    let copy = PropVal::Text(text).copy().expect(&rt, "memory");
+    let copy = copied(&rt, text(&rt, rt.alloc()));
     holds(&rt, is_text(&copy, 1));
 }

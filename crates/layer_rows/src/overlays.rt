@@ -33,7 +33,29 @@ fn put(rt: &impl Abort, overlays: &mut Overlays, k: u32, name: Sym, v: &PropVal)
 }
 
 fn are(rt: &impl Abort, numbers: Mem<Numbers>, expected: &[u32]) {
-    assert_eq!(rt; numbers.expect(rt, "memory").as_slice(), expected);
+    is(rt, numbers.expect(rt, "memory").as_slice(), expected);
+}
+
+/// Overlays of these parts of buffers.
+fn made(rt: &impl Abort, alloc: Global, parts: &[(u32, usize, usize)]) -> Overlays {
+    let mut overlays = Overlays::new(alloc);
+    for (buffer, from, to) in parts {
+        make(rt, &mut overlays, *buffer, *from, *to);
+    }
+    overlays
+}
+
+/// All overlays stand at these parts of buffers.
+fn stand_at(rt: &impl Abort, overlays: &Overlays, spans: &[Option<(u32, usize, usize)>]) {
+    is(rt, overlays.count() as usize, spans.len());
+    for k in 0..overlays.count() {
+        is(rt, Some(&span(rt, overlays, k)), spans.get(k as usize));
+    }
+}
+
+/// The overlay that wins with a face at a place of buffer 0.
+fn wins(rt: &impl Abort, overlays: &Overlays, place: usize, expected: Option<u32>) {
+    is(rt, overlays.winner(0, place, FACE), expected);
 }
 
 #[test]
@@ -42,9 +64,15 @@ fn an_insertion_before_markers_moves_every_end(rt: HostRuntime) {
     overlays.make(0, 0, 2, false, false).expect(&rt, "memory");
     overlays.make(0, 2, 4, false, false).expect(&rt, "memory");
     overlays.note_insert(0, 2, 2, true);
-    is(&rt, span(&rt, &overlays, 0), Some((0, 0, 4)));
-    is(&rt, span(&rt, &overlays, 1), Some((0, 4, 6)));
+    stand_at(&rt, &overlays, &[Some((0, 0, 4)), Some((0, 4, 6))]);
 }
+
+const BY_ADVANCES: [Option<(u32, usize, usize)>; 4] = [
+    Some((0, 2, 2)),
+    Some((0, 2, 4)),
+    Some((0, 4, 4)),
+    Some((0, 2, 2)),
+];
 
 #[test]
 fn empty_overlays_at_an_insertion_go_by_their_advances(rt: HostRuntime) {
@@ -54,53 +82,46 @@ fn empty_overlays_at_an_insertion_go_by_their_advances(rt: HostRuntime) {
     overlays.make(0, 2, 2, true, true).expect(&rt, "memory");
     overlays.make(0, 2, 2, true, false).expect(&rt, "memory");
     overlays.note_insert(0, 2, 2, false);
-    is(&rt, span(&rt, &overlays, 0), Some((0, 2, 2)));
-    is(&rt, span(&rt, &overlays, 1), Some((0, 2, 4)));
-    is(&rt, span(&rt, &overlays, 2), Some((0, 4, 4)));
-    is(&rt, span(&rt, &overlays, 3), Some((0, 2, 2)));
+    stand_at(&rt, &overlays, &BY_ADVANCES);
 }
 
 #[test]
 fn an_evaporating_overlay_that_becomes_empty_is_deleted(rt: HostRuntime) {
-    let mut overlays = Overlays::new(rt.alloc());
-    make(&rt, &mut overlays, 0, 1, 3);
-    make(&rt, &mut overlays, 0, 0, 2);
-    make(&rt, &mut overlays, 0, 1, 3);
+    let mut overlays = made(&rt, rt.alloc(), &[(0, 1, 3), (0, 0, 2), (0, 1, 3)]);
     put(&rt, &mut overlays, 0, EVAPORATE, &PropVal::Truth);
     put(&rt, &mut overlays, 1, EVAPORATE, &PropVal::Truth);
     overlays.note_delete(0, 1, 3);
-    is(&rt, span(&rt, &overlays, 0), None);
-    is(&rt, span(&rt, &overlays, 1), Some((0, 0, 1)));
-    is(&rt, span(&rt, &overlays, 2), Some((0, 1, 1)));
+    stand_at(&rt, &overlays, &[None, Some((0, 0, 1)), Some((0, 1, 1))]);
 }
 
 #[test]
 fn the_inner_overlay_wins_until_the_outer_has_a_priority(rt: HostRuntime) {
-    let mut overlays = Overlays::new(rt.alloc());
-    make(&rt, &mut overlays, 0, 0, 4);
-    make(&rt, &mut overlays, 0, 1, 3);
+    let mut overlays = made(&rt, rt.alloc(), &[(0, 0, 4), (0, 1, 3)]);
     put(&rt, &mut overlays, 0, FACE, &PropVal::Sym(Sym(15)));
     put(&rt, &mut overlays, 1, FACE, &PropVal::Sym(Sym(16)));
-    is(&rt, overlays.winner(0, 1, FACE), Some(1));
+    wins(&rt, &overlays, 1, Some(1));
     put(&rt, &mut overlays, 0, PRIORITY, &PropVal::Int(1));
-    is(&rt, overlays.winner(0, 1, FACE), Some(0));
-    is(&rt, overlays.winner(0, 4, FACE), None);
+    wins(&rt, &overlays, 1, Some(0));
+    wins(&rt, &overlays, 4, None);
     is(&rt, overlays.winner(1, 1, FACE), None);
     is(&rt, overlays.winner(0, 1, EVAPORATE), None);
 }
 
+/// Overlays of these parts of buffers, each with a face.
+fn with_faces(rt: &impl Abort, alloc: Global, parts: &[(u32, usize, usize)]) -> Overlays {
+    let mut overlays = made(rt, alloc, parts);
+    for k in 0..overlays.count() {
+        put(rt, &mut overlays, k, FACE, &PropVal::Truth);
+    }
+    overlays
+}
+
 #[test]
 fn of_two_equal_overlays_the_later_wins(rt: HostRuntime) {
-    let mut overlays = Overlays::new(rt.alloc());
-    make(&rt, &mut overlays, 0, 1, 3);
-    make(&rt, &mut overlays, 0, 1, 3);
-    make(&rt, &mut overlays, 0, 1, 4);
-    put(&rt, &mut overlays, 0, FACE, &PropVal::Truth);
-    put(&rt, &mut overlays, 1, FACE, &PropVal::Truth);
-    put(&rt, &mut overlays, 2, FACE, &PropVal::Truth);
-    is(&rt, overlays.winner(0, 2, FACE), Some(1));
+    let mut overlays = with_faces(&rt, rt.alloc(), &[(0, 1, 3), (0, 1, 3), (0, 1, 4)]);
+    wins(&rt, &overlays, 2, Some(1));
     put(&rt, &mut overlays, 1, PRIORITY, &PropVal::Int(-1));
-    is(&rt, overlays.winner(0, 2, FACE), Some(0));
+    wins(&rt, &overlays, 2, Some(0));
 }
 
 /// A region of a buffer, the end of its accessible portion, and the overlays in the region.
@@ -158,10 +179,7 @@ fn are_within(rt: &impl Abort, overlays: &Overlays, row: &Within) {
 
 #[test]
 fn empty_overlays_stand_in_a_region_and_at_no_place(rt: HostRuntime) {
-    let mut overlays = Overlays::new(rt.alloc());
-    make(&rt, &mut overlays, 0, 1, 1);
-    make(&rt, &mut overlays, 0, 0, 2);
-    make(&rt, &mut overlays, 0, 3, 3);
+    let overlays = made(&rt, rt.alloc(), &[(0, 1, 1), (0, 0, 2), (0, 3, 3)]);
     for row in &WITHIN {
         are_within(&rt, &overlays, row);
     }
@@ -171,11 +189,8 @@ fn empty_overlays_stand_in_a_region_and_at_no_place(rt: HostRuntime) {
 
 #[test]
 fn overlays_change_where_one_begins_or_ends(rt: HostRuntime) {
-    let mut overlays = Overlays::new(rt.alloc());
-    make(&rt, &mut overlays, 0, 1, 1);
-    make(&rt, &mut overlays, 0, 0, 2);
-    make(&rt, &mut overlays, 0, 3, 3);
-    make(&rt, &mut overlays, 1, 1, 9);
+    let parts = [(0, 1, 1), (0, 0, 2), (0, 3, 3), (1, 1, 9)];
+    let overlays = made(&rt, rt.alloc(), parts.as_slice());
     is(&rt, overlays.next_change(0, 0), Some(1));
     is(&rt, overlays.next_change(0, 2), Some(3));
     is(&rt, overlays.next_change(0, 3), None);
@@ -212,27 +227,28 @@ fn take_face_away(rt: &impl Abort, overlays: &mut Overlays, k: u32) {
     overlays.put(k, FACE, None).expect(rt, "memory");
 }
 
-#[test]
-fn an_overlay_moves_to_another_buffer_and_is_killed_with_it(rt: HostRuntime) {
-    let mut overlays = Overlays::new(rt.alloc());
-    let a = make(&rt, &mut overlays, 0, 1, 3);
-    let b = make(&rt, &mut overlays, 0, 1, 3);
-    put(&rt, &mut overlays, a, FACE, &PropVal::Int(7));
-    shift(&rt, &mut overlays, a, 1, 4, 6);
-    let copy = overlays.copy().expect(&rt, "memory");
+/// The first two overlays lose their places, by their buffer and by themselves, and then the first loses its face.
+fn lose_all(rt: &impl Abort, overlays: &mut Overlays) {
     overlays.note_delete(0, 0, 1);
     overlays.drop_buffer(1);
-    remove(&rt, &mut overlays, b);
-    is(&rt, span(&rt, &overlays, a), None);
-    is(&rt, span(&rt, &overlays, b), None);
-    is(&rt, span(&rt, &copy, a), Some((1, 4, 6)));
-    is(&rt, span(&rt, &copy, b), Some((0, 1, 3)));
-    is(&rt, face(&rt, &overlays, a), Some(7));
-    is(&rt, properties(&rt, &copy, a), 1);
-    take_face_away(&rt, &mut overlays, a);
-    is(&rt, face(&rt, &overlays, a), None);
-    is(&rt, properties(&rt, &overlays, a), 0);
-    is(&rt, overlays.count(), 2);
+    remove(rt, overlays, 1);
+    stand_at(rt, overlays, &[None, None]);
+    is(rt, face(rt, overlays, 0), Some(7));
+    take_face_away(rt, overlays, 0);
+    is(rt, face(rt, overlays, 0), None);
+    is(rt, properties(rt, overlays, 0), 0);
+    is(rt, overlays.count(), 2);
+}
+
+#[test]
+fn an_overlay_moves_to_another_buffer_and_is_killed_with_it(rt: HostRuntime) {
+    let mut overlays = made(&rt, rt.alloc(), &[(0, 1, 3), (0, 1, 3)]);
+    put(&rt, &mut overlays, 0, FACE, &PropVal::Int(7));
+    shift(&rt, &mut overlays, 0, 1, 4, 6);
+    let copy = overlays.copy().expect(&rt, "memory");
+    lose_all(&rt, &mut overlays);
+    stand_at(&rt, &copy, &[Some((1, 4, 6)), Some((0, 1, 3))]);
+    is(&rt, properties(&rt, &copy, 0), 1);
 }
 
 /// An overlay of buffer 0 with a face.
@@ -249,7 +265,7 @@ fn two_million_winners_are_found_among_many_overlays(rt: HostRuntime) {
     }
     for i in 0..2_000_000u32 {
         let place = i % 65_536;
-        is(&rt, overlays.winner(0, place as usize, FACE), Some(place));
+        wins(&rt, &overlays, place as usize, Some(place));
     }
 }
 
@@ -260,8 +276,8 @@ fn the_innermost_of_nested_overlays_wins(rt: HostRuntime) {
         with_face(&rt, &mut overlays, k, 1_024 - k);
     }
     for i in 0..512u32 {
-        is(&rt, overlays.winner(0, i as usize, FACE), Some(i));
-        is(&rt, overlays.winner(0, 1_023 - i as usize, FACE), Some(i));
+        wins(&rt, &overlays, i as usize, Some(i));
+        wins(&rt, &overlays, 1_023 - i as usize, Some(i));
     }
 }
 
@@ -272,10 +288,10 @@ fn of_overlays_that_begin_together_the_shortest_wins(rt: HostRuntime) {
         with_face(&rt, &mut overlays, 7, 8 + k);
     }
     for i in 0..512u32 {
-        is(&rt, overlays.winner(0, 7 + i as usize, FACE), Some(i));
+        wins(&rt, &overlays, 7 + i as usize, Some(i));
     }
-    is(&rt, overlays.winner(0, 6, FACE), None);
-    is(&rt, overlays.winner(0, 519, FACE), None);
+    wins(&rt, &overlays, 6, None);
+    wins(&rt, &overlays, 519, None);
 }
 
 /// Overlays from k to k + 1.

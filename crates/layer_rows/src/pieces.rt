@@ -94,15 +94,20 @@ fn are(rt: &impl Abort, piece: &Piece, expected: &[i64]) {
     }
 }
 
+/// The characters of a piece have these faces, and so have those of a copy.
+fn are_copied(rt: &impl Abort, piece: &Piece, expected: &[i64]) {
+    are(rt, piece, expected);
+    let copy = piece.copy().expect(rt, "memory");
+    are(rt, &copy, expected);
+}
+
 #[test]
 fn parts_of_a_piece_have_the_properties_given_last(rt: HostRuntime) {
     let alloc = rt.alloc();
     let mut piece = bare_text(&rt, alloc, 8);
     for part in PARTS.iter() {
         paint(&rt, alloc, &mut piece, part.from, part.to, part.face);
-        are(&rt, &piece, part.faces.as_slice());
-        let copy = piece.copy().expect(&rt, "memory");
-        are(&rt, &copy, part.faces.as_slice());
+        are_copied(&rt, &piece, part.faces.as_slice());
     }
 }
 
@@ -112,26 +117,51 @@ fn run_end(rt: &impl Abort, piece: &Piece, i: usize) -> usize {
     piece.run_end(i)
 }
 
+/// Letters of which a part has a face.
+fn painted(
+    rt: &impl Abort,
+    alloc: Global,
+    size: usize,
+    from: usize,
+    to: usize,
+    face: i64,
+) -> Piece {
+    let mut piece = bare_text(rt, alloc, size);
+    paint(rt, alloc, &mut piece, from, to, face);
+    piece
+}
+
+/// A piece whose first two letters of three have a face, and behind it one whose second has another.
+fn joined(rt: &impl Abort, alloc: Global) -> Piece {
+    let mut piece = painted(rt, alloc, 3, 0, 2, 1);
+    let more = painted(rt, alloc, 2, 1, 2, 2);
+    piece.append(&more).expect(rt, "memory");
+    piece
+}
+
+/// Whether two characters have the same set.
+fn same_sets(rt: &impl Abort, piece: &Piece, i: usize, j: usize) -> bool {
+    set(rt, piece, i).same(set(rt, piece, j))
+}
+
+fn is_joined(rt: &impl Abort, alloc: Global, piece: &Piece) {
+    are(rt, piece, &[1, 1, 0, 0, 2]);
+    is(rt, run_end(rt, piece, 0), 2);
+    is(rt, run_end(rt, piece, 4), 5);
+    holds(rt, piece.text().same(bare_text(rt, alloc, 5).text()));
+    is(rt, same_sets(rt, piece, 0, 1), true);
+    is(rt, same_sets(rt, piece, 0, 2), false);
+}
+
 #[test]
 fn a_piece_put_behind_another_keeps_its_runs(rt: HostRuntime) {
-    let alloc = rt.alloc();
-    let mut piece = bare_text(&rt, alloc, 3);
-    paint(&rt, alloc, &mut piece, 0, 2, 1);
-    let mut more = bare_text(&rt, alloc, 2);
-    paint(&rt, alloc, &mut more, 1, 2, 2);
-    piece.append(&more).expect(&rt, "memory");
-    are(&rt, &piece, &[1, 1, 0, 0, 2]);
-    is(&rt, run_end(&rt, &piece, 0), 2);
-    is(&rt, run_end(&rt, &piece, 4), 5);
-    holds(&rt, piece.text().same(bare_text(&rt, alloc, 5).text()));
-    holds(&rt, set(&rt, &piece, 0).same(set(&rt, &piece, 1)));
-    holds(&rt, !set(&rt, &piece, 0).same(set(&rt, &piece, 2)));
+    let piece = joined(&rt, rt.alloc());
+    is_joined(&rt, rt.alloc(), &piece);
 }
 
 #[test]
 fn a_copied_run_has_its_end_and_its_set(rt: HostRuntime) {
-    let mut piece = bare_text(&rt, rt.alloc(), 3);
-    paint(&rt, rt.alloc(), &mut piece, 0, 3, 1);
+    let piece = painted(&rt, rt.alloc(), 3, 0, 3, 1);
     let copy = piece.copy().expect(&rt, "memory");
     is(&rt, run_end(&rt, &copy, 0), 3);
     is(&rt, set(&rt, &copy, 0).len(), 1);
@@ -139,20 +169,31 @@ fn a_copied_run_has_its_end_and_its_set(rt: HostRuntime) {
 
 /// Two letters of three with a face, shared.
 fn shared_text(rt: &impl Abort, alloc: Global) -> Piece {
-    let mut piece = bare_text(rt, alloc, 3);
-    paint(rt, alloc, &mut piece, 0, 2, 1);
-    piece.shared(alloc).expect(rt, "memory")
+    painted(rt, alloc, 3, 0, 2, 1)
+        .shared(alloc)
+        .expect(rt, "memory")
+}
+
+/// A copy of a piece, to which the piece is appended.
+fn twice(rt: &impl Abort, piece: &Piece) -> Piece {
+    let mut copy = piece.copy().expect(rt, "memory");
+    copy.append(piece).expect(rt, "memory");
+    copy
+}
+
+/// A copy of a piece, shared anew and with another face from its second letter on.
+fn repainted(rt: &impl Abort, alloc: Global, piece: &Piece) -> Piece {
+    let copy = piece.copy().expect(rt, "memory");
+    let mut shared = copy.shared(alloc).expect(rt, "memory");
+    paint(rt, alloc, &mut shared, 1, 3, 2);
+    shared
 }
 
 #[test]
 fn copies_of_a_shared_piece_are_changed_alone(rt: HostRuntime) {
-    let alloc = rt.alloc();
-    let shared = shared_text(&rt, alloc);
-    let mut first = shared.copy().expect(&rt, "memory");
-    let second = shared.copy().expect(&rt, "memory");
-    let mut second = second.shared(alloc).expect(&rt, "memory");
-    first.append(&shared).expect(&rt, "memory");
-    paint(&rt, alloc, &mut second, 1, 3, 2);
+    let shared = shared_text(&rt, rt.alloc());
+    let first = twice(&rt, &shared);
+    let second = repainted(&rt, rt.alloc(), &shared);
     are(&rt, &shared, &[1, 1, 0]);
     are(&rt, &first, &[1, 1, 0, 1, 1, 0]);
     are(&rt, &second, &[1, 2, 2]);
@@ -160,9 +201,7 @@ fn copies_of_a_shared_piece_are_changed_alone(rt: HostRuntime) {
 
 /// Appends a piece to a copy of it, and gives the length.
 fn doubled(rt: &impl Abort, piece: &Piece) -> usize {
-    let mut copy = piece.copy().expect(rt, "memory");
-    copy.append(piece).expect(rt, "memory");
-    copy.len()
+    twice(rt, piece).len()
 }
 
 /// The length of the text that is shared with a piece, and of a piece that is made of that.
@@ -172,14 +211,18 @@ fn shared_lengths(rt: &impl Abort, alloc: Global, piece: &Piece) -> (usize, usiz
     (text.as_ref().len(), doubled(rt, &made))
 }
 
+/// So many letters, bare and shared, are shared once more; twice as many are in a doubled piece.
+fn are_shared(rt: &impl Abort, alloc: Global, size: usize, twice: usize) {
+    let piece = bare_text(rt, alloc, size);
+    is(rt, shared_lengths(rt, alloc, &piece), (size, twice));
+    let shared = piece.shared(alloc).expect(rt, "memory");
+    is(rt, shared_lengths(rt, alloc, &shared), (size, twice));
+    is(rt, doubled(rt, &shared), twice);
+}
+
 #[test]
 fn a_text_is_shared_whether_short_or_long(rt: HostRuntime) {
-    let alloc = rt.alloc();
     for size in [1, 63, 64, 100] {
-        let piece = bare_text(&rt, alloc, size);
-        is(&rt, shared_lengths(&rt, alloc, &piece), (size, 2 * size));
-        let shared = piece.shared(alloc).expect(&rt, "memory");
-        is(&rt, shared_lengths(&rt, alloc, &shared), (size, 2 * size));
-        is(&rt, doubled(&rt, &shared), 2 * size);
+        are_shared(&rt, rt.alloc(), size, 2 * size);
     }
 }

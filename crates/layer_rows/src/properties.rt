@@ -29,11 +29,8 @@ fn run_end(rt: &impl Abort, props: &Props, i: usize) -> usize {
     props.run_end(i)
 }
 
-fn next_change(rt: &impl Abort, props: &Props, i: usize, name: Option<Sym>) -> Option<usize> {
-    next_before(rt, props, i, size(props), name)
-}
-
-fn next_before(
+/// The next change from place `i` on, and in front of place `to`.
+fn next_change(
     rt: &impl Abort,
     props: &Props,
     i: usize,
@@ -44,19 +41,31 @@ fn next_before(
     props.next_change(i, to, name)
 }
 
-fn prev_change(rt: &impl Abort, props: &Props, i: usize, name: Option<Sym>) -> Option<usize> {
-    prev_behind(rt, props, 0, i, name)
-}
-
-fn prev_behind(
+/// The change in front of place `to`, and behind place `from`.
+fn prev_change(
     rt: &impl Abort,
     props: &Props,
     from: usize,
-    i: usize,
+    to: usize,
     name: Option<Sym>,
 ) -> Option<usize> {
-    assert!(rt; i <= size(props));
-    props.prev_change(from, i, name)
+    assert!(rt; to <= size(props));
+    props.prev_change(from, to, name)
+}
+
+/// Two places, and the change of a property, or of any one, that is found between them.
+type Change = (usize, usize, Option<Sym>, Option<usize>);
+
+fn are_next(rt: &impl Abort, props: &Props, rows: &[Change]) {
+    for (from, to, name, place) in rows {
+        is(rt, next_change(rt, props, *from, *to, *name), *place);
+    }
+}
+
+fn are_previous(rt: &impl Abort, props: &Props, rows: &[Change]) {
+    for (from, to, name, place) in rows {
+        is(rt, prev_change(rt, props, *from, *to, *name), *place);
+    }
 }
 
 /// The faces of all characters are these.
@@ -100,27 +109,48 @@ fn changes(rt: &impl Abort, props: &mut Props, from: usize, to: usize, edit: &Pr
     props.change(from, to, edit).expect(rt, "memory")
 }
 
+/// Whether adding a face changes something.
+fn adds_face(
+    rt: &impl Abort,
+    alloc: Global,
+    props: &mut Props,
+    from: usize,
+    to: usize,
+    face: i64,
+) -> bool {
+    let add = PropEdit::Add(faced(rt, alloc, face), SymList::new(alloc));
+    changes(rt, props, from, to, &add)
+}
+
+/// Changes of a text of four characters, whose second and third have a face.
+const NEXT: [Change; 7] = [
+    (0, 4, None, Some(1)),
+    (1, 4, None, Some(3)),
+    (3, 4, None, None),
+    (4, 4, None, None),
+    (0, 1, None, None),
+    (0, 2, None, Some(1)),
+    (3, 1, None, None),
+];
+
+const PREVIOUS: [Change; 7] = [
+    (0, 4, None, Some(3)),
+    (0, 3, None, Some(1)),
+    (0, 1, None, None),
+    (0, 0, None, None),
+    (3, 4, None, None),
+    (2, 4, None, Some(3)),
+    (4, 2, None, None),
+];
+
 #[test]
 fn changes_are_found_and_a_change_to_what_is_there_is_none(rt: HostRuntime) {
     let alloc = rt.alloc();
     let mut props = with_face(&rt, alloc, 4, 1, 3);
-    is(&rt, next_change(&rt, &props, 0, None), Some(1));
-    is(&rt, next_change(&rt, &props, 1, None), Some(3));
-    is(&rt, next_change(&rt, &props, 3, None), None);
-    is(&rt, next_change(&rt, &props, 4, None), None);
-    is(&rt, prev_change(&rt, &props, 4, None), Some(3));
-    is(&rt, prev_change(&rt, &props, 3, None), Some(1));
-    is(&rt, prev_change(&rt, &props, 1, None), None);
-    is(&rt, prev_change(&rt, &props, 0, None), None);
-    is(&rt, next_before(&rt, &props, 0, 1, None), None);
-    is(&rt, next_before(&rt, &props, 0, 2, None), Some(1));
-    is(&rt, next_before(&rt, &props, 3, 1, None), None);
-    is(&rt, prev_behind(&rt, &props, 3, 4, None), None);
-    is(&rt, prev_behind(&rt, &props, 2, 4, None), Some(3));
-    is(&rt, prev_behind(&rt, &props, 4, 2, None), None);
-    let again = PropEdit::Add(faced(&rt, alloc, 1), SymList::new(alloc));
-    is(&rt, changes(&rt, &mut props, 1, 3, &again), false);
-    is(&rt, changes(&rt, &mut props, 1, 4, &again), true);
+    are_next(&rt, &props, &NEXT);
+    are_previous(&rt, &props, &PREVIOUS);
+    is(&rt, adds_face(&rt, alloc, &mut props, 1, 3, 1), false);
+    is(&rt, adds_face(&rt, alloc, &mut props, 1, 4, 1), true);
     are(&rt, &props, &[0, 1, 1, 1]);
 }
 
@@ -129,17 +159,33 @@ fn both_faces(rt: &impl Abort, alloc: Global) -> PropSet {
     with(rt, faced(rt, alloc, 2), MOUSE_FACE, &PropVal::Truth)
 }
 
+/// Whether replacing all properties by two faces changes something.
+fn replaces(rt: &impl Abort, alloc: Global, props: &mut Props, from: usize, to: usize) -> bool {
+    let replace = PropEdit::Replace(both_faces(rt, alloc));
+    changes(rt, props, from, to, &replace)
+}
+
+/// Whether adding a face, and nil for the mouse face, changes something.
+fn adds_nil(rt: &impl Abort, alloc: Global, props: &mut Props, from: usize, to: usize) -> bool {
+    let add = PropEdit::Add(faced(rt, alloc, 3), just(rt, alloc, MOUSE_FACE));
+    changes(rt, props, from, to, &add)
+}
+
 #[test]
 fn adding_with_nil_takes_away(rt: HostRuntime) {
     let alloc = rt.alloc();
     let mut props = with_face(&rt, alloc, 3, 0, 2);
-    let replace = PropEdit::Replace(both_faces(&rt, alloc));
-    is(&rt, changes(&rt, &mut props, 1, 3, &replace), true);
-    let add = PropEdit::Add(faced(&rt, alloc, 3), just(&rt, alloc, MOUSE_FACE));
-    is(&rt, changes(&rt, &mut props, 0, 3, &add), true);
+    is(&rt, replaces(&rt, alloc, &mut props, 1, 3), true);
+    is(&rt, adds_nil(&rt, alloc, &mut props, 0, 3), true);
     are(&rt, &props, &[3, 3, 3]);
     is(&rt, at(&rt, &props, 1).len(), 1);
     is(&rt, run_end(&rt, &props, 0), 3);
+}
+
+/// Whether removing the face changes something.
+fn removes(rt: &impl Abort, alloc: Global, props: &mut Props, from: usize, to: usize) -> bool {
+    let remove = PropEdit::Remove(just(rt, alloc, FACE));
+    changes(rt, props, from, to, &remove)
 }
 
 #[test]
@@ -148,38 +194,54 @@ fn runs_join_after_a_change_back(rt: HostRuntime) {
     let mut props = with_face(&rt, alloc, 3, 1, 2);
     is(&rt, run_end(&rt, &props, 0), 1);
     is(&rt, run_end(&rt, &props, 1), 2);
-    let remove = PropEdit::Remove(just(&rt, alloc, FACE));
-    is(&rt, changes(&rt, &mut props, 1, 2, &remove), true);
+    is(&rt, removes(&rt, alloc, &mut props, 1, 2), true);
     is(&rt, run_end(&rt, &props, 0), 3);
-    is(&rt, next_change(&rt, &props, 0, None), None);
-    is(&rt, changes(&rt, &mut props, 0, 3, &remove), false);
+    is(&rt, next_change(&rt, &props, 0, 3, None), None);
+    is(&rt, removes(&rt, alloc, &mut props, 0, 3), false);
 }
+
+/// A text of four characters, of which three have a face, and the second a mouse face too.
+fn with_both(rt: &impl Abort, alloc: Global) -> Props {
+    let mut props = with_face(rt, alloc, 4, 0, 3);
+    let mouse = with(rt, PropSet::empty(alloc), MOUSE_FACE, &PropVal::Truth);
+    let add = PropEdit::Add(mouse, SymList::new(alloc));
+    is(rt, changes(rt, &mut props, 1, 2, &add), true);
+    props
+}
+
+const NEXT_OF_BOTH: [Change; 3] = [
+    (0, 4, None, Some(1)),
+    (0, 4, Some(FACE), Some(3)),
+    (1, 4, Some(MOUSE_FACE), Some(2)),
+];
+
+const PREVIOUS_OF_BOTH: [Change; 3] = [
+    (0, 4, Some(FACE), Some(3)),
+    (0, 4, Some(MOUSE_FACE), Some(2)),
+    (0, 3, Some(FACE), None),
+];
 
 #[test]
 fn changes_of_one_property_pass_over_those_of_others(rt: HostRuntime) {
-    let alloc = rt.alloc();
-    let mut props = with_face(&rt, alloc, 4, 0, 3);
-    let mouse = with(&rt, PropSet::empty(alloc), MOUSE_FACE, &PropVal::Truth);
-    let add = PropEdit::Add(mouse, SymList::new(alloc));
-    is(&rt, changes(&rt, &mut props, 1, 2, &add), true);
-    is(&rt, next_change(&rt, &props, 0, None), Some(1));
-    is(&rt, next_change(&rt, &props, 0, Some(FACE)), Some(3));
-    is(&rt, next_change(&rt, &props, 1, Some(MOUSE_FACE)), Some(2));
-    is(&rt, prev_change(&rt, &props, 4, Some(FACE)), Some(3));
-    is(&rt, prev_change(&rt, &props, 4, Some(MOUSE_FACE)), Some(2));
-    is(&rt, prev_change(&rt, &props, 3, Some(FACE)), None);
+    let props = with_both(&rt, rt.alloc());
+    are_next(&rt, &props, &NEXT_OF_BOTH);
+    are_previous(&rt, &props, &PREVIOUS_OF_BOTH);
+}
+
+/// Replaces two characters in the middle by two others, and then these and one more by none.
+fn replace_twice(rt: &impl Abort, alloc: Global, props: &mut Props) {
+    replace(rt, props, 1, 3, &part(rt, alloc, 2, 0, 1, 2));
+    are(rt, props, &[0, 2, 0, 1, 0, 0]);
+    replace(rt, props, 1, 4, &bare_text(rt, alloc, 0));
+    are(rt, props, &[0, 0, 0]);
+    is(rt, run_end(rt, props, 0), 3);
 }
 
 #[test]
 fn a_part_replaced_has_the_sets_of_its_text(rt: HostRuntime) {
-    let alloc = rt.alloc();
-    let mut props = with_face(&rt, alloc, 6, 2, 4);
+    let mut props = with_face(&rt, rt.alloc(), 6, 2, 4);
     let copy = props.copy().expect(&rt, "memory");
-    replace(&rt, &mut props, 1, 3, &part(&rt, alloc, 2, 0, 1, 2));
-    are(&rt, &props, &[0, 2, 0, 1, 0, 0]);
-    replace(&rt, &mut props, 1, 4, &bare_text(&rt, alloc, 0));
-    are(&rt, &props, &[0, 0, 0]);
-    is(&rt, run_end(&rt, &props, 0), 3);
+    replace_twice(&rt, rt.alloc(), &mut props);
     are(&rt, &copy, &[0, 0, 1, 1, 0, 0]);
 }
 

@@ -18,9 +18,11 @@ fn put_deletion(rt: &impl Abort, alloc: Global, undo: &mut Undo, n: usize, place
     put(rt, undo, Rec::Deleted(bare_text(rt, alloc, n), place));
 }
 
-fn part(rt: &impl Abort, undo: &Undo, from: usize, to: usize) -> Undo {
+/// How many records a copied part has, and the ends of its newest, if that is an insertion.
+fn part(rt: &impl Abort, undo: &Undo, from: usize, to: usize) -> (usize, Option<(usize, usize)>) {
     assert!(rt; from <= to && to <= undo.len());
-    undo.part(from, to).expect(rt, "a copy")
+    let part = undo.part(from, to).expect(rt, "a copy");
+    (part.len(), inserted(&part))
 }
 
 /// Copies of these records, all pending.
@@ -29,7 +31,7 @@ fn started(rt: &impl Abort, alloc: Global, records: &[Rec]) -> Undo {
     for rec in records {
         put(rt, &mut undo, rec.copy().expect(rt, "a copy"));
     }
-    assert_eq!(rt; undo.start(), Ok(()));
+    is(rt, undo.start(), Ok(()));
     undo
 }
 
@@ -64,6 +66,24 @@ fn planned(
     assert!(rt; groups > 0);
     let plan = undo.plan(groups, min, max).expect(rt, "a plan")?;
     Ok((plan.first, plan.last, plan.count))
+}
+
+/// So many groups in these bounds, and their plan.
+struct Trial {
+    groups: u32,
+    min: usize,
+    max: usize,
+    plan: Result<(u64, u64, usize), Refused>,
+}
+
+fn are_planned(rt: &impl Abort, undo: &Undo, rows: &[Trial]) {
+    for row in rows {
+        is(
+            rt,
+            planned(rt, undo, row.groups, row.min, row.max),
+            row.plan,
+        );
+    }
 }
 
 /// The next group passed, and how many of its records aren't boundaries.
@@ -150,6 +170,39 @@ fn an_empty_group_passes_its_boundary_alone(rt: HostRuntime) {
     is(&rt, passed(&rt, &mut undo), Err(Refused::Nothing));
 }
 
+const TRIALS: [Trial; 5] = [
+    Trial {
+        groups: 2,
+        min: 0,
+        max: 4,
+        plan: Ok((6, 2, 3)),
+    },
+    Trial {
+        groups: 2,
+        min: 0,
+        max: 3,
+        plan: Err(Refused::Outside(3)),
+    },
+    Trial {
+        groups: 2,
+        min: 1,
+        max: 4,
+        plan: Err(Refused::Outside(4)),
+    },
+    Trial {
+        groups: 2,
+        min: 2,
+        max: 4,
+        plan: Err(Refused::Outside(5)),
+    },
+    Trial {
+        groups: 2,
+        min: 0,
+        max: usize::MAX,
+        plan: Ok((6, 2, 3)),
+    },
+];
+
 #[test]
 fn the_text_of_a_deletion_comes_back_in_a_trial(rt: HostRuntime) {
     let face = Sym(14);
@@ -167,11 +220,7 @@ fn the_text_of_a_deletion_comes_back_in_a_trial(rt: HostRuntime) {
     put_deletion(&rt, rt.alloc(), &mut undo, 2, 1);
     put(&rt, &mut undo, Rec::Boundary);
     is(&rt, undo.start(), Ok(()));
-    is(&rt, planned(&rt, &undo, 2, 0, 4), Ok((6, 2, 3)));
-    is(&rt, planned(&rt, &undo, 2, 0, 3), Err(Refused::Outside(3)));
-    is(&rt, planned(&rt, &undo, 2, 1, 4), Err(Refused::Outside(4)));
-    is(&rt, planned(&rt, &undo, 2, 2, 4), Err(Refused::Outside(5)));
-    is(&rt, planned(&rt, &undo, 2, 0, usize::MAX), Ok((6, 2, 3)));
+    are_planned(&rt, &undo, &TRIALS);
 }
 
 #[test]
@@ -196,10 +245,8 @@ fn a_copy_is_another_list(rt: HostRuntime) {
     undo.disable();
     is(&rt, inserted(&copy), Some((0, 2)));
     is(&rt, planned(&rt, &copy, 1, 0, 2), Err(Refused::Outside(0)));
-    let older = part(&rt, &copy, 1, 2);
-    is(&rt, older.len(), 1);
-    is(&rt, inserted(&older), None);
-    is(&rt, part(&rt, &copy, 1, 1).len(), 0);
+    is(&rt, part(&rt, &copy, 1, 2), (1, None));
+    is(&rt, part(&rt, &copy, 1, 1).0, 0);
 }
 
 /// So many records in one group, each point at its number.

@@ -12,22 +12,36 @@ fn number(rt: &impl Abort, symbols: &mut Symbols, name: &str) -> u32 {
     symbol.0
 }
 
-// The names of `(defhandler h (b e) (delete-region 1 2)) (add-hook 'before-change-functions 'h) (setq m (copy-marker
-// 2))`, the words for calls left out.
+/// The names of `(defhandler h (b e) (delete-region 1 2)) (add-hook 'before-change-functions 'h) (setq m (copy-marker
+/// 2))` with their numbers, the words for calls left out.
+const OF_A_SCRIPT: [(&str, u32); 6] = [
+    ("h", 17),
+    ("b", 18),
+    ("e", 19),
+    ("before-change-functions", 4),
+    ("h", 17),
+    ("m", 20),
+];
+
+fn are_numbered(rt: &impl Abort, symbols: &mut Symbols) {
+    is(rt, symbols.count(), 17);
+    for (name, expected) in &OF_A_SCRIPT {
+        is(rt, number(rt, symbols, name), *expected);
+    }
+}
+
+fn are_found(rt: &impl Abort, symbols: &Symbols) {
+    is(rt, symbols.count(), 21);
+    is(rt, symbols.find("e"), Some(Sym(19)));
+    is(rt, symbols.find("insert"), None);
+}
+
 #[test]
 fn the_names_of_a_script_are_numbered_in_their_order(rt: HostRuntime) {
     let mut symbols = Symbols::new(rt.alloc()).expect(&rt, "memory");
-    is(&rt, symbols.count(), 17);
-    is(&rt, number(&rt, &mut symbols, "h"), 17);
-    is(&rt, number(&rt, &mut symbols, "b"), 18);
-    is(&rt, number(&rt, &mut symbols, "e"), 19);
-    is(&rt, number(&rt, &mut symbols, "before-change-functions"), 4);
-    is(&rt, number(&rt, &mut symbols, "h"), 17);
-    is(&rt, number(&rt, &mut symbols, "m"), 20);
+    are_numbered(&rt, &mut symbols);
     let copy = symbols.copy().expect(&rt, "memory");
-    is(&rt, copy.count(), 21);
-    is(&rt, copy.find("e"), Some(Sym(19)));
-    is(&rt, copy.find("insert"), None);
+    are_found(&rt, &copy);
 }
 
 /// The names by their numbers.
@@ -51,10 +65,14 @@ const NAMES: [&str; 17] = [
     "latin-1-unix",
 ];
 
+fn have_numbers(rt: &impl Abort, symbols: &Symbols) {
+    for (i, name) in NAMES.iter().enumerate() {
+        is(rt, symbols.find(name), Some(Sym(i as u32)));
+    }
+}
+
 #[test]
 fn names_of_every_script_have_their_numbers(rt: HostRuntime) {
     let symbols = Symbols::new(rt.alloc()).expect(&rt, "memory");
-    for (i, name) in NAMES.iter().enumerate() {
-        is(&rt, symbols.find(name), Some(Sym(i as u32)));
-    }
+    have_numbers(&rt, &symbols);
 }

@@ -73,6 +73,12 @@ fn is_copied(rt: &impl Abort, pool: &Pool, text: &Text, letters: &Chars)
     holds(rt, copied.same(letters));
 }
 
+/// The places of the only text of a pool, and its spare ones, are those of the blocks.
+fn fills_its_blocks(rt: &impl Abort, pool: &Pool, text: &Text) {
+    let places = text.len().saturating_add(text.spare());
+    is(rt, places, pool.live().saturating_mul(256));
+}
+
 /// A text of so many letters is put in, read, and taken out again.
 fn keeps_letters(rt: &impl Abort, alloc: Global, n: usize) {
     let letters = letters(alloc, n).expect(rt, "letters");
@@ -80,11 +86,7 @@ fn keeps_letters(rt: &impl Abort, alloc: Global, n: usize) {
     let mut text = Text::new(alloc);
     put_in(rt, &mut pool, &mut text, 0, &letters);
     is(rt, text.len(), n);
-    is(
-        rt,
-        text.len().saturating_add(text.spare()),
-        pool.live().saturating_mul(256),
-    );
+    fills_its_blocks(rt, &pool, &text);
     is_copied(rt, &pool, &text, &letters);
     take_out(rt, &mut pool, &mut text, 0, n);
     is(rt, text.len(), 0);
@@ -135,17 +137,22 @@ fn the_gap_goes_to_each_edge_of_a_block(rt: HostRuntime) {
     }
 }
 
-/// A character is kept as it is.
-fn keeps(rt: &impl Abort, alloc: Global, c: Ch) {
+/// A text of one character, made anew from its code.
+fn from_code(rt: &impl Abort, alloc: Global, c: Ch) -> Chars {
     let again = Ch::from_code(c.code()).expect(rt, "a character");
     is(rt, again, c);
     let mut one = Chars::new(alloc);
     one.push(again).expect(rt, "a character");
+    one
+}
+
+/// A character is kept as it is.
+fn keeps(rt: &impl Abort, alloc: Global, c: Ch) {
+    let one = from_code(rt, alloc, c);
     let mut pool = Pool::new(alloc);
     let mut text = Text::new(alloc);
     put_in(rt, &mut pool, &mut text, 0, &one);
-    is(rt, text.len(), 1);
-    is(rt, at(rt, &pool, &text, 0), c);
+    is_text(rt, &pool, &text, &one);
     text.release(&mut pool);
 }
 

@@ -2,7 +2,7 @@
 
 use crate::checking::is;
 use ek_call::{Arg, Form, Script, Value};
-use ek_types::{Ch, Piece, Sym};
+use ek_types::{Piece, Sym, Symbols};
 use script_read::{LONGEST_SCRIPT, ScriptFault, read};
 use std::alloc::Global;
 use std::process::Abort;
@@ -292,16 +292,11 @@ const CASES: [Case; 68] = [
     },
 ];
 
-fn line(rt: &impl Abort, alloc: Global, bytes: &[u8]) -> Option<u32> {
-    match read(alloc, bytes) {
-        Ok(_) => None,
-        Err(ScriptFault::Line(line)) => Some(line),
-        Err(ScriptFault::NoMemory) => panic!(rt; "no memory"),
-    }
-}
-
+/// What is told is the fault of this line, or none. The number of bytes stands by both to tell the case.
 fn is_told(rt: &impl Abort, alloc: Global, bytes: &[u8], fault: Option<u32>) {
-    assert_eq!(rt; line(rt, alloc, bytes), fault, "{} bytes", bytes.len());
+    let found = read(alloc, bytes).err();
+    let expected = fault.map(ScriptFault::Line);
+    is(rt, (bytes.len(), found), (bytes.len(), expected));
 }
 
 #[test]
@@ -311,12 +306,19 @@ fn scripts_are_read_and_faults_told_by_their_lines(rt: HostRuntime) {
     }
 }
 
+/// Puts a piece so often behind a text.
+fn push(rt: &impl Abort, text: &mut String, piece: &str, count: usize) {
+    for _ in 0..count {
+        text.push_str(piece).expect(rt, "room");
+    }
+}
+
 /// So many numbered definitions of registers, one a line.
 fn definitions(rt: &impl Abort, alloc: Global, before: &str, count: u32, behind: &str) -> String {
     let mut text = String::new(alloc);
     for i in 0..count {
         let one = format!(in alloc; "{before}{i}{behind}").expect(rt, "room");
-        text.push_str(&one).expect(rt, "room");
+        push(rt, &mut text, &one, 1);
     }
     text
 }
@@ -378,7 +380,7 @@ const NUMBERED: [Numbered; 6] = [
 
 fn check_numbered(rt: &impl Abort, alloc: Global, row: &Numbered) {
     let mut text = definitions(rt, alloc, row.before, row.count, row.behind);
-    text.push_str(row.last).expect(rt, "room");
+    push(rt, &mut text, row.last, 1);
     is_told(rt, alloc, text.as_bytes(), row.fault);
 }
 
@@ -476,9 +478,10 @@ const REPEATED: [Repeated; 10] = [
 ];
 
 fn check_repeated(rt: &impl Abort, alloc: Global, row: &Repeated) {
-    let Repeated { front, end, .. } = row;
-    let pieces = row.piece.repeat(alloc, row.count).expect(rt, "room");
-    let text = format!(in alloc; "{front}{pieces}{end}").expect(rt, "room");
+    let mut text = String::new(alloc);
+    push(rt, &mut text, row.front, 1);
+    push(rt, &mut text, row.piece, row.count);
+    push(rt, &mut text, row.end, 1);
     is_told(rt, alloc, text.as_bytes(), row.fault);
 }
 
@@ -491,10 +494,10 @@ fn one_argument_form_or_byte_beyond_the_limit_is_refused(rt: HostRuntime) {
 
 /// So many blocks inside one another.
 fn nested(rt: &impl Abort, alloc: Global, depth: usize) -> String {
-    let openings = " (save-excursion".repeat(alloc, depth).expect(rt, "room");
-    let closings = ")".repeat(alloc, depth).expect(rt, "room");
-    let openings = openings.as_str().trim_start();
-    format!(in alloc; "{openings}{closings}").expect(rt, "room")
+    let mut text = String::new(alloc);
+    push(rt, &mut text, " (save-excursion", depth);
+    push(rt, &mut text, ")", depth);
+    text
 }
 
 #[test]
@@ -506,9 +509,21 @@ fn blocks_stand_in_one_another_16_deep_and_no_deeper(rt: HostRuntime) {
 }
 
 fn script(rt: &impl Abort, alloc: Global, bytes: &[u8]) -> Script {
-    match read(alloc, bytes) {
-        Ok(script) => script,
-        Err(_) => panic!(rt; "no script"),
+    read(alloc, bytes).expect(rt, "a script")
+}
+
+const NUMBERS: [(&str, Option<Sym>); 5] = [
+    ("run", Some(Sym(6))),
+    ("zeta", Some(Sym(17))),
+    ("alpha", Some(Sym(18))),
+    ("face", Some(Sym(19))),
+    ("insert", None),
+];
+
+fn are_numbered(rt: &impl Abort, symbols: &Symbols) {
+    is(rt, symbols.count(), 20);
+    for (name, number) in &NUMBERS {
+        is(rt, symbols.find(name), *number);
     }
 }
 
@@ -520,58 +535,17 @@ fn names_are_numbered_in_the_order_of_their_first_places(rt: HostRuntime) {
         rt.alloc(),
         b"(setq zeta (insert alpha 'run zeta 'face))",
     );
-    is(&rt, script.symbols.count(), 20);
-    is(&rt, script.symbols.find("run"), Some(Sym(6)));
-    is(&rt, script.symbols.find("zeta"), Some(Sym(17)));
-    is(&rt, script.symbols.find("alpha"), Some(Sym(18)));
-    is(&rt, script.symbols.find("face"), Some(Sym(19)));
-    is(&rt, script.symbols.find("insert"), None);
+    are_numbered(&rt, &script.symbols);
 }
 
 /// The string that a script of one call has for its argument.
 fn string<'a>(rt: &impl Abort, script: &'a Script) -> &'a Piece {
-    if script.forms.len() == 1 {
-        if let Form::Do(call) = script.forms.at(0) {
-            if call.args.len() == 1 {
-                if let Arg::Const(Value::Str(text)) = call.args.at(0) {
-                    return text;
-                }
-            }
+    if let [Form::Do(call)] = script.forms.as_slice() {
+        if let [Arg::Const(Value::Str(text))] = call.args.as_slice() {
+            return text;
         }
     }
     panic!(rt; "no string")
-}
-
-const ESCAPED: &[u8] = b"(insert \"\\\"\\\\\\n\\t\\101\\200\\377\xc3\xa9\xff\xc3\\251\")";
-
-const CHARACTERS: [Ch; 11] = [
-    Ch::Scalar('"'),
-    Ch::Scalar('\\'),
-    Ch::Scalar('\n'),
-    Ch::Scalar('\t'),
-    Ch::Scalar('A'),
-    Ch::Raw(0x80),
-    Ch::Raw(0xFF),
-    Ch::Scalar('é'),
-    Ch::Raw(0xFF),
-    Ch::Raw(0xC3),
-    Ch::Raw(0xA9),
-];
-
-fn has_characters(rt: &impl Abort, text: &Piece, expected: &[Ch]) {
-    assert_eq!(rt; text.len(), expected.len());
-    for (i, c) in expected.iter().enumerate() {
-        if i < text.len() {
-            assert_eq!(rt; text.ch(i), *c);
-        }
-    }
-}
-
-/// Escapes, a character of two bytes, and bytes that are part of none: each run of plain bytes is decoded by itself.
-#[test]
-fn each_run_of_plain_bytes_is_decoded_by_itself(rt: HostRuntime) {
-    let script = script(&rt, rt.alloc(), ESCAPED);
-    has_characters(&rt, string(&rt, &script), CHARACTERS.as_slice());
 }
 
 /// Bytes of a string, and the codes of its characters. The code of a raw byte is 0x3FFF00 more than the byte.
@@ -579,6 +553,24 @@ struct Decoded {
     written: &'static [u8],
     codes: &'static [u32],
 }
+
+/// Escapes, a character of two bytes, and bytes that are part of none.
+const ESCAPED: Decoded = Decoded {
+    written: b"\\\"\\\\\\n\\t\\101\\200\\377\xc3\xa9\xff\xc3\\251",
+    codes: &[
+        '"' as u32,
+        '\\' as u32,
+        '\n' as u32,
+        '\t' as u32,
+        'A' as u32,
+        0x3F_FF80,
+        0x3F_FFFF,
+        'é' as u32,
+        0x3F_FFFF,
+        0x3F_FFC3,
+        0x3F_FFA9,
+    ],
+};
 
 const DECODED: [Decoded; 20] = [
     Decoded {
@@ -680,10 +672,19 @@ fn inserts(rt: &impl Abort, alloc: Global, written: &[u8]) -> Script {
     script(rt, alloc, bytes.as_slice())
 }
 
+fn has_codes(rt: &impl Abort, alloc: Global, script: &Script, expected: &[u32]) {
+    let found = codes(rt, alloc, string(rt, script));
+    is(rt, found.as_slice(), expected);
+}
+
 fn check_decoded(rt: &impl Abort, alloc: Global, row: &Decoded) {
     let script = inserts(rt, alloc, row.written);
-    let found = codes(rt, alloc, string(rt, &script));
-    assert_eq!(rt; found.as_slice(), row.codes);
+    has_codes(rt, alloc, &script, row.codes);
+}
+
+#[test]
+fn each_run_of_plain_bytes_is_decoded_by_itself(rt: HostRuntime) {
+    check_decoded(&rt, rt.alloc(), &ESCAPED);
 }
 
 /// Bytes that are no well-formed UTF-8, each kind of them, are raw bytes, and so is a tail that an escape cuts off.
@@ -694,12 +695,18 @@ fn bytes_that_are_no_utf_8_are_raw(rt: HostRuntime) {
     }
 }
 
-/// How many properties a character has; the second has a face and is the only one with any.
-fn has_properties(rt: &impl Abort, text: &Piece, i: usize, count: usize) {
+/// How many properties a character has, and whether one of them is a face.
+fn properties(rt: &impl Abort, text: &Piece, i: usize) -> (usize, bool) {
     assert!(rt; i < text.len());
     let set = text.props(i);
-    assert_eq!(rt; set.len(), count);
-    assert_eq!(rt; set.get(Sym(17)).is_some(), i == 1);
+    (set.len(), set.get(Sym(17)).is_some())
+}
+
+fn have_properties(rt: &impl Abort, text: &Piece, expected: &[(usize, bool)]) {
+    is(rt, text.len(), expected.len());
+    for (i, of_one) in expected.iter().enumerate() {
+        is(rt, properties(rt, text, i), *of_one);
+    }
 }
 
 /// Properties stand by the number of the name; nil takes no place.
@@ -707,11 +714,8 @@ fn has_properties(rt: &impl Abort, text: &Piece, i: usize, count: usize) {
 fn a_string_has_the_properties_that_are_not_nil(rt: HostRuntime) {
     let bytes = b"(insert #(\"abc\" 1 2 (face bold gone nil run t)))";
     let script = script(&rt, rt.alloc(), bytes.as_slice());
-    let text = string(&rt, &script);
-    is(&rt, text.len(), 3);
-    has_properties(&rt, text, 0, 0);
-    has_properties(&rt, text, 1, 2);
-    has_properties(&rt, text, 2, 0);
+    let expected = [(0, false), (2, true), (0, false)];
+    have_properties(&rt, string(&rt, &script), expected.as_slice());
 }
 
 /// A long script is read in time that grows with its length, and the fault of its last line is told.
@@ -719,7 +723,7 @@ fn a_string_has_the_properties_that_are_not_nil(rt: HostRuntime) {
 fn the_fault_behind_30000_lines_is_told(rt: HostRuntime) {
     let alloc = rt.alloc();
     let mut text = definitions(&rt, alloc, "(when-eq a ", 30_000, " (goto-char 7))\n");
-    is(&rt, line(&rt, alloc, text.as_bytes()), None);
-    text.push_str("(when-eq a").expect(&rt, "room");
-    is(&rt, line(&rt, alloc, text.as_bytes()), Some(30_001));
+    is_told(&rt, alloc, text.as_bytes(), None);
+    push(&rt, &mut text, "(when-eq a", 1);
+    is_told(&rt, alloc, text.as_bytes(), Some(30_001));
 }
