@@ -134,12 +134,14 @@ bytes_at bytes = behind (codes " ") bytes >>= hex_at >>= then_arrow
 abbrev pub send_at : List ℕ → Found Ask
 send_at bytes = number_at bytes >>= (λ child. bytes_at child.1 >>= (λ sent. Some (Send child.0 sent.0, sent.1)))
 
+abbrev pub last_ask_at : List ℕ → Found Ask
+last_ask_at bytes =
+    choose (behind (codes "close ") bytes) (ask_of_child Close) (behind (codes "kill ") bytes >>= ask_of_child Kill)
+
 abbrev pub ask_child_at : List ℕ → Found Ask
 ask_child_at bytes =
     choose (behind (codes "read ") bytes) (ask_of_child Read)
-    (choose (behind (codes "end ") bytes) (ask_of_child AskEnd)
-    (choose (behind (codes "close ") bytes) (ask_of_child Close)
-    (behind (codes "kill ") bytes >>= ask_of_child Kill)))
+    (choose (behind (codes "end ") bytes) (ask_of_child AskEnd) (last_ask_at bytes))
 
 abbrev pub ask_at : List ℕ → Found Ask
 ask_at bytes = choose (behind (codes "spawn ") bytes) spawn_at
@@ -151,6 +153,9 @@ as_started next r = if r.0 == next then then_end (Started r.0, r.1) else None
 
 abbrev pub fixed : Answer → List ℕ → Found Answer
 fixed answer rest = Some (answer, rest)
+
+abbrev pub fixed_at : Answer → (text bytes : List ℕ) → Found Answer
+fixed_at answer text bytes = behind text bytes >>= fixed answer
 
 abbrev pub spawned_at : (next : ℕ) → List ℕ → Found Answer
 spawned_at next bytes = choose (behind (codes "refused\n") bytes) (fixed Refused)
@@ -173,9 +178,12 @@ got_at bytes = choose (behind (codes "bytes ") bytes) given_at (nothing_got_at b
 abbrev pub as_code : ℤ × List ℕ → Found Answer
 as_code r = then_end (Code r.0, r.1)
 
+abbrev pub exited_at : List ℕ → Found Answer
+exited_at bytes = code_at bytes >>= as_code
+
 abbrev pub ended_at : List ℕ → Found Answer
 ended_at bytes =
-    choose (behind (codes "code ") bytes) (λ rest. code_at rest >>= as_code)
+    choose (behind (codes "code ") bytes) exited_at
     (choose (behind (codes "signal\n") bytes) (fixed Signal)
     (choose (behind (codes "running\n") bytes) (fixed Running)
     (behind (codes "failed\n") bytes >>= fixed Failed)))

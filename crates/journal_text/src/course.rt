@@ -1,11 +1,15 @@
 //! How far a replay has come.
-ghost use Rattle.std.specs.Prelude.{◌≡◌, ◌+◌, ◌<◌, ◌^◌, [], ◌∷◌, ◌++◌, false, not, if◌then◌else◌};
+ghost use Rattle.std.specs.Prelude.{◌≡◌, ◌+◌, ◌<◌, ◌≤◌, ◌^◌, [], ◌∷◌, ◌++◌, length, false, not, IfOk, OnOk};
+ghost use Rattle.std.specs.Prelude.{if◌then◌else◌};
 ghost use Rattle.ek_types.specs.Io.{next_count};
-ghost use Rattle.host_link.specs.Meaning.{ask_of, answer_of};
+ghost use Rattle.host_link.specs.Meaning.{ask_of, answer_of, exchanges_of};
 ghost use Rattle.host_link.specs.Hosts.{is_fault};
+ghost use Rattle.journal_text.specs.Allowed.{AreAnswered};
+ghost use Rattle.journal_text.specs.Replayed.{Replied};
 
-use crate::reply::Reply;
-use host_link::{Ask, Log, faults_after};
+use crate::reply::{Reply, reply_to};
+use ek_types::Mem;
+use host_link::{Ask, Exchanges, Log, faults_after};
 use std::alloc::Global;
 
 /// How many exchanges of the list were answered, whether an ask has differed or found the list used up, how many answers
@@ -33,6 +37,23 @@ impl Course {
             faults: 0,
             told: Log::new(alloc),
         }
+    }
+
+    /// What is answered to an ask. A place is made for the exchange.
+    pub(crate) fn reply_to(&mut self, list: &Exchanges, ask: &Ask, room: usize) -> Mem<Reply>
+        requires answered { AreAnswered 0 (exchanges_of list.now) }
+        requires within { self.old.matched ≤ length (exchanges_of list.now) }
+        ensures reply { IfOk result (λ r. Replied self.old.strayed (exchanges_of list.now) self.old.matched
+            (ask_of ask.now) room r.follows r.matched (answer_of r.answer)) }
+        ensures place { OnOk result (0 < self.new.told.places) }
+        ensures matched { self.new.matched ≡ self.old.matched }
+        ensures strayed { self.new.strayed ≡ self.old.strayed }
+        ensures faults { self.new.faults ≡ self.old.faults }
+        ensures told { self.new.told.told ≡ self.old.told.told }
+        ensures due { self.new.told.due ≡ self.old.told.due }
+    {
+        self.told.reserve(1)?;
+        reply_to(self.strayed, list, self.matched, ask, room)
     }
 
     /// Keeps an exchange, at the place that was made for it.

@@ -3,9 +3,9 @@ ghost use Rattle.std.specs.Prelude.{◌≡◌, ◌<◌, ◌^◌, ℕ, option_map
 ghost use Rattle.ek_types.specs.Listing.{items_of};
 ghost use Rattle.host_link.specs.Meaning.{ask_of, answer_of, exchange_of};
 ghost use Rattle.journal_text.specs.Reading.{child_at, bytes_at, spawn_at, send_at, ask_at};
-ghost use Rattle.journal_text.specs.Reading.{ask_child_at, given_at, nothing_got_at};
-ghost use Rattle.journal_text.specs.Reading.{spawned_at, got_at, ended_at, sent_at, closed_at};
-ghost use Rattle.journal_text.specs.Reading.{killed_at, answer_at, line_at};
+ghost use Rattle.journal_text.specs.Reading.{ask_child_at, last_ask_at, given_at, nothing_got_at};
+ghost use Rattle.journal_text.specs.Reading.{fixed_at, then_end, spawned_at, got_at, exited_at, ended_at, sent_at, closed_at};
+ghost use Rattle.journal_text.specs.Reading.{killed_at, answer_at, with_answer, line_at};
 
 use crate::hex::{hex, text, words};
 use crate::pieces::{behind, code, number};
@@ -20,7 +20,10 @@ fn child(bytes: &[u8]) -> Option<(u32, &[u8])>
     ensures { option_map (λ r. (r.0, r.1.now)) result ≡ child_at bytes.now }
 {
     let (child, rest) = number(bytes)?;
-    Some((child, behind(b" -> ", rest)?))
+    match behind(b" -> ", rest) {
+        Some(rest) => Some((child, rest)),
+        None => None,
+    }
 }
 
 /// A blank and some bytes.
@@ -75,6 +78,13 @@ fn ask_child(bytes: &[u8]) -> Option<(Ask, &[u8])>
         let (child, rest) = child(rest)?;
         return Some((Ask::End(child), rest));
     }
+    last_ask(bytes)
+}
+
+/// An ask that closes a child's input or kills it.
+fn last_ask(bytes: &[u8]) -> Option<(Ask, &[u8])>
+    ensures { option_map (λ r. (ask_of r.0, r.1.now)) result ≡ last_ask_at bytes.now }
+{
     if let Some(rest) = behind(b"close ", bytes) {
         let (child, rest) = child(rest)?;
         return Some((Ask::Close(child), rest));
@@ -97,6 +107,27 @@ fn ask(alloc: Global, bytes: &[u8]) -> Mem<Option<(Ask, &[u8])>>
 
 // ANSWERS, each with the line's end behind it
 
+/// An answer that is always written as this text.
+fn fixed<'a>(answer: Answer, text: &[u8], bytes: &'a [u8]) -> Option<(Answer, &'a [u8])>
+    ensures { option_map (λ r. (answer_of r.0, r.1.now)) result ≡
+        fixed_at (answer_of answer) text.now bytes.now }
+{
+    match behind(text, bytes) {
+        Some(rest) => Some((answer, rest)),
+        None => None,
+    }
+}
+
+/// An answer of which all but the line's end was read.
+fn with_end(answer: Answer, bytes: &[u8]) -> Option<(Answer, &[u8])>
+    ensures { option_map (λ r. (answer_of r.0, r.1.now)) result ≡ then_end (answer_of answer, bytes.now) }
+{
+    match behind(b"\n", bytes) {
+        Some(rest) => Some((answer, rest)),
+        None => None,
+    }
+}
+
 /// The answer to a spawn, where the next child has this number.
 fn spawned(next: u32, bytes: &[u8]) -> Option<(Answer, &[u8])>
     ensures { option_map (λ r. (answer_of r.0, r.1.now)) result ≡ spawned_at next bytes.now }
@@ -108,7 +139,7 @@ fn spawned(next: u32, bytes: &[u8]) -> Option<(Answer, &[u8])>
     if child != next {
         return None;
     }
-    Some((Answer::Started(child), behind(b"\n", rest)?))
+    with_end(Answer::Started(child), rest)
 }
 
 /// The bytes that a read gave.
@@ -121,10 +152,7 @@ fn given(alloc: Global, bytes: &[u8]) -> Mem<Option<(Answer, &[u8])>>
     if list.len() > 4096 {
         return Ok(None);
     }
-    match behind(b"\n", rest) {
-        Some(behind_end) => Ok(Some((Answer::Bytes(list), behind_end))),
-        None => Ok(None),
-    }
+    Ok(with_end(Answer::Bytes(list), rest))
 }
 
 /// The answer to a read that gave no bytes.
@@ -137,7 +165,7 @@ fn nothing_got(bytes: &[u8]) -> Option<(Answer, &[u8])>
     if let Some(rest) = behind(b"end\n", bytes) {
         return Some((Answer::End, rest));
     }
-    Some((Answer::Failed, behind(b"failed\n", bytes)?))
+    fixed(Answer::Failed, b"failed\n", bytes)
 }
 
 fn got(alloc: Global, bytes: &[u8]) -> Mem<Option<(Answer, &[u8])>>
@@ -149,12 +177,19 @@ fn got(alloc: Global, bytes: &[u8]) -> Mem<Option<(Answer, &[u8])>>
     }
 }
 
+/// The code with which a child ended.
+fn exited(bytes: &[u8]) -> Option<(Answer, &[u8])>
+    ensures { option_map (λ r. (answer_of r.0, r.1.now)) result ≡ exited_at bytes.now }
+{
+    let (code, rest) = code(bytes)?;
+    with_end(Answer::Code(code), rest)
+}
+
 fn ended(bytes: &[u8]) -> Option<(Answer, &[u8])>
     ensures { option_map (λ r. (answer_of r.0, r.1.now)) result ≡ ended_at bytes.now }
 {
     if let Some(rest) = behind(b"code ", bytes) {
-        let (code, rest) = code(rest)?;
-        return Some((Answer::Code(code), behind(b"\n", rest)?));
+        return exited(rest);
     }
     if let Some(rest) = behind(b"signal\n", bytes) {
         return Some((Answer::Signal, rest));
@@ -162,7 +197,7 @@ fn ended(bytes: &[u8]) -> Option<(Answer, &[u8])>
     if let Some(rest) = behind(b"running\n", bytes) {
         return Some((Answer::Running, rest));
     }
-    Some((Answer::Failed, behind(b"failed\n", bytes)?))
+    fixed(Answer::Failed, b"failed\n", bytes)
 }
 
 fn sent(bytes: &[u8]) -> Option<(Answer, &[u8])>
@@ -171,13 +206,13 @@ fn sent(bytes: &[u8]) -> Option<(Answer, &[u8])>
     if let Some(rest) = behind(b"sent\n", bytes) {
         return Some((Answer::Sent, rest));
     }
-    Some((Answer::Broken, behind(b"broken\n", bytes)?))
+    fixed(Answer::Broken, b"broken\n", bytes)
 }
 
 fn closed(bytes: &[u8]) -> Option<(Answer, &[u8])>
     ensures { option_map (λ r. (answer_of r.0, r.1.now)) result ≡ closed_at bytes.now }
 {
-    Some((Answer::Closed, behind(b"closed\n", bytes)?))
+    fixed(Answer::Closed, b"closed\n", bytes)
 }
 
 fn killed(bytes: &[u8]) -> Option<(Answer, &[u8])>
@@ -186,7 +221,7 @@ fn killed(bytes: &[u8]) -> Option<(Answer, &[u8])>
     if let Some(rest) = behind(b"killed\n", bytes) {
         return Some((Answer::Killed, rest));
     }
-    Some((Answer::Failed, behind(b"failed\n", bytes)?))
+    fixed(Answer::Failed, b"failed\n", bytes)
 }
 
 /// The answer to an ask.
@@ -209,6 +244,17 @@ fn answer<'a>(
     }
 }
 
+/// The exchange of an ask and the answer behind it.
+fn answered(alloc: Global, next: u32, ask: Ask, bytes: &[u8]) -> Mem<Option<(Exchange, &[u8])>>
+    ensures { IfOk result (λ o. option_map (λ r. (exchange_of r.0, r.1.now)) o ≡
+        with_answer next (ask_of ask, bytes.now)) }
+{
+    let Some((answer, rest)) = answer(alloc, next, &ask, bytes)? else {
+        return Ok(None);
+    };
+    Ok(Some((Exchange { ask, answer }, rest)))
+}
+
 /// The exchange of the line at the front, where the next child has this number, and what follows the line.
 pub(crate) fn exchange(alloc: Global, next: u32, bytes: &[u8]) -> Mem<Option<(Exchange, &[u8])>>
     ensures { IfOk result (λ o. option_map (λ r. (exchange_of r.0, r.1.now)) o ≡ line_at next bytes.now) }
@@ -216,8 +262,5 @@ pub(crate) fn exchange(alloc: Global, next: u32, bytes: &[u8]) -> Mem<Option<(Ex
     let Some((ask, behind_ask)) = ask(alloc, bytes)? else {
         return Ok(None);
     };
-    let Some((answer, rest)) = answer(alloc, next, &ask, behind_ask)? else {
-        return Ok(None);
-    };
-    Ok(Some((Exchange { ask, answer }, rest)))
+    answered(alloc, next, ask, behind_ask)
 }

@@ -3,7 +3,7 @@ ghost use Rattle.std.specs.Prelude.{◌≡◌, ◌≤◌, ◌<◌, ◌+◌, ◌^
 ghost use Rattle.std.specs.Prelude.{option_map, if◌then◌else◌, Some, None, nat_lt, pos, neg_ℤ};
 ghost use Rattle.std.specs.List.{list_all, prefix_len};
 ghost use Rattle.plain_machine.specs.Words.{is_digit, begins_with, digits_value};
-ghost use Rattle.journal_text.specs.Reading.{behind, is_number, number_at, code_at, claim_at};
+ghost use Rattle.journal_text.specs.Reading.{behind, is_number, number_at, code_at, counted_off, claim_at};
 
 /// What follows some bytes at the front of others.
 pub(crate) fn behind<'a>(text: &[u8], bytes: &'a [u8]) -> Option<&'a [u8]>
@@ -119,9 +119,15 @@ pub(crate) fn claim(bytes: &[u8]) -> Option<(&[u8], &[u8])>
     ensures { option_map (λ r. (r.0.now, r.1.now)) result ≡ claim_at bytes.now }
 {
     let (count, rest) = number(behind(b"lines ", bytes)?)?;
-    let lines = behind(b"\n", rest)?;
-    if lines.len() < count as usize {
+    counted_off(count as usize, behind(b"\n", rest)?)
+}
+
+/// So many bytes, and what follows them.
+fn counted_off(count: usize, bytes: &[u8]) -> Option<(&[u8], &[u8])>
+    ensures { option_map (λ r. (r.0.now, r.1.now)) result ≡ counted_off (count, bytes.now) }
+{
+    if bytes.len() < count {
         return None;
     }
-    Some(lines.split_at(count as usize))
+    Some(bytes.split_at(count))
 }

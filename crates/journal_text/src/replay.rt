@@ -17,7 +17,7 @@ use crate::course::Course;
 use crate::reply::{ended, got, kill_reply, reply_to, sent, spawned};
 use ek_types::Mem;
 use host_link::{
-    Ask, Ended, Exchanges, Got, Host, KillAnswer, SendAnswer, Spawned, answer_to_kill,
+    Ask, Ended, Exchanges, Got, Host, KillAnswer, Log, SendAnswer, Spawned, answer_to_kill,
     faults_after, list_of,
 };
 use std::alloc::Global;
@@ -55,6 +55,19 @@ impl Model for Replay {
     ghost invariant = { λ r. (r.course.matched ≤ length (exchanges_of r.list)) ×
         (r.course.told.due ≡ kills_due r.kills.items) × AreAnswered 0 (exchanges_of r.list) ×
         (started_in r.course.matched (exchanges_of r.list) ≡ length r.kills.items) };
+}
+
+/// Makes places for a spawn, for the kill of its child and for the child.
+fn reserve_child(told: &mut Log, kills: &mut Vec<bool>) -> Mem<()>
+    ensures told { told.new.told ≡ told.old.told }
+    ensures due { told.new.due ≡ told.old.due }
+    ensures kills { kills.new.items ≡ kills.old.items }
+    ensures places { OnOk result (2 ≤ told.new.places) }
+    ensures room { OnOk result (vec_len kills.new < vec_capacity kills.new) }
+{
+    told.reserve(2)?;
+    kills.reserve(1)?;
+    Ok(())
 }
 
 /// Adds the child that was started, with no memory taken.
@@ -129,8 +142,7 @@ impl Host for Replay {
             &ask,
             0,
         )?;
-        self.course.told.reserve(2)?;
-        self.kills.reserve(1)?;
+        reserve_child(&mut self.course.told, &mut self.kills)?;
         let spawned = spawned(&reply.answer);
         self.course.keep(ask, reply);
         self.course.told.owe(spawned);
@@ -150,14 +162,7 @@ impl Host for Replay {
         ensures unchanged { OnErr result (self.new ≡ self.old) }
     {
         let ask = Ask::Read(child);
-        self.course.told.reserve(1)?;
-        let reply = reply_to(
-            self.course.strayed,
-            &self.list,
-            self.course.matched,
-            &ask,
-            into.len(),
-        )?;
+        let reply = self.course.reply_to(&self.list, &ask, into.len())?;
         let got = got(&reply.answer, into);
         self.course.keep(ask, reply);
         Ok(got)
@@ -172,14 +177,7 @@ impl Host for Replay {
         ensures unchanged { OnErr result (self.new ≡ self.old) }
     {
         let ask = Ask::End(child);
-        self.course.told.reserve(1)?;
-        let reply = reply_to(
-            self.course.strayed,
-            &self.list,
-            self.course.matched,
-            &ask,
-            0,
-        )?;
+        let reply = self.course.reply_to(&self.list, &ask, 0)?;
         let ended = ended(&reply.answer);
         self.course.keep(ask, reply);
         Ok(ended)
@@ -194,14 +192,7 @@ impl Host for Replay {
         ensures unchanged { OnErr result (self.new ≡ self.old) }
     {
         let ask = Ask::Send(child, list_of(self.list.allocator(), bytes)?);
-        self.course.told.reserve(1)?;
-        let reply = reply_to(
-            self.course.strayed,
-            &self.list,
-            self.course.matched,
-            &ask,
-            0,
-        )?;
+        let reply = self.course.reply_to(&self.list, &ask, 0)?;
         let sent = sent(&reply.answer);
         self.course.keep(ask, reply);
         Ok(sent)
@@ -215,14 +206,7 @@ impl Host for Replay {
         ensures unchanged { OnErr result (self.new ≡ self.old) }
     {
         let ask = Ask::Close(child);
-        self.course.told.reserve(1)?;
-        let reply = reply_to(
-            self.course.strayed,
-            &self.list,
-            self.course.matched,
-            &ask,
-            0,
-        )?;
+        let reply = self.course.reply_to(&self.list, &ask, 0)?;
         self.course.keep(ask, reply);
         Ok(())
     }

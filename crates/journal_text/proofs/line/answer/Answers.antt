@@ -1,3 +1,8 @@
+use Rattle.std.proofs.Common.{ap, rules, SFits, w32}
+use Rattle.std.proofs.lemmas.Int.{to_z-of_z}
+use Rattle.plain_machine.specs.Lines.{shown_int}
+use Rattle.journal_text.specs.Lines.{hex}
+use Rattle.sink_printer.proofs.Printing.{prints_then, prints_same}
 use Rattle.journal_text.proofs.line.answer.Goals as goal
 
 pub returns-in-Started : goal.returns-in-Started
@@ -32,3 +37,11 @@ returns-in-Killed g c = rw c.in-Killed.is c.put-in-Killed.ensures
 
 pub returns-in-Failed : goal.returns-in-Failed
 returns-in-Failed g c = rw c.in-Failed.is c.put-in-Failed.ensures
+
+pub returns-in-Bytes : goal.returns-in-Bytes
+returns-in-Bytes g c = rw c.in-Bytes.is (prints_then c.put-in-Bytes.ensures (prints_same (ap hex c.as_slice.ensures) c.hex.ensures))
+
+pub returns-in-Code : goal.returns-in-Code
+returns-in-Code g c =
+    let narrow : SFits w32 c.in-Code.code = search rules in
+    rw c.in-Code.is (prints_then c.put-in-Code.ensures (prints_same (ap shown_int (to_z-of_z w32 c.in-Code.code narrow)) c.signed.ensures))

@@ -10,5 +10,5 @@ returns-clause-made c = search rules
 pub returns-clause-asked : goal.returns-clause-asked
 returns-clause-asked c =
     let made = returns-clause-made c in
-    let small = subst (λ (s : ReplayState). s.faults < 2 ^ 64) c.self.view_is c.keep.ensures.counted in
+    let small = subst (λ (s : ReplayState). s.faults < 2 ^ 64) c.self.view_is (subst (λ n. n < 2 ^ 64) c.in_ok-reply.ensures.faults c.keep.ensures.counted) in
     exchanged c.args.self.now _ (Read c.args.child) _ _ c.args.self.now.kills small made refl

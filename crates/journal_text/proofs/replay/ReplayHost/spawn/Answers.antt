@@ -21,13 +21,13 @@ invariant_of-self-2 c =
     let allowed : IsSpawned k answer = subst (λ a. IsAnswerTo k a answer) c.in_ok-ask.ensures reply.allowed in
     let told = c.spawned-spawned.ensures k allowed in
     let spawned = c.spawned-spawned.result in
-    let kept = c.in_ok-reserve-2.ensures.items in
+    let kept = c.in_ok-reserve_child.ensures.kills in
     let kills : length c.add_child.new.kills.items ≡ length c.self.inside.kills.items + due_by spawned =
-    ap length c.add_child.ensures ∙ length-after_spawn c.reserve-2.new.self.items spawned ∙ ap (λ l. length l + due_by spawned) kept in
+    ap length c.add_child.ensures ∙ length-after_spawn c.reserve_child.new.kills.items spawned ∙ ap (λ l. length l + due_by spawned) kept in
     let due : kills_due c.add_child.new.kills.items ≡ kills_due c.self.inside.kills.items + due_by spawned =
-    ap kills_due c.add_child.ensures ∙ due_after_spawn c.reserve-2.new.self.items spawned ∙ ap (λ l. kills_due l + due_by spawned) kept in (
+    ap kills_due c.add_child.ensures ∙ due_after_spawn c.reserve_child.new.kills.items spawned ∙ ap (λ l. kills_due l + due_by spawned) kept in (
       omega (arith, reply.within, c.keep.ensures.matched),
-      omega (arith, due, c.owe.ensures.due, c.keep.ensures.due, c.in_ok-reserve.ensures.due, c.self.invariant.1),
+      omega (arith, due, c.owe.ensures.due, c.keep.ensures.due, c.in_ok-reserve_child.ensures.due, c.self.invariant.1),
       c.self.invariant.2,
       omega (arith, kills, reply.started, ap (λ n. started_in n list) c.keep.ensures.matched, started_due spawned answer told, c.self.invariant.3),
     )
@@ -59,8 +59,8 @@ returns-clause-made c =
       reply = subst (λ (s : ReplayState). IsReply s.strayed s.list s.matched spawn 0 follows (spawned_answer c.spawned-spawned.result)) c.self.view_is of_answer;
       after = replay_after _ c.args.self.now follows (ask_of c.in_ok-ask.ask) answer (spawned_answer c.spawned-spawned.result) spawn _ _ _ _ _
           c.self.view_is c.in_ok-ask.ensures (sym told) (c.keep.ensures.matched ∙ reply.matched_is) c.keep.ensures.strayed
-          (c.add_child.ensures ∙ ap (λ l. after_spawn l c.spawned-spawned.result) c.in_ok-reserve-2.ensures.items ∙ children_after c.self.inside.kills.items c.args.program.now (map string_bytes c.args.args.now) c.spawned-spawned.result (spawned_answer c.spawned-spawned.result) refl)
-          c.keep.ensures.faults (c.owe.ensures.told ∙ c.keep.ensures.told ∙ ap (λ l. l ++ (let x : Exchange = record { ask = ask_of c.in_ok-ask.ask; answer = answer } in x) ∷ []) c.in_ok-reserve.ensures.told);
+          (c.add_child.ensures ∙ ap (λ l. after_spawn l c.spawned-spawned.result) c.in_ok-reserve_child.ensures.kills ∙ children_after c.self.inside.kills.items c.args.program.now (map string_bytes c.args.args.now) c.spawned-spawned.result (spawned_answer c.spawned-spawned.result) refl)
+          c.keep.ensures.faults (c.owe.ensures.told ∙ c.keep.ensures.told ∙ ap (λ l. l ++ (let x : Exchange = record { ask = ask_of c.in_ok-ask.ask; answer = answer } in x) ∷ []) c.in_ok-reserve_child.ensures.told);
     }
 
 pub returns-clause-asked : goal.returns-clause-asked
