@@ -13,7 +13,7 @@ struct Case {
     fault: Option<u32>,
 }
 
-static CASES: [Case; 68] = [
+const CASES: [Case; 68] = [
     Case {
         bytes: b"",
         fault: None,
@@ -333,7 +333,7 @@ struct Numbered {
 }
 
 /// Parameters are no registers.
-static NUMBERED: [Numbered; 6] = [
+const NUMBERED: [Numbered; 6] = [
     Numbered {
         before: "(setq r",
         count: 256,
@@ -404,7 +404,7 @@ struct Repeated {
 const HEAD: &str = "(point)\n\n(defhandler f ()\n";
 
 /// Arguments of a call, forms of a body, and bytes of a script.
-static REPEATED: [Repeated; 10] = [
+const REPEATED: [Repeated; 10] = [
     Repeated {
         front: "(insert",
         piece: " 1",
@@ -579,7 +579,7 @@ const ESCAPED: Decoded = Decoded {
     ],
 };
 
-static DECODED: [Decoded; 20] = [
+const DECODED: [Decoded; 20] = [
     Decoded {
         written: b"\\000\\177\x01\x7f",
         codes: &[0, 0x7F, 1, 0x7F],
