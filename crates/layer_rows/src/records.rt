@@ -205,7 +205,6 @@ const TRIALS: [Trial; 5] = [
 
 #[test]
 fn the_text_of_a_deletion_comes_back_in_a_trial(rt: HostRuntime) {
-    let face = Sym(14);
     let mut undo = started(
         &rt,
         rt.alloc(),
@@ -214,7 +213,7 @@ fn the_text_of_a_deletion_comes_back_in_a_trial(rt: HostRuntime) {
             Rec::Inserted(0, 4),
             Rec::Boundary,
             Rec::Inserted(4, 6),
-            Rec::Prop(face, None, 0, 2),
+            Rec::Prop(Sym(14), None, 0, 2),
         ],
     );
     put_deletion(&rt, rt.alloc(), &mut undo, 2, 1);
@@ -231,22 +230,31 @@ fn an_undo_outside_the_bounds_is_refused(rt: HostRuntime) {
     is(&rt, planned(&rt, &undo, 1, 0, 4), Err(Refused::Outside(0)));
 }
 
-#[test]
-fn a_copy_is_another_list(rt: HostRuntime) {
-    let mut undo = started(
-        &rt,
-        rt.alloc(),
+/// An insertion behind a change of a property.
+fn with_a_property(rt: &impl Abort, alloc: Global) -> Undo {
+    started(
+        rt,
+        alloc,
         &[
             Rec::Prop(Sym(14), Some(PropVal::Truth), 0, 1),
             Rec::Inserted(0, 2),
         ],
-    );
+    )
+}
+
+fn is_with_a_property(rt: &impl Abort, undo: &Undo) {
+    is(rt, inserted(undo), Some((0, 2)));
+    is(rt, planned(rt, undo, 1, 0, 2), Err(Refused::Outside(0)));
+    is(rt, part(rt, undo, 1, 2), (1, None));
+    is(rt, part(rt, undo, 1, 1).0, 0);
+}
+
+#[test]
+fn a_copy_is_another_list(rt: HostRuntime) {
+    let mut undo = with_a_property(&rt, rt.alloc());
     let copy = undo.copy().expect(&rt, "a copy");
     undo.disable();
-    is(&rt, inserted(&copy), Some((0, 2)));
-    is(&rt, planned(&rt, &copy, 1, 0, 2), Err(Refused::Outside(0)));
-    is(&rt, part(&rt, &copy, 1, 2), (1, None));
-    is(&rt, part(&rt, &copy, 1, 1).0, 0);
+    is_with_a_property(&rt, &copy);
 }
 
 /// So many records in one group, each point at its number.

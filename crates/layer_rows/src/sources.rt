@@ -2,6 +2,7 @@
 
 use crate::checking::is;
 use ek_types::{MemorySink, MemorySource, Sink, SinkFault, Source, Took, Wrote, put, write_all};
+use std::alloc::Global;
 use std::process::Abort;
 
 /// What a read into so many bytes of the room comes to, and what the whole room then holds.
@@ -60,30 +61,39 @@ fn a_source_fails_at_its_second_read_and_goes_on(rt: HostRuntime) {
     reads(&rt, &mut source);
 }
 
-/// A write that fails behind three bytes, one behind a fault, and one that writes the rest.
-fn writes_buffer(rt: &impl Abort, sink: &mut MemorySink) {
-    is(rt, write_all(sink, b"buffer *scratch*"), Err(SinkFault));
-    is(rt, sink.bytes(), b"buf".as_slice());
-    is(rt, put(Err(SinkFault), sink, b"more"), Err(SinkFault));
-    is(rt, sink.bytes(), b"buf".as_slice());
-    is(rt, put(Ok(()), sink, b"fer"), Ok(()));
-    is(rt, sink.bytes(), b"buffer".as_slice());
+/// A sink in memory, whose calls of these numbers fail.
+fn sink(rt: &impl Abort, alloc: Global, room: usize, piece: usize, fails: Vec<u32>) -> MemorySink {
+    assert!(rt; 0 < piece);
+    MemorySink::new(alloc, room, piece, fails).expect(rt, "memory")
+}
+
+/// Writing all came to this, and then the sink holds these bytes.
+fn writes(
+    rt: &impl Abort,
+    sink: &MemorySink,
+    done: Result<(), SinkFault>,
+    ends: Result<(), SinkFault>,
+    held: &[u8],
+) {
+    is(rt, done, ends);
+    is(rt, sink.bytes(), held);
 }
 
 #[test]
 fn a_sink_of_one_byte_a_call_that_fails_at_call_3_holds_buf(rt: HostRuntime) {
     let fails = vec![in rt.alloc(); 3].expect(&rt, "memory");
-    let Ok(mut sink) = MemorySink::new(rt.alloc(), 100, 1, fails) else {
-        panic!(rt; "no memory");
-    };
-    writes_buffer(&rt, &mut sink);
+    let mut sink = sink(&rt, rt.alloc(), 100, 1, fails);
+    let done = write_all(&mut sink, b"buffer *scratch*");
+    writes(&rt, &sink, done, Err(SinkFault), b"buf");
+    let done = put(Err(SinkFault), &mut sink, b"more");
+    writes(&rt, &sink, done, Err(SinkFault), b"buf");
+    let done = put(Ok(()), &mut sink, b"fer");
+    writes(&rt, &sink, done, Ok(()), b"buffer");
 }
 
 #[test]
 fn a_full_sink_fails(rt: HostRuntime) {
-    let Ok(mut sink) = MemorySink::new(rt.alloc(), 2, 7, Vec::new(rt.alloc())) else {
-        panic!(rt; "no memory");
-    };
+    let mut sink = sink(&rt, rt.alloc(), 2, 7, Vec::new(rt.alloc()));
     is(&rt, sink.write(b"abc"), Wrote::Bytes(2));
     is(&rt, sink.write(b"c"), Wrote::Failed);
     is(&rt, sink.bytes(), b"ab".as_slice());

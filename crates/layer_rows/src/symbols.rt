@@ -36,12 +36,16 @@ fn are_found(rt: &impl Abort, symbols: &Symbols) {
     is(rt, symbols.find("insert"), None);
 }
 
+fn are_copied(rt: &impl Abort, symbols: &Symbols) {
+    let copy = symbols.copy().expect(rt, "memory");
+    are_found(rt, &copy);
+}
+
 #[test]
 fn the_names_of_a_script_are_numbered_in_their_order(rt: HostRuntime) {
     let mut symbols = Symbols::new(rt.alloc()).expect(&rt, "memory");
     are_numbered(&rt, &mut symbols);
-    let copy = symbols.copy().expect(&rt, "memory");
-    are_found(&rt, &copy);
+    are_copied(&rt, &symbols);
 }
 
 /// The names by their numbers.

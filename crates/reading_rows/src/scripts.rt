@@ -1,7 +1,7 @@
 //! Scripts, their fault lines, and what stands in them.
 
 use crate::checking::is;
-use ek_call::{Arg, Form, Script, Value};
+use ek_call::{Arg, Call, Form, Script};
 use ek_types::{Piece, Sym, Symbols};
 use script_read::{LONGEST_SCRIPT, ScriptFault, read};
 use std::alloc::Global;
@@ -538,14 +538,21 @@ fn names_are_numbered_in_the_order_of_their_first_places(rt: HostRuntime) {
     are_numbered(&rt, &script.symbols);
 }
 
+/// The string that a call has for its only argument.
+fn argument(call: &Call) -> Option<&Piece> {
+    match call.args.as_slice() {
+        [Arg::Const(value)] => value.string(),
+        _ => None,
+    }
+}
+
 /// The string that a script of one call has for its argument.
 fn string<'a>(rt: &impl Abort, script: &'a Script) -> &'a Piece {
-    if let [Form::Do(call)] = script.forms.as_slice() {
-        if let [Arg::Const(Value::Str(text))] = call.args.as_slice() {
-            return text;
-        }
-    }
-    panic!(rt; "no string")
+    let text = match script.forms.as_slice() {
+        [Form::Do(call)] => argument(call),
+        _ => None,
+    };
+    text.expect(rt, "a string")
 }
 
 /// Bytes of a string, and the codes of its characters. The code of a raw byte is 0x3FFF00 more than the byte.
