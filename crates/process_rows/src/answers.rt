@@ -5,7 +5,7 @@ ghost use Rattle.handler_run.specs.Answers.{IsRead};
 use super::processes::one;
 use crate::checking::{get, holds, is, is_text, set_filter, set_sentinel};
 use ek_call::{Value, Values};
-use ek_types::{Ch, Sym};
+use ek_types::{Ch, Chars, Sym};
 use handler_run::{Entry, ended, enter, ready};
 use host_link::{Ended, Got};
 use process_table::{Filter, Processes, Status};
@@ -36,27 +36,26 @@ fn end(rt: &impl Abort, alloc: Global, table: &mut Processes, how: Ended) -> Ent
     ended(table, 0, slot, &how)
 }
 
+/// The text of arguments that are process 0 and a string.
+fn told(args: &Values) -> Option<&Chars> {
+    match args.as_slice() {
+        [Value::Process(0), Value::Str(given)] => Some(given.text()),
+        _ => None,
+    }
+}
+
 /// The arguments are process 0 and these characters.
 fn are_arguments(rt: &impl Abort, args: &Values, text: &[Ch]) {
-    assert_eq!(rt; args.len(), 2);
-    match (args.at(0), args.at(1)) {
-        (Value::Process(p), Value::Str(given)) => {
-            is(rt, *p, 0);
-            is_text(rt, given.text(), text);
-        }
-        _ => panic!(rt; "a process and a text"),
-    }
+    is_text(rt, told(args).expect(rt, "a process and a text"), text);
 }
 
 /// The filter of this name is entered with these characters.
 fn is_filter(rt: &impl Abort, entry: &Entry, name: Option<Sym>, text: &[Ch]) {
-    match entry {
-        Entry::Filter(handler, args) => {
-            is(rt, *handler, name);
-            are_arguments(rt, args, text);
-        }
-        _ => panic!(rt; "a filter"),
-    }
+    let Entry::Filter(handler, args) = entry else {
+        panic!(rt; "no filter");
+    };
+    is(rt, *handler, name);
+    are_arguments(rt, args, text);
 }
 
 fn is_none(entry: &Entry) -> bool {
@@ -103,23 +102,39 @@ fn the_filter_set_now_hears_a_character_cut_in_two(rt: HostRuntime) {
     is_filter(&rt, &entry, Some(Sym(30)), &[Ch::Scalar('€')]);
 }
 
+/// Characters of one byte each.
+fn letters(rt: &impl Abort, alloc: Global, bytes: &[u8]) -> Vec<Ch> {
+    let mut text = Vec::new(alloc);
+    for byte in bytes {
+        text.push(Ch::Scalar(char::from(*byte)))
+            .expect(rt, "a character");
+    }
+    text
+}
+
+/// Sentinel 31 is entered with these characters.
+fn is_sentinel(rt: &impl Abort, entry: &Entry, text: &[Ch]) {
+    let Entry::Sentinel(handler, args) = entry else {
+        panic!(rt; "no sentinel");
+    };
+    is(rt, *handler, Some(Sym(31)));
+    are_arguments(rt, args, text);
+}
+
 /// The sentinel is told this of an end, and the process has this status then.
 fn is_told(rt: &impl Abort, alloc: Global, how: Ended, text: &[u8], status: Status) {
     let mut table = one(rt, alloc);
     set_sentinel(rt, &mut table, 0, Sym(31));
-    let mut told = Vec::new(alloc);
-    for byte in text {
-        told.push(Ch::Scalar(char::from(*byte)))
-            .expect(rt, "a character");
-    }
-    match end(rt, alloc, &mut table, how) {
-        Entry::Sentinel(handler, args) => {
-            is(rt, handler, Some(Sym(31)));
-            are_arguments(rt, &args, told.as_slice());
-        }
-        _ => panic!(rt; "a sentinel"),
-    }
+    let entry = end(rt, alloc, &mut table, how);
+    is_sentinel(rt, &entry, letters(rt, alloc, text).as_slice());
     is(rt, get(rt, &table, 0).status(), status);
+}
+
+/// Nothing is entered where the child still runs, and the process runs too.
+fn is_not_told(rt: &impl Abort, alloc: Global) {
+    let mut table = one(rt, alloc);
+    holds(rt, is_none(&end(rt, alloc, &mut table, Ended::Running)));
+    is(rt, get(rt, &table, 0).status(), Status::Run);
 }
 
 #[test]
@@ -142,7 +157,5 @@ fn a_sentinel_is_told_of_each_kind_of_end(rt: HostRuntime) {
     );
     is_told(&rt, alloc, Ended::Signal, b"killed\n", Status::Signal);
     is_told(&rt, alloc, Ended::Failed, b"failed\n", Status::Failed);
-    let mut table = one(&rt, alloc);
-    holds(&rt, is_none(&end(&rt, alloc, &mut table, Ended::Running)));
-    is(&rt, get(&rt, &table, 0).status(), Status::Run);
+    is_not_told(&rt, alloc);
 }

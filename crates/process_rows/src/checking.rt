@@ -15,11 +15,16 @@ pub fn holds(rt: &impl Abort, condition: bool) {
     assert!(rt; condition);
 }
 
+fn at(rt: &impl Abort, text: &Chars, i: usize) -> Ch {
+    assert!(rt; i < text.len());
+    text.at(i)
+}
+
 /// The characters are these.
 pub fn is_text(rt: &impl Abort, out: &Chars, text: &[Ch]) {
-    assert_eq!(rt; out.len(), text.len());
-    for i in 0..out.len() {
-        is(rt, out.at(i), text[i]);
+    is(rt, out.len(), text.len());
+    for (i, c) in text.iter().enumerate() {
+        is(rt, at(rt, out, i), *c);
     }
 }
 

@@ -28,10 +28,18 @@ fn is_one(rt: &impl Abort, alloc: Global, bytes: &[u8], code: u32) {
         feed(rt, &mut decoder, &[*byte], &mut out);
     }
     finish(rt, &mut decoder, &mut out);
-    let Some(c) = char::from_u32(code) else {
-        panic!(rt; "no character");
-    };
-    is_text(rt, &out, &[Ch::Scalar(c), Ch::Scalar(c)]);
+    let c = Ch::Scalar(char::from_u32(code).expect(rt, "a character"));
+    is_text(rt, &out, &[c, c]);
+}
+
+/// Each of the bytes by itself.
+fn apart(rt: &impl Abort, alloc: Global, bytes: &[u8]) -> Vec<Ch> {
+    let mut text = Vec::new(alloc);
+    for byte in bytes {
+        let c = Ch::raw(*byte).unwrap_or(Ch::Scalar(char::from(*byte)));
+        text.push(c).expect(rt, "room");
+    }
+    text
 }
 
 /// Each of the bytes is a character of its own.
@@ -40,12 +48,7 @@ fn are_apart(rt: &impl Abort, alloc: Global, bytes: &[u8]) {
     let mut decoder = Decoder::new();
     feed(rt, &mut decoder, bytes, &mut out);
     finish(rt, &mut decoder, &mut out);
-    assert_eq!(rt; out.len(), bytes.len());
-    for i in 0..out.len() {
-        let byte = bytes[i];
-        let c = Ch::raw(byte).unwrap_or(Ch::Scalar(char::from(byte)));
-        is(rt, out.at(i), c);
-    }
+    is_text(rt, &out, apart(rt, alloc, bytes).as_slice());
 }
 
 /// Bytes, and the code of the character that they are.
@@ -137,60 +140,72 @@ fn the_first_and_the_last_of_each_row_are_one_character(rt: HostRuntime) {
 }
 
 /// One below and one above each range of the table's rows: of two bytes, of three and of four.
-const BESIDE_A_RANGE: [&[u8]; 48] = [
-    b"\x80\xBF",
-    b"\xC0\x80",
-    b"\xC1\xBF",
-    b"\xC2\x7F",
-    b"\xC2\xC0",
-    b"\xDF\x7F",
-    b"\xDF\xC0",
-    b"\xFE\xFF",
-    b"\xE0\x80\x80",
-    b"\xE0\x9F\xBF",
-    b"\xE0\xC0\x80",
-    b"\xE0\xA0\x7F",
-    b"\xE0\xBF\xC0",
-    b"\xE1\x7F\x80",
-    b"\xE1\xC0\x80",
-    b"\xE1\x80\x7F",
-    b"\xEC\xBF\xC0",
-    b"\xEC\x7F\xBF",
-    b"\xED\x7F\x80",
-    b"\xED\xA0\x80",
-    b"\xED\xBF\xBF",
-    b"\xED\x80\x7F",
-    b"\xED\x9F\xC0",
-    b"\xEE\x7F\x80",
-    b"\xEE\xC0\x80",
-    b"\xEF\x80\x7F",
-    b"\xEF\xBF\xC0",
-    b"\xEF\xC0\xBF",
-    b"\xF0\x80\x80\x80",
-    b"\xF0\x8F\xBF\xBF",
-    b"\xF0\xC0\x80\x80",
-    b"\xF0\x90\x7F\x80",
-    b"\xF0\x90\xC0\x80",
-    b"\xF0\x90\x80\x7F",
-    b"\xF0\xBF\xBF\xC0",
-    b"\xF1\x7F\x80\x80",
-    b"\xF1\xC0\x80\x80",
-    b"\xF1\x80\x7F\x80",
-    b"\xF3\xBF\xC0\xBF",
-    b"\xF3\xBF\xBF\x7F",
-    b"\xF3\xBF\xBF\xC0",
-    b"\xF4\x7F\x80\x80",
-    b"\xF4\x90\x80\x80",
-    b"\xF4\x80\x7F\x80",
-    b"\xF4\x8F\xC0\xBF",
-    b"\xF4\x8F\xBF\x7F",
-    b"\xF4\x8F\xBF\xC0",
-    b"\xF5\x80\x80\x80",
+const OF_TWO: [[u8; 2]; 8] = [
+    *b"\x80\xBF",
+    *b"\xC0\x80",
+    *b"\xC1\xBF",
+    *b"\xC2\x7F",
+    *b"\xC2\xC0",
+    *b"\xDF\x7F",
+    *b"\xDF\xC0",
+    *b"\xFE\xFF",
+];
+
+const OF_THREE: [[u8; 3]; 20] = [
+    *b"\xE0\x80\x80",
+    *b"\xE0\x9F\xBF",
+    *b"\xE0\xC0\x80",
+    *b"\xE0\xA0\x7F",
+    *b"\xE0\xBF\xC0",
+    *b"\xE1\x7F\x80",
+    *b"\xE1\xC0\x80",
+    *b"\xE1\x80\x7F",
+    *b"\xEC\xBF\xC0",
+    *b"\xEC\x7F\xBF",
+    *b"\xED\x7F\x80",
+    *b"\xED\xA0\x80",
+    *b"\xED\xBF\xBF",
+    *b"\xED\x80\x7F",
+    *b"\xED\x9F\xC0",
+    *b"\xEE\x7F\x80",
+    *b"\xEE\xC0\x80",
+    *b"\xEF\x80\x7F",
+    *b"\xEF\xBF\xC0",
+    *b"\xEF\xC0\xBF",
+];
+
+const OF_FOUR: [[u8; 4]; 20] = [
+    *b"\xF0\x80\x80\x80",
+    *b"\xF0\x8F\xBF\xBF",
+    *b"\xF0\xC0\x80\x80",
+    *b"\xF0\x90\x7F\x80",
+    *b"\xF0\x90\xC0\x80",
+    *b"\xF0\x90\x80\x7F",
+    *b"\xF0\xBF\xBF\xC0",
+    *b"\xF1\x7F\x80\x80",
+    *b"\xF1\xC0\x80\x80",
+    *b"\xF1\x80\x7F\x80",
+    *b"\xF3\xBF\xC0\xBF",
+    *b"\xF3\xBF\xBF\x7F",
+    *b"\xF3\xBF\xBF\xC0",
+    *b"\xF4\x7F\x80\x80",
+    *b"\xF4\x90\x80\x80",
+    *b"\xF4\x80\x7F\x80",
+    *b"\xF4\x8F\xC0\xBF",
+    *b"\xF4\x8F\xBF\x7F",
+    *b"\xF4\x8F\xBF\xC0",
+    *b"\xF5\x80\x80\x80",
 ];
 
 #[test]
 fn one_below_and_one_above_each_range_stand_apart(rt: HostRuntime) {
-    for bytes in BESIDE_A_RANGE {
+    for bytes in &OF_TWO {
+        are_apart(&rt, rt.alloc(), bytes);
+    }
+    for bytes in &OF_THREE {
+        are_apart(&rt, rt.alloc(), bytes);
+    }
+    for bytes in &OF_FOUR {
         are_apart(&rt, rt.alloc(), bytes);
     }
 }

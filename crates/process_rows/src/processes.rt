@@ -20,6 +20,13 @@ fn is_name(rt: &impl Abort, found: &Chars, expected: &Chars) {
     is(rt, found.codes(), expected.codes());
 }
 
+/// A process has this name and this child.
+fn is_started(rt: &impl Abort, table: &Processes, p: u32, name: &Chars, child: u32) {
+    let process = get(rt, table, p);
+    is_name(rt, process.name(), name);
+    is(rt, process.child(), child);
+}
+
 /// A process of this name, or of the first that is free, as is said by `becomes`.
 fn start(
     rt: &impl Abort,
@@ -28,17 +35,13 @@ fn start(
     name: &[u8],
     becomes: &[u8],
 ) -> u32 {
-    let given = text(rt, alloc, name);
-    let becomes = text(rt, alloc, becomes);
-    let free = table.free_name(&given).expect(rt, "a name");
-    is_name(rt, &free, &becomes);
+    let free = table.free_name(&text(rt, alloc, name)).expect(rt, "a name");
+    is_name(rt, &free, &text(rt, alloc, becomes));
     assert!(rt; table.count() < 256);
     let child = 100 + table.count();
     let place = table.reserve(&free).expect(rt, "a place");
     let p = table.add_reserved(place, child, Some(3), 7);
-    let process = get(rt, table, p);
-    is_name(rt, process.name(), &becomes);
-    is(rt, process.child(), child);
+    is_started(rt, table, p, &free, child);
     p
 }
 
@@ -139,20 +142,30 @@ fn what_is_held_comes_out_as_raw_bytes_where_output_ends(rt: HostRuntime) {
     is(&rt, out.len(), 3);
 }
 
+/// Before any byte is read, a coding may be set more than once.
+fn set_dos(rt: &impl Abort, table: &mut Processes) {
+    decodes(rt, table, Coding::Utf8, false);
+    holds(rt, set_coding(rt, table, Coding::Latin1));
+    holds(rt, set_coding(rt, table, Coding::Utf8Dos));
+    decodes(rt, table, Coding::Utf8Dos, false);
+}
+
+/// Where a carriage return is held, no other coding is taken.
+fn refuse_another(rt: &impl Abort, table: &mut Processes) {
+    holds_back(rt, table, b"\r");
+    decodes(rt, table, Coding::Utf8Dos, true);
+    is(rt, set_coding(rt, table, Coding::Latin1), false);
+    decodes(rt, table, Coding::Utf8Dos, true);
+    holds_back(rt, table, b"\r");
+}
+
 #[test]
 fn a_coding_may_be_set_until_bytes_are_read(rt: HostRuntime) {
     let mut table = one(&rt, rt.alloc());
     let mut out = Chars::new(rt.alloc());
-    decodes(&rt, &table, Coding::Utf8, false);
-    holds(&rt, set_coding(&rt, &mut table, Coding::Latin1));
-    holds(&rt, set_coding(&rt, &mut table, Coding::Utf8Dos));
-    decodes(&rt, &table, Coding::Utf8Dos, false);
+    set_dos(&rt, &mut table);
     feed(&rt, &mut table, b"a\r", &mut out);
-    holds_back(&rt, &table, b"\r");
-    decodes(&rt, &table, Coding::Utf8Dos, true);
-    is(&rt, set_coding(&rt, &mut table, Coding::Latin1), false);
-    decodes(&rt, &table, Coding::Utf8Dos, true);
-    holds_back(&rt, &table, b"\r");
+    refuse_another(&rt, &mut table);
     feed(&rt, &mut table, b"\n", &mut out);
     is_text(&rt, &out, &[Ch::Scalar('a'), Ch::Scalar('\n')]);
 }
@@ -180,19 +193,30 @@ fn by_number(rt: &impl Abort, table: &Processes, p: u32) -> Result<u32, Fault> {
     table.resolve(&Value::Process(p))
 }
 
+/// Names, and the processes that they give.
+const GIVEN: [(&[u8], Result<u32, Fault>); 5] = [
+    (b"p", Ok(0)),
+    (b"p<1>", Ok(1)),
+    (b"p<", Err(Fault::NoSuchProcess)),
+    (b"P", Err(Fault::NoSuchProcess)),
+    (b"", Err(Fault::NoSuchProcess)),
+];
+
+fn are_given(rt: &impl Abort, alloc: Global, table: &Processes) {
+    for (name, given) in &GIVEN {
+        is(rt, by_name(rt, alloc, table, name), *given);
+    }
+}
+
 #[test]
 fn names_and_processes_give_a_process(rt: HostRuntime) {
     let alloc = rt.alloc();
     let mut table = Processes::new(alloc);
     let first = start(&rt, alloc, &mut table, b"p", b"p");
     let second = start(&rt, alloc, &mut table, b"p", b"p<1>");
-    let none = Err(Fault::NoSuchProcess);
-    is(&rt, by_name(&rt, alloc, &table, b"p"), Ok(0));
-    is(&rt, by_name(&rt, alloc, &table, b"p<1>"), Ok(1));
-    is(&rt, by_name(&rt, alloc, &table, b"p<"), none);
-    is(&rt, by_name(&rt, alloc, &table, b"P"), none);
-    is(&rt, by_name(&rt, alloc, &table, b""), none);
+    are_given(&rt, alloc, &table);
     unlist(&rt, &mut table, second);
+    let none = Err(Fault::NoSuchProcess);
     is(&rt, by_name(&rt, alloc, &table, b"p<1>"), none);
     is(&rt, by_number(&rt, &table, second), Ok(1));
     is(&rt, by_number(&rt, &table, first), Ok(0));
@@ -254,6 +278,12 @@ fn is_changed(rt: &impl Abort, table: &Processes, p: u32) {
     holds(rt, process.listed());
 }
 
+fn change_again(rt: &impl Abort, table: &mut Processes, p: u32) {
+    set_filter(rt, table, p, Filter::Off);
+    note_end(rt, table, p, Status::Signal);
+    stands(rt, table, p, Filter::Off, Status::Signal);
+}
+
 #[test]
 fn one_process_is_changed_and_no_other(rt: HostRuntime) {
     let alloc = rt.alloc();
@@ -266,8 +296,6 @@ fn one_process_is_changed_and_no_other(rt: HostRuntime) {
     is_new(&rt, &table, first);
     is_new(&rt, &table, third);
     is_changed(&rt, &table, second);
-    set_filter(&rt, &mut table, second, Filter::Off);
-    note_end(&rt, &mut table, second, Status::Signal);
-    stands(&rt, &table, second, Filter::Off, Status::Signal);
+    change_again(&rt, &mut table, second);
     is_new(&rt, &table, first);
 }
