@@ -1,6 +1,7 @@
 //! Exchanges: questions to the host with their answers.
 ghost use Rattle.std.specs.Prelude.{◌≡◌, IfOk, map};
 ghost use Rattle.std.specs.Prelude.{string_bytes};
+ghost use Rattle.plain_machine.specs.Exchanges.{Spawn};
 ghost use Rattle.ek_types.specs.Listing.{items_of};
 ghost use Rattle.host_link.specs.Meaning.{ask_of, answer_of, exchange_of, words_of};
 
@@ -157,4 +158,12 @@ pub fn words(alloc: Global, args: &[String]) -> Mem<WordList>
         list.push(list_of(alloc, args[i].as_bytes())?)?;
     }
     Ok(list)
+}
+
+/// The ask to start a program.
+pub(crate) fn spawn_ask(alloc: Global, program: &str, args: &[String]) -> Mem<Ask>
+    ensures { IfOk result (λ ask. ask_of ask ≡ Spawn program.now (map string_bytes args.now)) }
+{
+    let program = list_of(alloc, program.as_bytes())?;
+    Ok(Ask::Spawn(program, words(alloc, args)?))
 }

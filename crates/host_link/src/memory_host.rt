@@ -16,7 +16,7 @@ ghost use Rattle.host_link.specs.Logged.{due_by};
 ghost use Rattle.host_link.specs.Cursors.{cursors_by, rest_of, whole_play};
 
 use crate::answering::{answer_to_kill, answer_to_send, answer_to_spawn, faults_after};
-use crate::asking::{Answer, Ask, Exchanges, list_of, words};
+use crate::asking::{Answer, Ask, Exchanges, list_of, spawn_ask};
 use crate::host::{Ended, Got, Host, KillAnswer, SendAnswer, Spawned};
 use crate::log::Log;
 use crate::play::{Cursor, Play, Turn, end_play, read_play};
@@ -104,6 +104,22 @@ fn next_child(fails: bool, started: usize, plays: usize) -> Spawned
     } else {
         Spawned::Refused
     }
+}
+
+/// Makes places for a spawn, for the kill of its child and for the child.
+fn reserve_child(log: &mut Log, cursors: &mut Vec<Cursor>, kills: &mut Vec<bool>) -> Mem<()>
+    ensures told { log.new.told ≡ log.old.told }
+    ensures due { log.new.due ≡ log.old.due }
+    ensures cursors { cursors.new.items ≡ cursors.old.items }
+    ensures kills { kills.new.items ≡ kills.old.items }
+    ensures places { OnOk result (2 ≤ log.new.places) }
+    ensures cursor { OnOk result (vec_len cursors.new < vec_capacity cursors.new) }
+    ensures kill { OnOk result (vec_len kills.new < vec_capacity kills.new) }
+{
+    log.reserve(2)?;
+    cursors.reserve(1)?;
+    kills.reserve(1)?;
+    Ok(())
 }
 
 /// Adds the child that was started, with no memory taken.
@@ -210,12 +226,8 @@ impl Host for MemoryHost {
             (Spawn program.now (map string_bytes args.now)) 0 (spawned_answer s)) }
         ensures unchanged { OnErr result (self.new ≡ self.old) }
     {
-        let alloc = self.log.allocator();
-        let program_bytes = list_of(alloc, program.as_bytes())?;
-        let ask = Ask::Spawn(program_bytes, words(alloc, args)?);
-        self.log.reserve(2)?;
-        self.cursors.reserve(1)?;
-        self.kills.reserve(1)?;
+        let ask = spawn_ask(self.log.allocator(), program, args)?;
+        reserve_child(&mut self.log, &mut self.cursors, &mut self.kills)?;
         let fails = is_failing(&self.fails, self.calls);
         let spawned = next_child(fails, self.cursors.len(), self.plays.len());
         self.calls = self.calls.saturating_add(1);

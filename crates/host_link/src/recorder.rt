@@ -1,7 +1,8 @@
 //! A recorder: a host that hands each call to another host and keeps the exchanges.
-ghost use Rattle.std.specs.Prelude.{◌≡◌, ◌-◌, ◌<◌, ◌^◌, length, map, [], false, true, Some, IfOk};
+ghost use Rattle.std.specs.Prelude.{◌≡◌, ◌-◌, ◌<◌, ◌≤◌, ◌^◌, length, map, [], false, true, Some, IfOk};
 ghost use Rattle.std.specs.Prelude.{OnOk, OnErr, slice_get, slice_set, string_bytes};
 ghost use Rattle.plain_machine.specs.Exchanges.{Spawn, Read, AskEnd, Send, Close, Kill, Closed};
+ghost use Rattle.ek_types.specs.Listing.{items_of, spare_of};
 ghost use Rattle.host_link.specs.Hosts.{Asked, Exchanged, Fits, IsNumbered, after_spawn};
 ghost use Rattle.host_link.specs.Hosts.{spawned_answer, got_answer, ended_answer, send_answer};
 ghost use Rattle.host_link.specs.Hosts.{kill_answer};
@@ -10,7 +11,7 @@ ghost use Rattle.host_link.specs.Recorded.{recorded_state, Records, RecordsOnce}
 use crate::answering::{
     answer_to_end, answer_to_kill, answer_to_read, answer_to_send, answer_to_spawn,
 };
-use crate::asking::{Answer, Ask, Exchanges, list_of, words};
+use crate::asking::{Answer, Ask, ByteList, Exchanges, list_of, spawn_ask};
 use crate::host::{Ended, Got, Host, KillAnswer, SendAnswer, Spawned};
 use crate::log::Log;
 use ek_types::{ListOf, Mem};
@@ -51,6 +52,16 @@ impl<H: Host> Recorder<H> {
     }
 }
 
+/// An empty list with room for so many bytes.
+fn room_for(alloc: Global, len: usize) -> Mem<ByteList>
+    ensures empty { IfOk result (λ room. items_of room ≡ []) }
+    ensures spare { IfOk result (λ room. len ≤ spare_of room) }
+{
+    let mut room = ListOf::new(alloc);
+    room.reserve(len)?;
+    Ok(room)
+}
+
 impl<H: Host> Host for Recorder<H> {
     ghost state = { λ r. recorded_state (H.state r.inner) r.told };
 
@@ -70,9 +81,7 @@ impl<H: Host> Host for Recorder<H> {
             (Spawn program.now (map string_bytes args.now)) 0 (spawned_answer s)) }
         ensures unchanged { OnErr result (self.new ≡ self.old) }
     {
-        let alloc = self.log.allocator();
-        let program_bytes = list_of(alloc, program.as_bytes())?;
-        let ask = Ask::Spawn(program_bytes, words(alloc, args)?);
+        let ask = spawn_ask(self.log.allocator(), program, args)?;
         self.log.reserve(2)?;
         let spawned = self.inner.spawn(program, args)?;
         self.log.put_spawn(ask, answer_to_spawn(spawned), spawned);
@@ -94,8 +103,7 @@ impl<H: Host> Host for Recorder<H> {
         ensures unchanged { OnErr result (self.new ≡ self.old) }
     {
         let alloc = self.log.allocator();
-        let mut room = ListOf::new(alloc);
-        room.reserve(into.len())?;
+        let room = room_for(alloc, into.len())?;
         self.log.reserve(1)?;
         let got = self.inner.read(child, into)?;
         self.log
