@@ -1,20 +1,20 @@
 -- One record undone after the other: the accessible portion, as the trial follows it.
-use Rattle.std.proofs.Common.{◌≡◌, ℕ, zero, suc, ◌+◌, ◌-◌, ◌<◌, ◌≤◌, ◌≢◌, ℤ, Bool, true, false, List, [], ◌∷◌, length, drop, All, Option, Some, None, Result, Ok, Err, refl, ap, sym, subst, ◌∙◌, arith}
-use Rattle.std.specs.Prelude.{nat_le, nat_lt, ◌==◌, if◌then◌else◌, IfSome, OnErr, slice_get}
+use Rattle.std.proofs.Common.{◌≡◌, ℕ, zero, suc, ◌+◌, ◌-◌, ◌<◌, ◌≤◌, ◌≢◌, ℤ, Bool, true, false, List, [], ◌∷◌, length, drop, All, Option, Some, None, Result, Ok, Err, Bor, refl, ap, sym, subst, ◌∙◌, arith}
+use Rattle.std.specs.Prelude.{nat_le, nat_lt, ◌==◌, if◌then◌else◌, IfSome, OnOk, OnErr, slice_get, option_map, option_copied}
 use Rattle.std.proofs.lemmas.Bool.{leb-true, and_parts, le-leb, le-ltb, ltb-true, ltb-false, eqb-true, eqb-false, false≢true}
 use Rattle.std.proofs.lemmas.Option.{none-some, slice_get_past}
 use Rattle.std.proofs.lemmas.List.{drop_all}
 use Rattle.text_model.specs.Places.{after_insert, after_delete}
 use Rattle.text_model.specs.Properties.{PropEdit, Add, Remove, PropVal, put, given, Symbols, with_sets, edited}
 use Rattle.text_model.specs.Ordered.{IsValue}
-use Rattle.text_model.specs.Undo.{Rec, Boundary, Point, Inserted, Deleted, Prop, First, Moved, Entry, Undo, lies_inside, max_after, trial}
+use Rattle.text_model.specs.Undo.{Rec, Boundary, Point, Inserted, Deleted, Prop, First, Moved, Entry, Undo, lies_inside, max_after, trial, pass}
 use Rattle.text_model.specs.Marks.{Marks}
-use Rattle.text_model.specs.Commit.{Buffer, Site, set_point, undo_one, undo_each, moves_behind, with_properties, property_records, recorded}
+use Rattle.text_model.specs.Commit.{Buffer, Site, set_point, undo_one, undo_each, undone_groups, moves_behind, with_properties, property_records, recorded}
 use Rattle.text_model.proofs.Cases.{by_test, if_true, if_false}
 use Rattle.text_model.proofs.Lists.{drop_at, All-slice_get}
 use Rattle.text_pool.specs.Pool.{Pooled}
 use Rattle.buffer_core.specs.Meaning.{Stored, buffer_of, site_of, CanBeUndone}
-use Rattle.buffer_core.specs.Undoing.{is_change, ChangesOnlyAt, StaysButForPoint, with_pending}
+use Rattle.buffer_core.specs.Undoing.{value_back, is_change, ChangesOnlyAt, StaysButForPoint, with_pending}
 
 -- TRIALS
 pub tried_first : (min max : ℕ) (e : Entry) (es : List Entry) → trial min max (e ∷ es) ≡ None → lies_inside min max e.what ≡ true
@@ -240,3 +240,38 @@ stands_again below old_pool new_pool old pending new last marks new_marks is_pen
         undo = record x.buffer.undo { pending_below = old.undo.state.pending_below };
       };
     }
+
+-- PLANS AND RECORDS, AS UNDOING TAKES THEM
+pub undone_prop : (id name : ℕ) (old : Option PropVal) (from to : ℕ) (behind : List (ℕ × ℤ)) (s : Site)
+    → record s { buffer = with_properties (value_back name old) from to s.buffer } ≡ undo_one id (Prop name old from to) behind s
+undone_prop id name (Some v) from to behind s = refl
+undone_prop id name None from to behind s = refl
+
+-- what a refused change is
+pub is_refused : {T E : Type 0} (r : Result T E) → OnErr r (true ≡ true)
+is_refused (Ok x) = tt
+is_refused (Err e) = refl
+
+pub holds_refused : {T E P : Type 0} (r : Result T E) → P → OnErr r P
+holds_refused (Ok x) p = tt
+holds_refused (Err e) p = p
+
+-- what is said of a buffer, said of its site
+pub site_given : {T E : Type 0} (r : Result T E) (old new : Buffer) (marks : Marks) → OnOk r (new ≡ old) → OnOk r (◌≡◌ {A = Site} (record { buffer = new; marks = marks }) (record { buffer = old; marks = marks }))
+site_given (Ok x) old new marks e = ap (λ (b : Buffer). record { buffer = b; marks = marks }) e
+site_given (Err e) old new marks h = tt
+
+pub site_refused : {T E : Type 0} (r : Result T E) (old new : Buffer) (marks : Marks) → OnErr r (new ≡ old) → OnErr r (StaysButForPoint (record { buffer = old; marks = marks }) (record { buffer = new; marks = marks }))
+site_refused (Ok x) old new marks h = tt
+site_refused (Err e) old new marks h = same_stays (record { buffer = old; marks = marks }) (record { buffer = new; marks = marks }) (ap (λ (b : Buffer). record { buffer = b; marks = marks }) h)
+
+-- a value lent, and what it is lent of
+pub value_behind : {T B : Type 0} (f : T → B) (lent : Option (Bor T)) → option_map f (option_copied lent) ≡ option_map (λ v. f v.now) lent
+value_behind f (Some v) = refl
+value_behind f None = refl
+
+-- passing a plan's groups is making those below its last one pending
+pub undone_plan : (id below : ℕ) (pool : Pooled) (b : Stored) (marks : Marks) (es : List Entry) → record b.undo.state { pending_below = below } ≡ pass es b.undo.state
+    → undo_each id es (with_pending below (site_of pool b marks)) ≡ undone_groups id es (site_of pool b marks)
+undone_plan id below pool b marks es e =
+    ap (λ (u : Undo). undo_each id es (record (site_of pool b marks) { buffer = record (buffer_of pool b) { undo = u } })) e

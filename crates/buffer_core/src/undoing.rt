@@ -6,7 +6,8 @@ ghost use Rattle.machine_laws.specs.Boundaries.{KeepsBoundaries};
 ghost use Rattle.machine_laws.specs.Good.{Good};
 ghost use Rattle.text_model.specs.Undo.{lies_inside, passed, trial, Deleted};
 ghost use Rattle.text_model.specs.Commit.{undo_one, undo_each, undone_groups, moves_behind};
-ghost use Rattle.text_model.specs.Commit.{deleted, set_point};
+ghost use Rattle.text_model.specs.Commit.{deleted, set_point, with_properties};
+ghost use Rattle.text_pool.specs.Pool.{Pooled};
 ghost use Rattle.gap_text.specs.Text.{LiesIn};
 ghost use Rattle.ek_types.specs.Property.{prop_of};
 ghost use Rattle.prop_intervals.specs.Edits.{edit_of};
@@ -177,6 +178,25 @@ impl Buffer {
         Ok(())
     }
 
+    /// The characters from `from` to before `to` get the old value of a property again, or lose it where they had none.
+    fn give_back(&mut self, name: Sym, old: Option<&PropVal>, from: usize, to: usize) -> Mem<()>
+        requires order { from ≤ to }
+        requires high { to ≤ self.old.end }
+        requires value { IfSome (option_map (λ v. prop_of v.now) old) IsValue }
+        ensures text { self.new.text ≡ self.old.text }
+        ensures size { length self.new.sets ≡ length self.old.sets }
+        ensures ok { (pool : Pooled) → LiesIn pool self.old.text →
+            OnOk result (buffer_of pool self.new ≡
+            with_properties (value_back name.0 (option_map (λ v. prop_of v.now) old.entry)) from to
+            (buffer_of pool self.old)) }
+        ensures err { (pool : Pooled) → OnErr result
+            (buffer_of pool self.new ≡ buffer_of pool self.old) }
+    {
+        let edit = value_back(self.alloc, name, old)?;
+        self.change_properties(from, to, &edit)?;
+        Ok(())
+    }
+
     /// Undoes the record at place `i`, behind which the others are undone too. A refusal may have moved point. It comes
     /// only where the record is of a change.
     fn undo_one(
@@ -212,11 +232,7 @@ impl Buffer {
             Rec::Deleted(piece, place) => {
                 self.put_back(id, piece, *place, records, i + 1, marks, pool)
             }
-            Rec::Prop(name, old, from, to) => {
-                let edit = value_back(self.alloc, *name, old.as_ref())?;
-                self.change_properties(*from, *to, &edit)?;
-                Ok(())
-            }
+            Rec::Prop(name, old, from, to) => self.give_back(*name, old.as_ref(), *from, *to),
             Rec::Point(place) => {
                 self.set_point(*place);
                 Ok(())
@@ -396,15 +412,38 @@ impl Buffer {
         ensures blocks { ChangesBlocks self.old.text.blocks self.new.text.blocks pool.old pool.new }
     {
         let mut moved = marks.copy()?;
+        let copy = self.undone_copy(id, records, plan, &mut moved, pool)?;
+        let before = mem::replace(self, copy);
+        before.release(pool);
+        *marks = moved;
+        Ok(())
+    }
+
+    /// A copy that passes a plan, and in which its records are undone, together with the marks.
+    fn undone_copy(
+        &self,
+        id: u32,
+        records: &Undo,
+        plan: &Plan,
+        marks: &mut Marks,
+        pool: &mut Pool,
+    ) -> Mem<Buffer>
+        requires lies { LiesIn pool.old self.now.text }
+        requires inside { trial self.now.begin self.now.end records.now.state.entries ≡ None }
+        requires undoable { All (λ e. CanBeUndone e.what) records.now.state.entries }
+        requires marks { AreWithin id (length self.now.sets) marks.old }
+        ensures lies { IfOk result (λ copy. LiesIn pool.new copy.text) }
+        ensures ok { IfOk result (λ copy. site_of pool.new copy marks.new ≡
+            undo_each id records.now.state.entries
+            (with_pending plan.now.last (site_of pool.old self.now marks.old))) }
+        ensures marks { IfOk result (λ copy. AreWithin id (length copy.sets) marks.new) }
+        ensures blocks { IfOk result (λ copy. ChangesBlocks [] copy.text.blocks pool.old pool.new) }
+        ensures refused { OnErr result (ChangesBlocks [] [] pool.old pool.new) }
+    {
         let mut copy = self.copy(pool)?;
         copy.pass(plan);
-        match copy.undo_each(id, records, &mut moved, pool) {
-            Ok(()) => {
-                let before = mem::replace(self, copy);
-                before.release(pool);
-                *marks = moved;
-                Ok(())
-            }
+        match copy.undo_each(id, records, marks, pool) {
+            Ok(()) => Ok(copy),
             Err(refused) => {
                 copy.release(pool);
                 Err(refused)

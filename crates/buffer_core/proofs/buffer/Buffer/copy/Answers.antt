@@ -1,4 +1,4 @@
-use Rattle.std.proofs.Common.{◌≡◌, length, ap, sym, subst, ◌∙◌, arith}
+use Rattle.std.proofs.Common.{◌≡◌, length, refl, ap, sym, subst, ◌∙◌, arith}
 use Rattle.gap_text.specs.Text.{LiesIn, characters}
 use Rattle.buffer_core.specs.Meaning.{Stored}
 use Rattle.buffer_core.proofs.Recorded.{undoable-same}
@@ -17,3 +17,12 @@ invariant_of-result c =
       end = (let within = c.self.invariant.end in omega (arith, within, sets));
       undo = undoable-same c.self.inside.undo.state c.in_ok-undo.undo.state c.in_ok-undo.ensures c.self.invariant.undo;
     }
+
+pub returns-clause-same : goal.returns-clause-same
+returns-clause-same c = rw (← c.self.view_is, c.in_ok-text.ensures.source_characters) refl
+
+pub returns-clause-buffer : goal.returns-clause-buffer
+returns-clause-buffer c = rw (← c.self.view_is, c.in_ok-text.ensures.characters, c.in_ok-props.ensures, c.in_ok-undo.ensures) refl
+
+pub returns-in_err-text-clause-same : goal.returns-in_err-text-clause-same
+returns-in_err-text-clause-same c = rw (← c.self.view_is, c.in_err-text.ensures.source_characters) refl

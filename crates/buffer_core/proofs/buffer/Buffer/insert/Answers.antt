@@ -14,6 +14,7 @@ use Rattle.buffer_core.proofs.Recorded.{Undoable, undoable-same, undoable-first,
 use Rattle.buffer_core.proofs.Sites.{inserted_site, first_pushed}
 use Rattle.buffer_core.proofs.Sizes.{text_size, sized, length-spliced, counted}
 use Rattle.buffer_core.proofs.StandingLemmas.{room_within, within_inserted}
+use Rattle.buffer_core.proofs.UndoLemmas.{holds_refused}
 use Rattle.buffer_core.proofs.buffer.Buffer.insert.Goals as goal
 
 pub invariant_of-self-in_err-reserve-2 : goal.invariant_of-self-in_err-reserve-2
@@ -154,3 +155,12 @@ returns-clause-marks c =
     subst (λ (m : Marks). AreWithin c.args.id (length c.splice.new.self) m) (sym c.note_insert-2.ensures)
     (subst (λ k. AreWithin c.args.id k (move_marks c.args.id c.args.all (insertion c.args.at c.in-Some.n) c.args.marks.now)) (let e : length c.args.self.now.sets + c.in-Some.n ≡ length c.splice.new.self = omega arith in e)
     (within_inserted c.args.id c.args.at c.in-Some.n (length c.args.self.now.sets) c.args.all c.args.marks.now c.requires.place c.requires.marks))
+
+pub returns-in_err-reserve-clause-err : goal.returns-in_err-reserve-clause-err
+returns-in_err-reserve-clause-err c = holds_refused c.from_residual.result (rw (← c.self.view_is, c.in_err-reserve.ensures.characters) refl)
+
+pub returns-in_err-reserve-2-clause-err : goal.returns-in_err-reserve-2-clause-err
+returns-in_err-reserve-2-clause-err c = holds_refused c.from_residual-in_err-reserve-2.result (rw (← c.self.view_is, c.in_ok-reserve.ensures.characters, c.in_err-reserve-2.ensures.state) refl)
+
+pub returns-in_err-splice-clause-err : goal.returns-in_err-splice-clause-err
+returns-in_err-splice-clause-err c = holds_refused c.from_residual-in_err-splice.result (rw (← c.self.view_is, c.in_ok-reserve.ensures.characters, c.in_ok-reserve-2.ensures.state, c.in_err-splice.ensures.err) refl)

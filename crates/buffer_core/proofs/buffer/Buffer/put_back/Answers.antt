@@ -11,6 +11,7 @@ use Rattle.buffer_core.specs.Standing.{AreWithin}
 use Rattle.buffer_core.specs.Undoing.{standing, all_less}
 use Rattle.buffer_core.proofs.Sizes.{text_size}
 use Rattle.buffer_core.proofs.Returning.{put_back_site, taken_back_within}
+use Rattle.buffer_core.proofs.UndoLemmas.{point_stays, holds_refused}
 use Rattle.buffer_core.proofs.buffer.Buffer.put_back.Goals as goal
 
 pub returns-clause-site : goal.returns-clause-site
@@ -41,3 +42,9 @@ returns-clause-marks c =
     subst (λ (m : Marks). AreWithin c.args.id (length c.insert.new.self.sets) (record m { markers = c.take_all_back.new.markers })) (sym c.marks-2.view_is)
     (subst (λ ms. AreWithin c.args.id (length c.insert.new.self.sets) (record c.insert.new.marks { markers = ms })) (sym markers)
     (taken_back_within c.args.id (length c.insert.new.self.sets) c.in_ok-moves.moves.items c.insert.new.marks c.in_ok-insert.ensures.marks))
+
+pub returns-in_err-insert-clause-err : goal.returns-in_err-insert-clause-err
+returns-in_err-insert-clause-err c =
+    holds_refused c.from_residual-in_err-insert.result
+    (point_stays c.args.place (site_of c.args.pool.now c.args.self.now c.args.marks.now) (site_of c.insert.new.pool c.insert.new.self c.insert.new.marks)
+    (c.in_err-insert.ensures.err ∙ ap (λ (b : Stored). site_of c.args.pool.now b c.args.marks.now) c.set_point.ensures))
