@@ -4,14 +4,16 @@ ghost use Rattle.host_link.specs.Meaning.{exchanges_of};
 ghost use Rattle.journal_text.specs.Allowed.{AreAnswered};
 
 use buffer_table::Editor;
-use ek_types::{Ch, Chars, MemorySink, Piece, PropSet, PropVal, Sym};
+use ek_types::{Ch, Chars, MemorySink, Piece, PropSet, PropVal, Sym, Symbols};
 use host_link::Exchanges;
 use journal_text::{JournalFault, LONGEST_SESSION, read_journal, write_journal};
+use process_table::Processes;
 use std::alloc::Global;
 use std::fmt::Debug;
 use std::process::Abort;
 use std::rc::Rc;
 use std::slice;
+use trace_print::{Names, dump};
 
 pub const EVAPORATE: Sym = Sym(2);
 
@@ -30,7 +32,25 @@ pub fn wrote<E: Debug + Drop>(
     bytes: &[u8],
 ) {
     written.expect(rt, "all is written");
-    assert_eq!(rt; sink.bytes(), bytes);
+    is(rt, sink.bytes(), bytes);
+}
+
+/// These bytes were refused with a line.
+pub fn refused(rt: &impl Abort, fault: Option<JournalFault>, line: u32, bytes: &str) {
+    assert_eq!(rt; fault, Some(JournalFault::Line(line)), "{bytes}");
+}
+
+/// A dump of an editor and of processes is this.
+pub fn dumps(rt: &impl Abort, alloc: Global, editor: &Editor, processes: &Processes, bytes: &[u8]) {
+    let symbols = Symbols::new(alloc).expect(rt, "symbols");
+    let names = Names {
+        editor,
+        processes,
+        symbols: &symbols,
+    };
+    let mut sink = new_sink(rt, alloc, 2000, 2000);
+    let written = dump(&names, &mut sink);
+    wrote(rt, &sink, written, bytes);
 }
 
 /// The characters of a text.
@@ -81,30 +101,26 @@ pub fn new_sink(rt: &impl Abort, alloc: Global, room: usize, piece: usize) -> Me
 
 /// Makes a buffer of a name that none has.
 pub fn make_buffer(rt: &impl Abort, editor: &mut Editor, name: &Chars) -> u32 {
-    assert!(rt; editor.count() < 9);
-    assert!(rt; editor.find(name).is_none());
+    assert!(rt; editor.count() < 9 && editor.find(name).is_none());
     editor.make(name).expect(rt, "a buffer")
 }
 
 pub fn kill_buffer(rt: &impl Abort, editor: &mut Editor, id: u32) {
-    assert!(rt; editor.count() < 9);
-    assert!(rt; editor.is_live(id));
+    assert!(rt; editor.count() < 9 && editor.is_live(id));
     editor.kill(id).expect(rt, "a death");
 }
 
 /// Makes a part of a buffer the accessible one.
 pub fn narrow(rt: &impl Abort, editor: &mut Editor, id: u32, start: usize, end: usize) {
     let size = editor.size(id);
-    assert!(rt; editor.is_live(id));
-    assert!(rt; start <= end && end <= size);
+    assert!(rt; editor.is_live(id) && start <= end && end <= size);
     editor.narrow(id, start, end);
 }
 
 /// Points a marker to a place of a buffer.
 fn point(rt: &impl Abort, editor: &mut Editor, k: u32, id: u32, place: usize) {
     let size = editor.size(id);
-    assert!(rt; k < editor.marker_count());
-    assert!(rt; editor.is_live(id) && place <= size);
+    assert!(rt; k < editor.marker_count() && editor.is_live(id) && place <= size);
     editor.set_marker(k, Some((id, place)));
 }
 
@@ -123,6 +139,13 @@ pub fn put(rt: &impl Abort, editor: &mut Editor, k: u32, name: Sym, value: &Prop
     editor.put_overlay(k, name, Some(value)).expect(rt, "room");
 }
 
+/// A process of this name, or of the first that is free.
+pub fn add_process(rt: &impl Abort, table: &mut Processes, name: &Chars) -> u32 {
+    assert!(rt; table.count() < 9);
+    let free = table.free_name(name).expect(rt, "a name");
+    table.add(&free, 0, None, 0).expect(rt, "a process")
+}
+
 /// The list of a journal, and where the script begins.
 pub fn read(
     rt: &impl Abort,
@@ -135,9 +158,9 @@ pub fn read(
     read_journal(alloc, bytes)
 }
 
-/// What is written of a list.
-pub fn written(rt: &impl Abort, alloc: Global, list: &Exchanges) -> MemorySink {
+/// This is written of a list.
+pub fn is_written(rt: &impl Abort, alloc: Global, list: &Exchanges, journal: &str) {
     let mut sink = new_sink(rt, alloc, 65536, 65536);
-    assert!(rt; write_journal(list, &mut sink).is_ok());
-    sink
+    let written = write_journal(list, &mut sink);
+    wrote(rt, &sink, written, journal.as_bytes());
 }

@@ -1,15 +1,14 @@
 //! A dump with all there is: live, narrowed and killed buffers, markers and overlays in each, and ended processes.
 
 use crate::checking::{
-    EVAPORATE, PRIORITY, chars, fill, kill_buffer, make_buffer, mark, narrow, new_sink, paint,
-    plain, put, string, with, wrote,
+    EVAPORATE, PRIORITY, add_process, chars, dumps, fill, kill_buffer, make_buffer, mark, narrow,
+    paint, plain, put, string, with,
 };
 use buffer_table::Editor;
-use ek_types::{Ch, Piece, PropSet, PropVal, Sym, SymList, Symbols};
+use ek_types::{Ch, Piece, PropSet, PropVal, Sym, SymList};
 use process_table::{Processes, Status};
 use std::alloc::Global;
 use std::process::Abort;
-use trace_print::{Names, dump};
 
 const FRONT_STICKY: Sym = Sym(0);
 
@@ -63,86 +62,89 @@ fn overlay(rt: &impl Abort, editor: &mut Editor, id: u32, to: usize) -> u32 {
     k.expect(rt, "an overlay")
 }
 
-/// `*scratch*` with two letters, a marker of each type and an overlay.
-fn furnish_first(rt: &impl Abort, alloc: Global, editor: &mut Editor) {
+/// The texts of two buffers, and a third buffer without one.
+fn put_texts(rt: &impl Abort, alloc: Global, editor: &mut Editor) {
     fill(rt, editor, 0, &plain(rt, alloc, "ab"));
-    mark(rt, editor, 0, 1, false);
-    mark(rt, editor, 0, 1, true);
-    overlay(rt, editor, 0, 1);
+    let second = buffer(rt, alloc, editor, "v\"\\\n");
+    fill(rt, editor, second, &decorated(rt, alloc));
+    buffer(rt, alloc, editor, "w");
+}
+
+/// A marker of each type in each buffer: the buffer, the place, and whether it moves after insertion.
+const MARKERS: [(u32, usize, bool); 6] = [
+    (0, 1, false),
+    (0, 1, true),
+    (1, 0, false),
+    (1, 3, true),
+    (2, 0, false),
+    (2, 0, true),
+];
+
+/// Buffers, and how many of their first characters an overlay is over.
+const OVERLAYS: [(u32, usize); 4] = [(0, 1), (1, 3), (2, 0), (0, 0)];
+
+fn put_marks(rt: &impl Abort, editor: &mut Editor) {
+    for (id, place, advances) in &MARKERS {
+        mark(rt, editor, *id, *place, *advances);
+    }
+    for (id, to) in &OVERLAYS {
+        overlay(rt, editor, *id, *to);
+    }
+}
+
+/// Properties for two overlays, and the last is removed.
+fn put_properties(rt: &impl Abort, editor: &mut Editor) {
+    put(rt, editor, 1, PRIORITY, &PropVal::Int(5));
+    put(rt, editor, 1, EVAPORATE, &PropVal::Truth);
+    put(rt, editor, 2, PRIORITY, &PropVal::Int(5));
+    assert!(rt; 3 < editor.overlay_count());
+    editor.remove_overlay(3);
+}
+
+/// The first buffer is unmodified, the second current and read-only.
+fn set_states(rt: &impl Abort, editor: &mut Editor) {
     assert!(rt; editor.is_live(0));
     editor.set_modified(0, false);
+    assert!(rt; editor.is_live(1));
+    editor.set_current(1);
+    assert!(rt; editor.is_live(1));
+    editor.set_read_only(1, true);
 }
 
-/// A buffer of which the second of three characters is accessible, with a marker of each type outside and an overlay.
-fn furnish_second(rt: &impl Abort, alloc: Global, editor: &mut Editor) {
-    let id = buffer(rt, alloc, editor, "v\"\\\n");
-    fill(rt, editor, id, &decorated(rt, alloc));
-    mark(rt, editor, id, 0, false);
-    mark(rt, editor, id, 3, true);
-    let k = overlay(rt, editor, id, 3);
-    put(rt, editor, k, PRIORITY, &PropVal::Int(5));
-    put(rt, editor, k, EVAPORATE, &PropVal::Truth);
-    narrow(rt, editor, id, 1, 2);
-    assert!(rt; editor.is_live(id));
-    editor.set_current(id);
-    assert!(rt; editor.is_live(id));
-    editor.set_read_only(id, true);
+/// Of the second buffer the second of three characters is accessible, with a marker of each type outside. The third is
+/// killed, which had a marker of each type and an overlay.
+fn furnish(rt: &impl Abort, alloc: Global, editor: &mut Editor) {
+    put_texts(rt, alloc, editor);
+    put_marks(rt, editor);
+    put_properties(rt, editor);
+    narrow(rt, editor, 1, 1, 2);
+    set_states(rt, editor);
+    kill_buffer(rt, editor, 2);
 }
 
-/// A killed buffer that had a marker of each type and an overlay.
-fn furnish_third(rt: &impl Abort, alloc: Global, editor: &mut Editor) {
-    let id = buffer(rt, alloc, editor, "w");
-    mark(rt, editor, id, 0, false);
-    mark(rt, editor, id, 0, true);
-    let k = overlay(rt, editor, id, 0);
-    put(rt, editor, k, PRIORITY, &PropVal::Int(5));
-    kill_buffer(rt, editor, id);
-    let k = overlay(rt, editor, 0, 0);
-    assert!(rt; k < editor.overlay_count());
-    editor.remove_overlay(k);
-}
-
-/// A process that has come to a status.
-fn add(rt: &impl Abort, alloc: Global, table: &mut Processes, status: Status) {
-    assert!(rt; table.count() < 9);
-    let name = table.free_name(&chars(rt, alloc, "c")).expect(rt, "a name");
-    let p = table.add(&name, 0, None, 0).expect(rt, "a process");
+fn note_end(rt: &impl Abort, table: &mut Processes, p: u32, status: Status) {
     assert!(rt; p < table.count());
     table.note_end(p, status);
 }
 
+/// A process that has come to a status.
+fn put_process(rt: &impl Abort, alloc: Global, table: &mut Processes, status: Status) {
+    let p = add_process(rt, table, &chars(rt, alloc, "c"));
+    note_end(rt, table, p, status);
+}
+
+const STATUSES: [Status; 4] = [Status::Run, Status::Exit(3), Status::Signal, Status::Failed];
+
 /// A process of each status.
 fn processes(rt: &impl Abort, alloc: Global) -> Processes {
     let mut table = Processes::new(alloc);
-    add(rt, alloc, &mut table, Status::Run);
-    add(rt, alloc, &mut table, Status::Exit(3));
-    add(rt, alloc, &mut table, Status::Signal);
-    add(rt, alloc, &mut table, Status::Failed);
+    for status in STATUSES {
+        put_process(rt, alloc, &mut table, status);
+    }
     table
 }
 
-#[test]
-fn a_dump_tells_of_all_there_is(rt: HostRuntime) {
-    let alloc = rt.alloc();
-    let symbols = Symbols::new(alloc).expect(&rt, "symbols");
-    let processes = processes(&rt, alloc);
-    let mut sink = new_sink(&rt, alloc, 2000, 2000);
-    let mut editor = Editor::new(alloc).expect(&rt, "an editor");
-    furnish_first(&rt, alloc, &mut editor);
-    furnish_second(&rt, alloc, &mut editor);
-    furnish_third(&rt, alloc, &mut editor);
-    let names = Names {
-        editor: &editor,
-        processes: &processes,
-        symbols: &symbols,
-    };
-    let written = dump(&names, &mut sink);
-    editor.close();
-    wrote(
-        &rt,
-        &sink,
-        written,
-        br#"buffer *scratch* point 3 min 1 max 3 modified nil
+const DUMP: &[u8] = br#"buffer *scratch* point 3 min 1 max 3 modified nil
 text "ab"
 buffer v\"\\\n point 3 min 2 max 3 modified t read-only current
 text #("abc" 0 1 (front-sticky (evaporate priority)) 1 2 (run "x\"\200") 2 3 (priority -5 exit signal))
@@ -160,6 +162,13 @@ process 0 #<process c> run 0
 process 1 #<process c<1>> exit 3
 process 2 #<process c<2>> signal nil
 process 3 #<process c<3>> failed nil
-"#,
-    );
+"#;
+
+#[test]
+fn a_dump_tells_of_all_there_is(rt: HostRuntime) {
+    let mut editor = Editor::new(rt.alloc()).expect(&rt, "an editor");
+    furnish(&rt, rt.alloc(), &mut editor);
+    let processes = processes(&rt, rt.alloc());
+    dumps(&rt, rt.alloc(), &editor, &processes, DUMP);
+    editor.close();
 }

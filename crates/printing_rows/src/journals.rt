@@ -1,7 +1,6 @@
 //! Journals: a line of each kind read and written back, and each refusal with its line.
 
-use crate::checking::{is, read, written};
-use journal_text::JournalFault;
+use crate::checking::{is, is_written, read, refused};
 use std::alloc::{AllocError, Global};
 use std::process::Abort;
 
@@ -36,9 +35,9 @@ fn session(rt: &impl Abort, alloc: Global, journal: &str, script: &str) -> Strin
 /// A journal is read, and written back as it was.
 fn assert_kept(rt: &impl Abort, alloc: Global, journal: &str) {
     let text = session(rt, alloc, journal, "(point)");
-    let (list, at) = read(rt, alloc, text.as_bytes()).expect(rt, "a journal");
-    is(rt, at, journal.len() + 7);
-    is(rt, written(rt, alloc, &list).bytes(), journal.as_bytes());
+    let read = read(rt, alloc, text.as_bytes()).expect(rt, "a journal");
+    is(rt, read.1, journal.len() + 7);
+    is_written(rt, alloc, &read.0, journal);
 }
 
 /// Two hexadecimal digits for each of these numbers.
@@ -79,10 +78,7 @@ fn a_journal_that_is_read_is_written_back_as_it_was(rt: HostRuntime) {
 
 /// The bytes are refused with a line.
 fn assert_refused(rt: &impl Abort, alloc: Global, text: &str, line: u32) {
-    match read(rt, alloc, text.as_bytes()) {
-        Err(fault) => assert_eq!(rt; fault, JournalFault::Line(line), "{text}"),
-        Ok(_) => panic!(rt; "it was read: {text}"),
-    }
+    refused(rt, read(rt, alloc, text.as_bytes()).err(), line, text);
 }
 
 #[test]

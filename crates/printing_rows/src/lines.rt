@@ -1,16 +1,16 @@
 //! Printing: each escape, each printed form, the lines, a dump, and a sink that fails in the middle.
 
 use crate::checking::{
-    EVAPORATE, PRIORITY, chars, fill, is, kill_buffer, make_buffer, mark, new_sink, paint, plain,
-    with, wrote,
+    EVAPORATE, PRIORITY, add_process, chars, dumps, fill, is, kill_buffer, make_buffer, mark,
+    new_sink, paint, plain, with, wrote,
 };
 use buffer_table::Editor;
 use ek_call::{Fault, Reply, Value, Values};
-use ek_types::{Ch, Chars, Mem, MemorySink, Piece, PropSet, PropVal, SinkFault, Sym, Symbols};
+use ek_types::{Ch, Chars, MemorySink, Piece, PropSet, PropVal, SinkFault, Sym, Symbols};
 use process_table::Processes;
 use std::alloc::Global;
 use std::process::Abort;
-use trace_print::{Kind, Names, dump, entry, exit, kill, reply};
+use trace_print::{Kind, Names, entry, exit, kill, reply};
 
 /// A string in which the properties change at each character.
 fn decorated(rt: &impl Abort, alloc: Global) -> Piece {
@@ -34,28 +34,60 @@ fn pair(rt: &impl Abort, alloc: Global) -> Value {
     Value::Dot(front, end)
 }
 
+/// Three values by themselves, two strings and a list.
+fn push_whole(rt: &impl Abort, alloc: Global, list: &mut Values) {
+    push(rt, list, Value::Nil);
+    push(rt, list, Value::T);
+    push(rt, list, Value::Sym(EVAPORATE));
+    push(rt, list, Value::Str(decorated(rt, alloc)));
+    push(rt, list, Value::Str(plain(rt, alloc, "")));
+    push(rt, list, pair(rt, alloc));
+}
+
+/// Values that name something or nothing.
+fn push_names(rt: &impl Abort, list: &mut Values) {
+    push(rt, list, Value::Buffer(0));
+    push(rt, list, Value::Buffer(9));
+    push(rt, list, Value::Marker(9));
+    push(rt, list, Value::Overlay(9));
+    push(rt, list, Value::Process(0));
+}
+
 /// A list of each kind of value, of which some name nothing.
 fn one_of_each(rt: &impl Abort, alloc: Global) -> Values {
     let mut list = Values::new(alloc);
-    push(rt, &mut list, Value::Nil);
-    push(rt, &mut list, Value::T);
-    push(rt, &mut list, Value::Sym(EVAPORATE));
-    push(rt, &mut list, Value::Str(decorated(rt, alloc)));
-    push(rt, &mut list, Value::Str(plain(rt, alloc, "")));
-    push(rt, &mut list, pair(rt, alloc));
-    push(rt, &mut list, Value::Buffer(0));
-    push(rt, &mut list, Value::Buffer(9));
-    push(rt, &mut list, Value::Marker(9));
-    push(rt, &mut list, Value::Overlay(9));
-    push(rt, &mut list, Value::Process(0));
+    push_whole(rt, alloc, &mut list);
+    push_names(rt, &mut list);
     list
 }
 
 fn one_process(rt: &impl Abort, alloc: Global) -> Processes {
-    let name = chars(rt, alloc, "c");
     let mut processes = Processes::new(alloc);
-    processes.add(&name, 0, None, 0).expect(rt, "a process");
+    add_process(rt, &mut processes, &chars(rt, alloc, "c"));
     processes
+}
+
+/// Writes a reply, where there is no process.
+fn put_reply(
+    rt: &impl Abort,
+    alloc: Global,
+    editor: &Editor,
+    told: &Reply,
+    sink: &mut MemorySink,
+) -> Result<(), SinkFault> {
+    let symbols = Symbols::new(alloc).expect(rt, "symbols");
+    let processes = Processes::new(alloc);
+    let names = Names {
+        editor,
+        processes: &processes,
+        symbols: &symbols,
+    };
+    reply(0, told, &names, sink)
+}
+
+/// The reply that is this string.
+fn string(rt: &impl Abort, alloc: Global, text: Chars) -> Reply {
+    Reply::Value(Value::Str(Piece::plain(alloc, text).expect(rt, "a piece")))
 }
 
 /// Writes the reply that is this string.
@@ -65,28 +97,24 @@ fn tell(
     text: Chars,
     sink: &mut MemorySink,
 ) -> Result<(), SinkFault> {
-    let symbols = Symbols::new(alloc).expect(rt, "symbols");
-    let processes = Processes::new(alloc);
+    let told = string(rt, alloc, text);
     let editor = Editor::new(alloc).expect(rt, "an editor");
-    let names = Names {
-        editor: &editor,
-        processes: &processes,
-        symbols: &symbols,
-    };
-    let text = Piece::plain(alloc, text).expect(rt, "a piece");
-    let told = Reply::Value(Value::Str(text));
-    let written = reply(0, &told, &names, sink);
+    let written = put_reply(rt, alloc, &editor, &told, sink);
     editor.close();
     written
 }
 
 /// Characters of each kind that strings escape, and some that they don't.
+fn escaped(rt: &impl Abort, alloc: Global) -> Chars {
+    let mut text = chars(rt, alloc, "a\"\\\n\t\u{1}\u{7F}é€");
+    text.push(Ch::Raw(0xFF)).expect(rt, "a character");
+    text
+}
+
 #[test]
 fn each_escape_is_written(rt: HostRuntime) {
-    let mut text = chars(&rt, rt.alloc(), "a\"\\\n\t\u{1}\u{7F}é€");
-    text.push(Ch::Raw(0xFF)).expect(&rt, "a character");
     let mut sink = new_sink(&rt, rt.alloc(), 100, 7);
-    let written = tell(&rt, rt.alloc(), text, &mut sink);
+    let written = tell(&rt, rt.alloc(), escaped(&rt, rt.alloc()), &mut sink);
     wrote(
         &rt,
         &sink,
@@ -96,16 +124,15 @@ fn each_escape_is_written(rt: HostRuntime) {
 }
 
 /// A control character or raw byte as it is written: a mark and three octal digits.
-fn put_octal(bytes: &mut Vec<u8>, byte: u8) -> Mem<()> {
+fn put_octal(rt: &impl Abort, bytes: &mut Vec<u8>, byte: u8) {
     for digit in [
         b'\\',
         b'0' + byte / 64,
         b'0' + byte / 8 % 8,
         b'0' + byte % 8,
     ] {
-        bytes.push(digit)?;
+        bytes.push(digit).expect(rt, "a digit");
     }
-    Ok(())
 }
 
 /// Whether a code is that of a control character which strings write in octal.
@@ -114,25 +141,31 @@ fn is_control(code: u8) -> bool {
 }
 
 /// All control characters but the tab and the line feed, and all raw bytes, as characters and as they are written.
-fn put_all_octal(text: &mut Chars, written: &mut Vec<u8>) -> Mem<()> {
+fn put_all_octal(rt: &impl Abort, text: &mut Chars, written: &mut Vec<u8>) {
     for code in 0u8..=255 {
         if code >= 0x80 {
-            text.push(Ch::Raw(code))?;
-            put_octal(written, code)?;
+            text.push(Ch::Raw(code)).expect(rt, "a character");
+            put_octal(rt, written, code);
         } else if is_control(code) {
-            text.push(Ch::Scalar(char::from(code)))?;
-            put_octal(written, code)?;
+            text.push(Ch::Scalar(char::from(code)))
+                .expect(rt, "a character");
+            put_octal(rt, written, code);
         }
     }
-    Ok(())
+}
+
+/// What is written of these characters.
+fn all_octal(rt: &impl Abort, alloc: Global, text: &mut Chars) -> Vec<u8> {
+    let mut written = b"= \"".to_vec(alloc).expect(rt, "a text");
+    put_all_octal(rt, text, &mut written);
+    written.extend_from_slice(b"\"\n").expect(rt, "a text");
+    written
 }
 
 #[test]
 fn control_characters_and_raw_bytes_are_written_in_octal(rt: HostRuntime) {
     let mut text = Chars::new(rt.alloc());
-    let mut expected = b"= \"".to_vec(rt.alloc()).expect(&rt, "a text");
-    put_all_octal(&mut text, &mut expected).expect(&rt, "a text");
-    expected.extend_from_slice(b"\"\n").expect(&rt, "a text");
+    let expected = all_octal(&rt, rt.alloc(), &mut text);
     let mut sink = new_sink(&rt, rt.alloc(), 1000, 1000);
     let written = tell(&rt, rt.alloc(), text, &mut sink);
     wrote(&rt, &sink, written, expected.as_slice());
@@ -140,41 +173,67 @@ fn control_characters_and_raw_bytes_are_written_in_octal(rt: HostRuntime) {
 
 /// The sink has a front of the reply, and no more than a part of it.
 fn has_front(rt: &impl Abort, sink: &MemorySink) {
-    assert!(rt; sink.bytes().starts_with(b"= \"aaa"));
-    assert!(rt; sink.bytes().len() < 1000);
+    is(rt, sink.bytes().starts_with(b"= \"aaa"), true);
+    is(rt, sink.bytes().len() < 1000, true);
 }
 
-/// The sink fails at its second call alone, and the text is longer than what is written in some calls.
+/// A text longer than what is written in some calls.
+fn long_text(rt: &impl Abort, alloc: Global) -> Chars {
+    let text = "a".repeat(alloc, 3000).expect(rt, "a text");
+    chars(rt, alloc, text.as_str())
+}
+
+/// A sink that fails at its second call alone.
+fn failing_sink(rt: &impl Abort, alloc: Global) -> MemorySink {
+    let fails = vec![in alloc; 1].expect(rt, "a list");
+    MemorySink::new(alloc, 4000, 4000, fails).expect(rt, "a sink")
+}
+
 #[test]
 fn nothing_is_written_behind_a_failure(rt: HostRuntime) {
-    let alloc = rt.alloc();
-    let text = "a".repeat(alloc, 3000).expect(&rt, "a text");
-    let text = chars(&rt, alloc, text.as_str());
-    let fails = vec![in alloc; 1].expect(&rt, "a list");
-    let mut sink = MemorySink::new(alloc, 4000, 4000, fails).expect(&rt, "a sink");
-    let written = tell(&rt, alloc, text, &mut sink);
+    let mut sink = failing_sink(&rt, rt.alloc());
+    let written = tell(&rt, rt.alloc(), long_text(&rt, rt.alloc()), &mut sink);
     is(&rt, written, Err(SinkFault));
     has_front(&rt, &sink);
 }
 
-/// A line of each kind, of which two tell this reply and nil.
-fn lines(
+/// A handler is entered without arguments.
+fn enter(
+    rt: &impl Abort,
+    depth: u32,
+    kind: Kind,
+    handler: Option<Sym>,
     names: &Names,
-    told: &Reply,
-    nil: &Reply,
-    none: &Values,
     sink: &mut MemorySink,
-) -> Result<(), SinkFault> {
-    reply(1, told, names, sink)?;
-    reply(2, &Reply::Fault(Fault::BufferKilled), names, sink)?;
-    entry(0, Kind::Sentinel, Some(EVAPORATE), none, names, sink)?;
-    entry(1, Kind::After, None, none, names, sink)?;
-    exit(1, None, names, sink)?;
-    exit(0, Some(EVAPORATE), names, sink)?;
-    kill(0, names, sink)?;
-    reply(17, nil, names, sink)?;
-    entry(16, Kind::Filter, None, none, names, sink)?;
-    exit(16, None, names, sink)
+) {
+    let none = Values::new(names.editor.allocator());
+    entry(depth, kind, handler, &none, names, sink).expect(rt, "a line");
+}
+
+fn leave(rt: &impl Abort, depth: u32, handler: Option<Sym>, names: &Names, sink: &mut MemorySink) {
+    exit(depth, handler, names, sink).expect(rt, "a line");
+}
+
+fn answer(rt: &impl Abort, depth: u32, told: Reply, names: &Names, sink: &mut MemorySink) {
+    reply(depth, &told, names, sink).expect(rt, "a line");
+}
+
+/// A line of each kind, of which one tells this reply.
+fn put_lines(rt: &impl Abort, told: Reply, names: &Names, sink: &mut MemorySink) {
+    answer(rt, 1, told, names, sink);
+    answer(rt, 2, Reply::Fault(Fault::BufferKilled), names, sink);
+    enter(rt, 0, Kind::Sentinel, Some(EVAPORATE), names, sink);
+    enter(rt, 1, Kind::After, None, names, sink);
+    leave(rt, 1, None, names, sink);
+    leave(rt, 0, Some(EVAPORATE), names, sink);
+}
+
+/// A line about a process, and lines at the deepest margin.
+fn put_more_lines(rt: &impl Abort, names: &Names, sink: &mut MemorySink) {
+    kill(0, names, sink).expect(rt, "a line");
+    answer(rt, 17, Reply::Value(Value::Nil), names, sink);
+    enter(rt, 16, Kind::Filter, None, names, sink);
+    leave(rt, 16, None, names, sink);
 }
 
 const PRINTED: &str = concat!(
@@ -193,24 +252,27 @@ kill #<process c>
 ",
 );
 
-#[test]
-fn each_form_and_each_line_is_printed(rt: HostRuntime) {
-    let alloc = rt.alloc();
-    let told = Reply::Value(Value::List(one_of_each(&rt, alloc)));
-    let nil = Reply::Value(Value::Nil);
-    let none = Values::new(alloc);
-    let symbols = Symbols::new(alloc).expect(&rt, "symbols");
-    let processes = one_process(&rt, alloc);
-    let mut sink = new_sink(&rt, alloc, 1000, 1000);
-    let editor = Editor::new(alloc).expect(&rt, "an editor");
+/// Each form and each line, where there is one process.
+fn print(rt: &impl Abort, alloc: Global, editor: &Editor, sink: &mut MemorySink) {
+    let symbols = Symbols::new(alloc).expect(rt, "symbols");
+    let processes = one_process(rt, alloc);
     let names = Names {
-        editor: &editor,
+        editor,
         processes: &processes,
         symbols: &symbols,
     };
-    let written = lines(&names, &told, &nil, &none, &mut sink);
+    let told = Reply::Value(Value::List(one_of_each(rt, alloc)));
+    put_lines(rt, told, &names, sink);
+    put_more_lines(rt, &names, sink);
+}
+
+#[test]
+fn each_form_and_each_line_is_printed(rt: HostRuntime) {
+    let editor = Editor::new(rt.alloc()).expect(&rt, "an editor");
+    let mut sink = new_sink(&rt, rt.alloc(), 1000, 1000);
+    print(&rt, rt.alloc(), &editor, &mut sink);
     editor.close();
-    wrote(&rt, &sink, written, PRINTED.as_bytes());
+    is(&rt, sink.bytes(), PRINTED.as_bytes());
 }
 
 /// A second buffer with a marker, killed.
@@ -227,32 +289,20 @@ fn fill_first(rt: &impl Abort, alloc: Global, editor: &mut Editor) {
     mark(rt, editor, 0, 1, true);
 }
 
-#[test]
-fn a_small_dump_tells_of_its_text_markers_and_process(rt: HostRuntime) {
-    let alloc = rt.alloc();
-    let symbols = Symbols::new(alloc).expect(&rt, "symbols");
-    let processes = one_process(&rt, alloc);
-    let mut sink = new_sink(&rt, alloc, 1000, 1000);
-    let mut editor = Editor::new(alloc).expect(&rt, "an editor");
-    fill_first(&rt, alloc, &mut editor);
-    kill_second(&rt, alloc, &mut editor);
-    let names = Names {
-        editor: &editor,
-        processes: &processes,
-        symbols: &symbols,
-    };
-    let written = dump(&names, &mut sink);
-    editor.close();
-    wrote(
-        &rt,
-        &sink,
-        written,
-        b"buffer *scratch* point 4 min 1 max 4 modified t current
+const SMALL: &[u8] = b"buffer *scratch* point 4 min 1 max 4 modified t current
 text #(\"abc\" 0 1 (priority 5) 1 2 (evaporate t priority 5))
 marker 0 #<marker at 4 in *scratch*>
 marker 1 #<marker (moves after insertion) at 2 in *scratch*>
 marker 2 #<marker (moves after insertion) in no buffer>
 process 0 #<process c> run 0
-",
-    );
+";
+
+#[test]
+fn a_small_dump_tells_of_its_text_markers_and_process(rt: HostRuntime) {
+    let mut editor = Editor::new(rt.alloc()).expect(&rt, "an editor");
+    fill_first(&rt, rt.alloc(), &mut editor);
+    kill_second(&rt, rt.alloc(), &mut editor);
+    let processes = one_process(&rt, rt.alloc());
+    dumps(&rt, rt.alloc(), &editor, &processes, SMALL);
+    editor.close();
 }

@@ -1,7 +1,7 @@
 //! Replays that follow their list, and that stray from it.
 ghost use Rattle.std.specs.Prelude.{◌≡◌, []};
 
-use crate::checking::{is, read, written};
+use crate::checking::{is, is_written, read};
 use ek_types::Mem;
 use host_link::{Host, Spawned};
 use journal_text::Replay;
@@ -48,12 +48,10 @@ fn assert_told(
     strayed: bool,
     told: &str,
 ) {
-    assert_eq!(rt; replay.matched(), matched);
-    assert_eq!(rt; replay.strayed(), strayed);
-    let Some(list) = replay.told() else {
-        panic!(rt; "it tells nothing");
-    };
-    is(rt, written(rt, alloc, list).bytes(), told.as_bytes());
+    is(rt, replay.matched(), matched);
+    is(rt, replay.strayed(), strayed);
+    let list = replay.told().expect(rt, "it tells");
+    is_written(rt, alloc, list, told);
 }
 
 /// What `run` comes to over the replay of a session.

@@ -3,7 +3,7 @@ ghost use Rattle.std.specs.Prelude.{IfOk};
 ghost use Rattle.host_link.specs.Meaning.{exchanges_of};
 ghost use Rattle.journal_text.specs.Allowed.{AreAnswered};
 
-use crate::checking::{is, written};
+use crate::checking::{is, is_written, refused};
 use journal_text::{JournalFault, LONGEST_SESSION, Transcript, read_transcript};
 use std::alloc::Global;
 use std::process::Abort;
@@ -23,29 +23,34 @@ fn read(rt: &impl Abort, alloc: Global, text: &str) -> Result<Transcript, Journa
     read_transcript(alloc, bytes)
 }
 
+/// A text has these parts behind one another, as it was read.
+fn are_parts(rt: &impl Abort, text: &[u8], found: &Transcript, lines: &str, script: &str) {
+    is(rt, text.get(found.from..found.to), Some(lines.as_bytes()));
+    let rest = text.get(found.script..text.len());
+    is(rt, rest, Some(script.as_bytes()));
+}
+
 /// The text has these parts behind one another.
 fn assert_parts(rt: &impl Abort, alloc: Global, text: &str, lines: &str, script: &str) {
-    let Ok(found) = read(rt, alloc, text) else {
-        panic!(rt; "no transcript");
-    };
-    let bytes = text.as_bytes();
-    assert_eq!(rt; bytes.get(found.from..found.to), Some(lines.as_bytes()));
-    assert_eq!(rt;
-        bytes.get(found.script..bytes.len()),
-        Some(script.as_bytes())
-    );
+    let found = read(rt, alloc, text).expect(rt, "a transcript");
+    are_parts(rt, text.as_bytes(), &found, lines, script);
 }
+
+const WHOLE: &str = "spawn 636174 -> started 0
+read 0 -> bytes 6162
+read 0 -> end
+end 0 -> code 0
+lines 8
+= t
+= 1
+script
+(point)";
 
 #[test]
 fn a_transcript_is_read_as_its_parts(rt: HostRuntime) {
-    let alloc = rt.alloc();
-    let mut text = String::from_str(alloc, JOURNAL).expect(&rt, "a text");
-    text.push_str("lines 8\n= t\n= 1\nscript\n(point)")
-        .expect(&rt, "a text");
-    assert_parts(&rt, alloc, text.as_str(), "= t\n= 1\n", "(point)");
-    let found = read(&rt, alloc, text.as_str()).expect(&rt, "a transcript");
-    let journal = written(&rt, alloc, &found.journal);
-    is(&rt, journal.bytes(), JOURNAL.as_bytes());
+    let found = read(&rt, rt.alloc(), WHOLE).expect(&rt, "a transcript");
+    are_parts(&rt, WHOLE.as_bytes(), &found, "= t\n= 1\n", "(point)");
+    is_written(&rt, rt.alloc(), &found.journal, JOURNAL);
 }
 
 #[test]
@@ -58,10 +63,7 @@ fn claims_that_are_empty_or_end_within_a_line_are_read(rt: HostRuntime) {
 
 /// The text is refused with a line.
 fn assert_refused(rt: &impl Abort, alloc: Global, text: &str, line: u32) {
-    match read(rt, alloc, text) {
-        Err(fault) => assert_eq!(rt; fault, JournalFault::Line(line), "{text}"),
-        Ok(_) => panic!(rt; "it was read: {text}"),
-    }
+    refused(rt, read(rt, alloc, text).err(), line, text);
 }
 
 /// A text that is no transcript, and the line that is refused.

@@ -48,8 +48,8 @@ fn put_string(rt: &impl Abort, alloc: Global, editor: &mut Editor, k: u32, name:
 /// An overlay of the first buffer.
 fn overlay(rt: &impl Abort, editor: &mut Editor, start: usize, end: usize) -> u32 {
     let size = editor.size(0);
-    assert!(rt; editor.overlay_count() < 99 && editor.is_live(0));
-    assert!(rt; start <= end && end <= size);
+    let fits = editor.is_live(0) && start <= end && end <= size;
+    assert!(rt; editor.overlay_count() < 99 && fits);
     editor
         .make_overlay(0, start, end, false, false)
         .expect(rt, "an overlay")
@@ -105,13 +105,17 @@ fn view_first(rt: &impl Abort, editor: &Editor, sink: &mut MemorySink) -> Result
     view(editor, 0, sink)
 }
 
+/// What is seen of the first buffer is what a row says.
+fn is_seen(rt: &impl Abort, alloc: Global, editor: &Editor, row: &Row) {
+    let mut sink = new_sink(rt, alloc, 99, 2);
+    view_first(rt, editor, &mut sink).expect(rt, row.shows);
+    assert_eq!(rt; sink.bytes(), row.seen.as_bytes(), "{}", row.shows);
+}
+
 fn check(rt: &impl Abort, alloc: Global, row: &Row) {
     let editor = furnished(rt, alloc, row);
-    let mut sink = new_sink(rt, alloc, 99, 2);
-    let written = view_first(rt, &editor, &mut sink);
+    is_seen(rt, alloc, &editor, row);
     editor.close();
-    written.expect(rt, row.shows);
-    assert_eq!(rt; sink.bytes(), row.seen.as_bytes(), "{}", row.shows);
 }
 
 const HIDDEN_LETTERS: Row = Row {
@@ -358,48 +362,50 @@ fn each_row_is_seen_as_it_says(rt: HostRuntime) {
     }
 }
 
-/// Characters of one to four bytes and a raw byte; a value that is no string isn't shown.
+/// Characters of one to four bytes and a raw byte.
+fn of_all_lengths(rt: &impl Abort, alloc: Global) -> Piece {
+    let mut text = chars(rt, alloc, "aé€😀");
+    text.push(Ch::Raw(0xFF)).expect(rt, "room");
+    Piece::plain(alloc, text).expect(rt, "a piece")
+}
+
+/// An overlay whose strings are given as values that are none.
+fn put_others(rt: &impl Abort, editor: &mut Editor) {
+    let k = overlay(rt, editor, 0, 1);
+    put(rt, editor, k, BEFORE_STRING, &PropVal::Int(7));
+    put(rt, editor, k, AFTER_STRING, &PropVal::Truth);
+}
+
+/// A view of the first buffer, in pieces of at most three bytes, is this.
+fn views(rt: &impl Abort, alloc: Global, editor: &Editor, bytes: &[u8]) {
+    let mut sink = new_sink(rt, alloc, 99, 3);
+    let written = view_first(rt, editor, &mut sink);
+    wrote(rt, &sink, written, bytes);
+}
+
+const SEEN: &[u8] = b"a\xC3\xA9\xE2\x82\xAC\xF0\x9F\x98\x80\xFF";
+
+/// A value that is no string isn't shown.
 #[test]
 fn characters_of_all_lengths_are_seen_and_other_values_are_not(rt: HostRuntime) {
-    let alloc = rt.alloc();
-    let mut editor = Editor::new(alloc).expect(&rt, "an editor");
-    let mut text = chars(&rt, alloc, "aé€😀");
-    text.push(Ch::Raw(0xFF)).expect(&rt, "room");
-    let text = Piece::plain(alloc, text).expect(&rt, "a piece");
+    let mut editor = Editor::new(rt.alloc()).expect(&rt, "an editor");
+    let text = of_all_lengths(&rt, rt.alloc());
     fill(&rt, &mut editor, 0, &text);
-    lay(
-        &rt,
-        alloc,
-        &mut editor,
-        &Laid {
-            start: 0,
-            end: 1,
-            priority: 0,
-            before: "",
-            after: "",
-            hides: false,
-        },
-    );
-    put(&rt, &mut editor, 0, BEFORE_STRING, &PropVal::Int(7));
-    put(&rt, &mut editor, 0, AFTER_STRING, &PropVal::Truth);
-    let mut sink = new_sink(&rt, alloc, 99, 3);
-    let written = view_first(&rt, &editor, &mut sink);
+    put_others(&rt, &mut editor);
+    views(&rt, rt.alloc(), &editor, SEEN);
     editor.close();
-    wrote(
-        &rt,
-        &sink,
-        written,
-        b"a\xC3\xA9\xE2\x82\xAC\xF0\x9F\x98\x80\xFF",
-    );
+}
+
+/// A sink with too little room has a front of a view.
+fn fails(rt: &impl Abort, alloc: Global, editor: &Editor, front: &[u8]) {
+    let mut sink = new_sink(rt, alloc, front.len(), 2);
+    is(rt, view_first(rt, editor, &mut sink), Err(ViewFault::Sink));
+    is(rt, sink.bytes(), front);
 }
 
 #[test]
 fn a_sink_that_fails_has_a_front(rt: HostRuntime) {
-    let alloc = rt.alloc();
-    let editor = furnished(&rt, alloc, &HIDDEN_LETTERS);
-    let mut sink = new_sink(&rt, alloc, 4, 2);
-    let written = view_first(&rt, &editor, &mut sink);
+    let editor = furnished(&rt, rt.alloc(), &HIDDEN_LETTERS);
+    fails(&rt, rt.alloc(), &editor, b"ad[e");
     editor.close();
-    is(&rt, written, Err(ViewFault::Sink));
-    is(&rt, sink.bytes(), b"ad[e".as_slice());
 }
