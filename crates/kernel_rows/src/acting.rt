@@ -8,6 +8,7 @@ ghost use Rattle.handler_code.specs.Calls.{asked_of, call_asked};
 use ek_call::{Replies, Values};
 use ek_types::{Copied, Mem};
 use handler_code::{NativeCall, Natives, Next};
+use std::alloc::Global;
 use std::process::Abort;
 
 /// A native: its name, and the calls that it makes.
@@ -29,6 +30,13 @@ impl InTurn {
         requires { vec_len list ≤ 65536 }
     {
         InTurn { list }
+    }
+
+    /// No natives.
+    pub fn none(alloc: Global) -> InTurn {
+        InTurn {
+            list: Vec::new(alloc),
+        }
     }
 }
 

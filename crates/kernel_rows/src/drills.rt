@@ -1,8 +1,8 @@
 //! Drills.
 
+use super::acting::InTurn;
 use super::comparing::ends_with;
 use super::playing::{PLAIN, Ran, Setting, run_over, run_words};
-use handler_code::NoNatives;
 use kernel_top::{Status, drill};
 use std::alloc::Global;
 use std::process::Abort;
@@ -35,7 +35,8 @@ const ROWS: [Row; 3] = [
 /// Runs a drill of so many lines over its own host.
 fn run_drill(rt: &impl Abort, alloc: Global, word: &str, lines: u32, setting: Setting) -> Ran {
     let (_, host) = drill(alloc, lines).expect(rt, "memory");
-    run_over(rt, alloc, &["drill", word], "(", host, setting, &NoNatives)
+    let natives = InTurn::none(alloc);
+    run_over(rt, alloc, &["drill", word], "(", host, setting, &natives)
 }
 
 /// How a drill ended, and what it wrote.

@@ -1,6 +1,7 @@
 //! Each call of the source, the sink and the host fails in turn, over all runs that are worked out
 //! here.
 
+use super::acting::InTurn;
 use super::comparing::{holds_for, is_for, is_refused};
 use super::playing::{
     Calls, Child, PLAIN, Ran, Row, Run, Setting, TO_RUN, UNREAD, check_ran, plays, run_over,
@@ -8,7 +9,6 @@ use super::playing::{
 };
 use super::runs::all;
 use super::shown::shown_one;
-use handler_code::NoNatives;
 use host_link::{Answer, Ask, Ended, Exchange, Exchanges, MemoryHost};
 use kernel_top::Status;
 use std::alloc::Global;
@@ -492,7 +492,8 @@ fn check_hostile(rt: &impl Abort, alloc: Global, hostile: &Hostile) {
     let row = &hostile.row;
     let fails = hostile.fails.to_vec(alloc).expect(rt, "memory");
     let host = MemoryHost::new(plays(rt, alloc, row.children), fails);
-    let ran = run_over(rt, alloc, &TO_RUN, row.script, host, PLAIN, &NoNatives);
+    let natives = InTurn::none(alloc);
+    let ran = run_over(rt, alloc, &TO_RUN, row.script, host, PLAIN, &natives);
     check_ran(rt, alloc, row.shows, &ran, row.lines, row.exchanges);
 }
 

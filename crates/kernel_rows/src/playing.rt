@@ -1,10 +1,10 @@
 //! A run over a source, a sink and a host in memory.
 ghost use Rattle.std.specs.Prelude.{◌≡◌, []};
 
+use super::acting::InTurn;
 use super::comparing::is_for;
 use super::shown::shown;
 use ek_types::{Copied, ListOf, MemorySink, MemorySource};
-use handler_code::{Natives, NoNatives};
 use host_link::{Answer, Answers, Ended, Exchanges, Host, MemoryHost, Play};
 use kernel_top::{Status, run};
 use std::alloc::Global;
@@ -169,14 +169,14 @@ pub const TO_RUN: [&str; 1] = ["run"];
 pub const TO_RECORD: [&str; 1] = ["record"];
 
 /// Runs these words of the command line over a host that has started no child, with these natives.
-pub fn run_over<N: Natives>(
+pub fn run_over(
     rt: &impl Abort,
     alloc: Global,
     words: &[&str],
     script: &str,
     mut host: MemoryHost,
     setting: Setting,
-    natives: &N,
+    natives: &InTurn,
 ) -> Ran
     requires kills { host.kills ≡ [] }
     requires told { host.told ≡ [] }
@@ -209,14 +209,14 @@ pub fn run_over<N: Natives>(
 }
 
 /// Runs a script by these words of the command line, with these natives.
-pub fn run_natives<N: Natives>(
+pub fn run_natives(
     rt: &impl Abort,
     alloc: Global,
     words: &[&str],
     script: &str,
     plays: Vec<Play>,
     setting: Setting,
-    natives: &N,
+    natives: &InTurn,
 ) -> Ran {
     let host = MemoryHost::new(plays, failing(rt, alloc, setting.host_fails));
     run_over(rt, alloc, words, script, host, setting, natives)
@@ -231,7 +231,15 @@ pub fn run_words(
     plays: Vec<Play>,
     setting: Setting,
 ) -> Ran {
-    run_natives(rt, alloc, words, script, plays, setting, &NoNatives)
+    run_natives(
+        rt,
+        alloc,
+        words,
+        script,
+        plays,
+        setting,
+        &InTurn::none(alloc),
+    )
 }
 
 /// Runs a script.
