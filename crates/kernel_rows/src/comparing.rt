@@ -6,6 +6,15 @@ use kernel_top::Status;
 use std::fmt::Debug;
 use std::process::Abort;
 
+/// What was found is what was expected.
+pub fn is<T: PartialEq + Debug + Drop>(rt: &impl Abort, found: T, expected: T) {
+    assert_eq!(rt; found, expected);
+}
+
+pub fn holds(rt: &impl Abort, condition: bool) {
+    assert!(rt; condition);
+}
+
 /// What was found is what was expected, of what a row shows.
 pub fn is_for<T: PartialEq + Debug + Drop>(rt: &impl Abort, shows: &str, found: T, expected: T) {
     assert_eq!(rt; found, expected, "{shows}");

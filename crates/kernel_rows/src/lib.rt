@@ -48,6 +48,8 @@ mod shown;
 #[cfg(test)]
 mod stops;
 #[cfg(test)]
+mod system;
+#[cfg(test)]
 mod texts;
 #[cfg(test)]
 mod undos;

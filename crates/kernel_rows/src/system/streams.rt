@@ -1,7 +1,7 @@
 //! Sources over readers and sinks over writers, also where a call is interrupted.
 ghost use Rattle.std.specs.Prelude.{◌≤◌, IfOk};
 
-use super::comparing::is;
+use crate::comparing::is;
 use ek_types::{Sink, SinkFault, Source, Took, Wrote, write_all};
 use std::io::{self, Error, ErrorKind, Read, Write};
 use system_host::{ReaderSource, WriterSink};

@@ -1,6 +1,6 @@
 //! The line and the exit status of each failure.
 
-use super::comparing::{is, is_for};
+use crate::comparing::{is, is_for};
 use kernel_top::Status;
 use shipped_run::result_of;
 use std::alloc::Global;

@@ -1,7 +1,7 @@
 //! Real children: what is heard of them, how they end, and what they are no longer asked.
 ghost use Rattle.std.specs.Prelude.{◌≡◌, ◌<◌, ◌-◌, ◌^◌, length, IfOk};
 
-use super::comparing::{holds, is, is_for};
+use crate::comparing::{holds, is, is_for};
 use ek_types::Mem;
 use host_link::{Ended, Got, Host, KillAnswer, SendAnswer, Spawned};
 use std::alloc::{AllocError, Global};

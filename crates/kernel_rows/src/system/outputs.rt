@@ -1,6 +1,6 @@
 //! When lines are kept back, and when they are handed on.
 
-use super::comparing::{holds, is};
+use crate::comparing::{holds, is};
 use std::cell::Cell;
 use std::io::{self, Error, ErrorKind, Write};
 use std::test::Fail;

@@ -1,5 +1,5 @@
 use Rattle.std.proofs.Common.{◌≡◌, ◌<◌, length}
-use Rattle.system_rows.proofs.children.output_size.Given as goal
+use Rattle.kernel_rows.proofs.system.children.output_size.Given as goal
 
 abbrev pub invariant-loop : goal.invariant-loop
 invariant-loop g l = record {

@@ -1,9 +1,8 @@
-//! Whole runs with the shipped handlers, over children in memory and over real ones.
-ghost use Rattle.std.specs.Prelude.{◌≡◌, ◌^◌, ◌≤◌, [], Some, length, IfOk};
+//! Whole runs with the shipped handlers, over real children.
 
-use super::comparing::{holds, is};
-use ek_types::{ListOf, Mem, MemorySink, MemorySource};
-use host_link::{Answer, Answers, Host, MemoryHost, Play, Recorder};
+use crate::comparing::{holds, is};
+use ek_types::{MemorySink, MemorySource};
+use host_link::Recorder;
 use kernel_top::Status;
 use shipped_run::run_shipped;
 use std::alloc::Global;
@@ -28,31 +27,7 @@ fn given(rt: &impl Abort, alloc: Global, words: &[&str]) -> Vec<String> {
     given
 }
 
-/// What some words with the shipped handlers write for some bytes, over a host that has started no child.
-fn written_by<H: Host>(
-    rt: &impl Abort,
-    alloc: Global,
-    words: &[&str],
-    bytes: &[u8],
-    host: &mut H,
-) -> Wrote
-    requires few { length (H.state host.old).kills ≤ 2 ^ 31 }
-    requires told { (H.state host.old).told ≡ Some [] }
-{
-    let given = given(rt, alloc, words);
-    let bytes = bytes.to_vec(alloc).expect(rt, "memory");
-    let mut source = MemorySource::new(bytes, 1000, Vec::new(alloc));
-    let mut sink = MemorySink::new(alloc, 4_000_000, 1000, Vec::new(alloc)).expect(rt, "memory");
-    let status = run_shipped(alloc, given.as_slice(), &mut source, &mut sink, host).expect(
-        rt, "memory",
-    );
-    Wrote {
-        status,
-        bytes: sink.bytes().to_vec(alloc).expect(rt, "memory"),
-    }
-}
-
-/// What some words write over real children.
+/// What some words with the shipped handlers write for some bytes, over real children.
 fn written_with<R: Processes + Abort>(
     rt: &R,
     alloc: Global,
@@ -61,47 +36,22 @@ fn written_with<R: Processes + Abort>(
 ) -> Wrote {
     let nowhere = Output::new(alloc, io::sink()).expect(rt, "an output");
     let mut host = Recorder::new(alloc, RealHost::new(alloc, rt, &nowhere));
-    written_by(rt, alloc, words, bytes, &mut host)
+    let given = given(rt, alloc, words);
+    let bytes = bytes.to_vec(alloc).expect(rt, "memory");
+    let mut source = MemorySource::new(bytes, 1000, Vec::new(alloc));
+    let mut sink = MemorySink::new(alloc, 4_000_000, 1000, Vec::new(alloc)).expect(rt, "memory");
+    let status = run_shipped(alloc, given.as_slice(), &mut source, &mut sink, &mut host).expect(
+        rt, "memory",
+    );
+    Wrote {
+        status,
+        bytes: sink.bytes().to_vec(alloc).expect(rt, "memory"),
+    }
 }
 
 /// What a run with real children writes.
 fn written<R: Processes + Abort>(rt: &R, alloc: Global, script: &str) -> Wrote {
     written_with(rt, alloc, &["run"], script.as_bytes())
-}
-
-/// What a run writes over one child.
-fn written_over(rt: &impl Abort, alloc: Global, pieces: &[&[u8]], script: &str) -> Wrote {
-    let mut host = one_child(alloc, pieces).expect(rt, "memory");
-    written_by(rt, alloc, &["run"], script.as_bytes(), &mut host)
-}
-
-/// One child whose reads give these bytes. Then its output has ended, and so has the child, with code 0.
-fn one_child(alloc: Global, pieces: &[&[u8]]) -> Mem<MemoryHost>
-    ensures kills { IfOk result (λ host. host.kills ≡ []) }
-    ensures told { IfOk result (λ host. host.told ≡ []) }
-{
-    let mut reads = ListOf::new(alloc);
-    push_reads(alloc, pieces, &mut reads)?;
-    let ends = ListOf::new(alloc);
-    let mut plays = Vec::new(alloc);
-    plays.push(Play { reads, ends })?;
-    Ok(MemoryHost::new(plays, Vec::new(alloc)))
-}
-
-fn push_reads(alloc: Global, pieces: &[&[u8]], reads: &mut Answers) -> Mem<()> {
-    for piece in pieces {
-        let mut heard = ListOf::new(alloc);
-        push_bytes(piece, &mut heard)?;
-        reads.push(Answer::Bytes(heard))?;
-    }
-    Ok(())
-}
-
-fn push_bytes(piece: &[u8], heard: &mut ListOf<u8>) -> Mem<()> {
-    for byte in piece {
-        heard.push(*byte)?;
-    }
-    Ok(())
 }
 
 /// The run is done.
@@ -117,9 +67,9 @@ fn comes_to(rt: &impl Abort, wrote: &Wrote, bytes: &[u8]) {
 
 #[test]
 fn the_shipped_filter_inserts_by_calls(rt: HostRuntime) {
-    let script = r#"(setq p (start-process "c" "out" "cat"))
+    let script = r#"(setq p (start-process "c" "out" "printf" "hi"))
 (set-process-filter p 'insert-filter)(accept-process-output p)"#;
-    let wrote = written_over(&rt, rt.alloc(), &[b"hi"], script);
+    let wrote = written(&rt, rt.alloc(), script);
     comes_to(
         &rt,
         &wrote,
@@ -151,9 +101,9 @@ process 0 #<process c> run 0
 
 #[test]
 fn the_shipped_sentinel_notes_an_end(rt: HostRuntime) {
-    let script = r#"(setq p (start-process "c" nil "cat"))
+    let script = r#"(setq p (start-process "c" nil "true"))
 (set-process-sentinel p 'note-sentinel)(accept-process-output p)"#;
-    let wrote = written_over(&rt, rt.alloc(), &[], script);
+    let wrote = written(&rt, rt.alloc(), script);
     comes_to(
         &rt,
         &wrote,
@@ -341,8 +291,7 @@ fn a_recorded_child_is_replayed(rt: HostRuntime) {
         &rt,
         bytes.starts_with(b"spawn 7072696e7466 6869 -> started 0\n"),
     );
-    let mut none = MemoryHost::new(Vec::new(rt.alloc()), Vec::new(rt.alloc()));
-    let lines = written_by(&rt, rt.alloc(), &["replay"], bytes, &mut none);
+    let lines = written_with(&rt, rt.alloc(), &["replay"], bytes);
     is_replayed(&rt, &lines);
 }
 
