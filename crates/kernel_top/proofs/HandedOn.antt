@@ -4,8 +4,8 @@ use Rattle.std.proofs.Math.Nat.{mod-mod, mod-add-mod}
 use Rattle.plain_machine.specs.Exchanges.{Ask, Answer, Exchange}
 use Rattle.host_link.specs.Hosts.{HostState}
 use Rattle.kernel_steps.specs.HostCalls.{CallsSince}
-use Rattle.kernel_top.specs.HandingOn.{HandsOn}
-use Rattle.kernel_top.specs.declared.counting.CountingHost.{CountingHost}
+use Rattle.run_counters.specs.HandingOn.{HandsOn}
+use Rattle.run_counters.specs.declared.counting_host.CountingHost.{CountingHost}
 
 -- a call more before others, where all are counted modulo 2^64
 one_first : (n k : ℕ) → ((n + 1) % 2 ^ 64 + k) % 2 ^ 64 ≡ (n + suc k) % 2 ^ 64

@@ -15,7 +15,7 @@ use Rattle.host_link.specs.Hosts.{HostState}
 use Rattle.kernel_steps.specs.Outcomes.{EndsAs}
 use Rattle.kernel_steps.specs.declared.stop.Stop.{Stop}
 use Rattle.kernel_steps.specs.declared.stop.Stop.TheVariants as stop
-use Rattle.kernel_top.specs.SessionWords.{Wanted}
+use Rattle.command_words.specs.SessionWords.{Wanted}
 use Rattle.kernel_top.specs.Reading.{HasEnded, IsAll}
 use Rattle.kernel_top.specs.Scripts.{HasNoScript, IsNoScript, IsUnreadScript, IsLeftUnread}
 use Rattle.kernel_top.specs.Drills.{SumsUp}
@@ -23,8 +23,8 @@ use Rattle.kernel_top.specs.Checking.{OfCheck}
 use Rattle.kernel_top.specs.Sessions.{longest_session}
 use Rattle.kernel_top.specs.Replaying.{ReadAnd, SourceSettled}
 use Rattle.kernel_top.specs.Outcomes.{status_of, written_status, Seen, seen, IsQuiet, OnScript, OnRun, OnRecord, OnReplay, OnCheck, OnView, OnDrill, OnSession, IsUnread, Outcome, most_read, Came, CameSo, OfBytes, Ends, EndsOrOverflows, EndsOrFills, EndsOrRefuses, EndsOrJudges, UnlessFaults, OnScriptUnlessFaults, Completes}
-use Rattle.kernel_top.specs.declared.commands.Command.{Command}
-use Rattle.kernel_top.specs.declared.commands.Command.TheVariants as command
+use Rattle.command_words.specs.declared.commands.Command.{Command}
+use Rattle.command_words.specs.declared.commands.Command.TheVariants as command
 use Rattle.kernel_top.specs.declared.status.Status.{Status}
 use Rattle.kernel_top.specs.declared.status.Status.TheVariants as status
 use Rattle.kernel_steps.proofs.HostCalls.{calls_told}

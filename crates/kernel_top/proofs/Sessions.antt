@@ -6,7 +6,7 @@ use Rattle.std.proofs.lemmas.Bool.{ltb-true, ltb-false, leb-true, leb-false, le-
 use Rattle.text_model.proofs.Cases.{same_tests}
 use Rattle.ek_types.specs.Io.{SinkState, Writes, Continues}
 use Rattle.ek_types.proofs.Printing.{continues_then, writes_of}
-use Rattle.kernel_top.specs.Counting.{counting_state}
+use Rattle.run_counters.specs.Counting.{counting_state}
 use Rattle.kernel_top.specs.Sessions.{longest_session, fits, Written, IsTooLong}
 use Rattle.kernel_top.specs.Outcomes.{written_status}
 

@@ -13,7 +13,7 @@ use Rattle.ek_types.specs.Io.{SinkState, IsPrefixOf}
 use Rattle.line_session.specs.Handlers.{session_names, session_does}
 use Rattle.line_session.specs.Script.{command_of, session_script}
 use Rattle.session_laws.specs.Sessions.{characters_gathered, is_full, TextBy}
-use Rattle.kernel_top.specs.SessionWords.{Wanted}
+use Rattle.command_words.specs.SessionWords.{Wanted}
 use Rattle.kernel_top.specs.Unseen.{IsWhole}
 use Rattle.kernel_top.specs.declared.status.Status.{Status}
 use Rattle.kernel_top.specs.declared.status.Status.TheVariants as status

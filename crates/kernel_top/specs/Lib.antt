@@ -1,12 +1,5 @@
-pub mod SessionWords
-pub mod Words
-pub mod Commands
 pub mod Reading
 pub mod Scripts
-pub mod Counting
-pub mod HandingOn
-pub mod DrillForms
-pub mod DrillHost
 pub mod Drills
 pub mod Unseen
 pub mod Sessions

@@ -14,7 +14,7 @@ use Rattle.kernel_steps.specs.HostCalls.{CallsSince, Tells}
 use Rattle.kernel_steps.specs.Outcomes.{RanScript, StoppedScript}
 use Rattle.kernel_steps.specs.declared.stop.Stop.{Stop}
 use Rattle.kernel_steps.specs.declared.stop.Stop.TheVariants as stop
-use Rattle.kernel_top.specs.SessionWords.{Wanted}
+use Rattle.command_words.specs.SessionWords.{Wanted}
 use Rattle.kernel_top.specs.Reading.{HasEnded}
 use Rattle.kernel_top.specs.Scripts.{HasNoScript}
 use Rattle.kernel_top.specs.Drills.{SumsUp, BreaksOff}
@@ -23,8 +23,8 @@ use Rattle.kernel_top.specs.Replaying.{ReadAnd, Replayed}
 use Rattle.kernel_top.specs.Checking.{Told}
 use Rattle.kernel_top.specs.Viewing.{Viewed}
 use Rattle.kernel_top.specs.Gathering.{script_wanted, program_wanted, Gathers, Lined}
-use Rattle.kernel_top.specs.declared.commands.Command.{Command}
-use Rattle.kernel_top.specs.declared.commands.Command.TheVariants as command
+use Rattle.command_words.specs.declared.commands.Command.{Command}
+use Rattle.command_words.specs.declared.commands.Command.TheVariants as command
 use Rattle.kernel_top.specs.declared.status.Status.{Status}
 use Rattle.kernel_top.specs.declared.status.Status.TheVariants as status
 

@@ -13,16 +13,16 @@ ghost use Rattle.kernel_top.specs.Unseen.{RanUnseen};
 ghost use Rattle.kernel_top.specs.Sessions.{fits, Written};
 ghost use Rattle.kernel_top.specs.Outcomes.{Came, CameSo, OfBytes, OnRecord};
 
-use crate::commands::Command;
-use crate::counting::CountingSink;
 use crate::reading::{read_script, script_in};
 use crate::status::{Status, written_status};
 use crate::unseen::run_unseen;
+use command_words::Command;
 use ek_call::Script;
 use ek_types::{Mem, Sink, SinkFault, Source, put};
 use handler_code::Natives;
 use host_link::{Exchanges, Host};
 use journal_text::{LONGEST_SESSION, LinedHost, write_journal};
+use run_counters::CountingSink;
 use std::alloc::Global;
 
 /// Writes a journal, and behind it the line `script` and the script.

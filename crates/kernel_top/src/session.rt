@@ -9,9 +9,9 @@ ghost use Rattle.kernel_state.specs.Whole.{program_with};
 ghost use Rattle.kernel_top.specs.Outcomes.{CameSo, OnGathering, OnSession};
 
 use crate::gathered::{buffer_name, write_gathered};
-use crate::session_words::Wanted;
 use crate::status::Status;
 use crate::unseen::run_unseen_on;
+use command_words::Wanted;
 use ek_call::Script;
 use ek_types::{Chars, Sink};
 use handler_code::Natives;

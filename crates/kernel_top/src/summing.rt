@@ -10,13 +10,13 @@ ghost use Rattle.kernel_run.specs.Meaning.{state_of};
 ghost use Rattle.kernel_state.specs.Whole.{program_with};
 ghost use Rattle.kernel_top.specs.Drills.{Counted, line_of};
 
-use crate::counting::{CountingHost, CountingSink};
 use ek_call::Script;
 use ek_types::{Sink, SinkFault, put};
 use handler_code::Natives;
 use host_link::Host;
 use itoa::Buffer;
 use kernel_run::{Kernel, Stop};
+use run_counters::{CountingHost, CountingSink};
 
 /// What a drill counts, each modulo 2^64.
 #[derive(Clone, Copy, Debug, PartialEq, Eq)]

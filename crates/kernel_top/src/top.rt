@@ -2,12 +2,10 @@
 ghost use Rattle.std.specs.Prelude.{◌≡◌, ◌≢◌, ◌^◌, ◌≤◌, [], Some, length, map, string_bytes, IsTrue};
 ghost use Rattle.ek_types.specs.Io.{HasCause};
 ghost use Rattle.kernel_state.specs.Whole.{program_with};
-ghost use Rattle.kernel_top.specs.Commands.{command_of, IsRecord};
+ghost use Rattle.command_words.specs.Commands.{command_of, IsRecord};
 ghost use Rattle.kernel_top.specs.Outcomes.{Came, CameSo, OfBytes, OnRun, OnDrill, Completes};
 
 use crate::checking::check_source;
-use crate::commands::{Command, command_of};
-use crate::drilling::drill;
 use crate::reading::{read_script, script_in};
 use crate::recording::record_source;
 use crate::replaying::replay_source;
@@ -15,10 +13,12 @@ use crate::session::run_session;
 use crate::status::{Status, status_of, written_status};
 use crate::summing::{count_run, write_summary};
 use crate::viewing::view_source;
+use command_words::{Command, command_of};
 use ek_types::{Sink, Source};
 use handler_code::Natives;
 use host_link::Host;
 use kernel_run::Kernel;
+use line_drill::drill;
 use std::alloc::Global;
 
 /// Reads the script that some bytes are, and runs it on a kernel of its own.

@@ -13,10 +13,10 @@ ghost use Rattle.kernel_state.specs.Whole.{program_with};
 ghost use Rattle.kernel_top.specs.Viewing.{view_of, Viewed, viewed_status};
 ghost use Rattle.kernel_top.specs.Outcomes.{Came, CameSo, OfBytes, OnView};
 
-use crate::commands::Command;
 use crate::reading::{read_script, script_in};
 use crate::status::Status;
 use buffer_table::Editor;
+use command_words::Command;
 use ek_call::Script;
 use ek_types::{NullSink, Sink, Source};
 use final_view::{ViewFault, view};

@@ -8,7 +8,7 @@ use Rattle.plain_machine.specs.Symbols.{program_of}
 use Rattle.ek_types.specs.Io.{SourceState, SinkState}
 use Rattle.host_link.specs.Hosts.{HostState}
 use Rattle.kernel_state.specs.Whole.{Doing}
-use Rattle.kernel_top.specs.Commands.{command_of}
+use Rattle.command_words.specs.Commands.{command_of}
 use Rattle.kernel_top.specs.Outcomes.{Came}
 use Rattle.kernel_top.specs.declared.status.Status.{Status}
 

@@ -3,7 +3,7 @@ ghost use Rattle.std.specs.Prelude.{◌≡◌, ◌^◌, ◌≤◌, List, [], ◌
 ghost use Rattle.std.specs.Prelude.{IfOk};
 ghost use Rattle.editor_model.specs.Values.{Value, Reply};
 ghost use Rattle.plain_machine.specs.Shipped.{insert_filter, drop_filter, note_sentinel};
-ghost use Rattle.kernel_top.specs.Commands.{IsRecord};
+ghost use Rattle.command_words.specs.Commands.{IsRecord};
 ghost use Rattle.shipped_run.specs.Shipped.{CameShipped, shipped_names};
 
 use ek_types::{Sink, Source};

@@ -2,7 +2,7 @@ use Rattle.std.proofs.Common.{[], refl, ap, ◌∙◌}
 use Rattle.std.proofs.KnownBytes.{Appends-nil}
 use Rattle.ek_call.specs.Meaning.{script_of}
 use Rattle.line_session.specs.Replies.{values_of}
-use Rattle.kernel_top.specs.SessionWords.{Wanted}
+use Rattle.command_words.specs.SessionWords.{Wanted}
 use Rattle.kernel_top.specs.Gathering.{command_wanted}
 use Rattle.kernel_top.proofs.Outcomes.{quiet}
 use Rattle.kernel_top.proofs.Gathering.{came_wanted, nothing_asked}

@@ -5,7 +5,7 @@ use Rattle.ek_call.specs.Meaning.{script_of}
 use Rattle.kernel_run.specs.Meaning.{state_of}
 use Rattle.kernel_state.specs.Whole.{program_with}
 use Rattle.plain_machine.specs.Grammar.{line_feeds}
-use Rattle.kernel_top.specs.Counting.{counting_state}
+use Rattle.run_counters.specs.Counting.{counting_state}
 use Rattle.kernel_top.proofs.HandedOn.{handed, calls_between}
 use Rattle.kernel_top.proofs.SummedUp.{sums_up, breaks_off}
 use Rattle.kernel_top.proofs.summing.count_run.Goals as goal

@@ -1,10 +1,10 @@
 use Rattle.std.proofs.Common.{◌≡◌, Some, None, sym, refl, map, string_bytes, arith}
 use Rattle.kernel_state.specs.Whole.{program_with}
-use Rattle.kernel_top.specs.Commands.{command_of}
+use Rattle.command_words.specs.Commands.{command_of}
 use Rattle.kernel_top.specs.Replaying.{Replayed}
 use Rattle.kernel_top.specs.Checking.{Told}
 use Rattle.kernel_top.specs.Outcomes.{OnDrill, OnSession, Came}
-use Rattle.kernel_top.specs.declared.commands.Command.TheVariants as command
+use Rattle.command_words.specs.declared.commands.Command.TheVariants as command
 use Rattle.kernel_top.proofs.Outcomes.{came_aside, came_settled, came_unknown, completes, drill_reads_nothing, session_reads_nothing}
 use Rattle.kernel_top.proofs.top.run.Goals as goal
 

@@ -3,7 +3,7 @@ use Rattle.kernel_state.specs.Whole.{program_with}
 use Rattle.plain_machine.specs.Grammar.{longest_script}
 use Rattle.kernel_top.specs.Reading.{IsAll}
 use Rattle.kernel_top.specs.Outcomes.{OnView, RunsAndViews}
-use Rattle.kernel_top.specs.declared.commands.Command.TheVariants as command
+use Rattle.command_words.specs.declared.commands.Command.TheVariants as command
 use Rattle.kernel_top.proofs.Outcomes.{on_unread, unread_no_write, came_from, came_left}
 use Rattle.kernel_top.proofs.viewing.view_source.Goals as goal
 

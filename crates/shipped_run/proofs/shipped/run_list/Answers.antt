@@ -3,7 +3,7 @@ use Rattle.plain_machine.specs.Shipped.{insert_filter, drop_filter, note_sentine
 use Rattle.plain_machine.specs.Symbols.{program_of}
 use Rattle.handler_box.specs.Boxes.{done_by}
 use Rattle.kernel_state.specs.Whole.{Doing}
-use Rattle.kernel_top.specs.Commands.{command_of}
+use Rattle.command_words.specs.Commands.{command_of}
 use Rattle.kernel_top.specs.Outcomes.{Came}
 use Rattle.shipped_run.proofs.Boxes.{are_done}
 use Rattle.shipped_run.proofs.shipped.run_list.Goals as goal

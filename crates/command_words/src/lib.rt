@@ -1,0 +1,10 @@
+//! What the words of the command line ask for.
+#![tactic(auto)]
+
+mod commands;
+mod session_words;
+mod words;
+
+pub use commands::{Command, command_of};
+pub use session_words::Wanted;
+pub use words::drill_of;

@@ -1,8 +1,0 @@
-use Rattle.std.proofs.Common.{◌≡◌, ◌++◌}
-use Rattle.std.specs.Prelude.{replicate}
-use Rattle.line_session.specs.Forms.{forms_of}
-use Rattle.kernel_top.specs.DrillForms.{wait_form}
-use Rattle.kernel_top.proofs.drill_script.then_wait.Given as goal
-
-abbrev pub invariant-waiting : goal.invariant-waiting
-invariant-waiting l = forms_of l.forms ≡ forms_of l.fn.forms ++ replicate l.counter wait_form

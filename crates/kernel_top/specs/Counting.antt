@@ -1,7 +1,0 @@
--- What is counted of a run.
-use Rattle.std.specs.Prelude.{ℕ, ◌^◌, List, Some}
-use Rattle.ek_types.specs.Io.{SinkState}
-
--- the counting sink tells what it was given; it has no faults, and its room doesn't shrink
-abbrev pub counting_state : List ℕ → SinkState
-counting_state given = record { held = Some given; faults = 0; room = 2 ^ 64 }

@@ -1,0 +1,2 @@
+pub mod MadeForms
+pub mod DrillOutput

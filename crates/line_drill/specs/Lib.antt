@@ -1,0 +1,2 @@
+pub mod DrillForms
+pub mod DrillHost

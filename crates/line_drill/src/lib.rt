@@ -1,0 +1,8 @@
+//! The drill by which the program measures itself: a script, and a host in memory with its one child.
+#![tactic(auto)]
+
+mod drill_child;
+mod drill_script;
+mod drilling;
+
+pub use drilling::drill;
