@@ -1,5 +1,5 @@
 -- Overlays by number, and what stays of them without their stretches.
-use Rattle.std.proofs.Common.{◌≡◌, ℕ, zero, suc, ◌+◌, ◌<◌, List, [], ◌∷◌, length, map, get_or, slice_set, refl, ap, sym, ◌∙◌, arith}
+use Rattle.std.proofs.Common.{◌≡◌, ℕ, zero, suc, ◌<◌, List, [], ◌∷◌, length, map, get_or, slice_set, refl, ap, sym, ◌∙◌, arith}
 use Rattle.std.proofs.lemmas.List.{map-set, length-map, get_or-set_same, get_or-map}
 use Rattle.std.proofs.lemmas.Option.{unwrap_or-slice_get}
 use Rattle.text_model.specs.Marks.{Overlay}
@@ -40,3 +40,6 @@ bare_at slots os k slot seen within read =
     ∙ ap (λ xs. get_or xs k no_overlay) (sym seen)
     ∙ get_or-map bare_of slots k slot no_overlay inside
     ∙ ap bare_of (sym read)
+
+pub slot_at : (slots : List Slot) (k : ℕ) (slot : Slot) → k < length slots → slot ≡ get_or slots k slot → overlay_at (map bare_of slots) k ≡ bare_of slot
+slot_at slots k slot within read = overlay_at-get_or (map bare_of slots) k ∙ get_or-map bare_of slots k slot no_overlay within ∙ ap bare_of (sym read)

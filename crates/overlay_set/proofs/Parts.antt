@@ -1,8 +1,9 @@
 -- Parts of a list of entries, and parts of which nothing counts.
 use Rattle.std.proofs.lemmas.Bool.{and_parts, eqb-true}
-use Rattle.std.proofs.Common.{◌≡◌, ℕ, ◌+◌, ◌%◌, ◌^◌, Bool, true, false, not, ◌==◌, ◌&&◌, List, [], ◌∷◌, ◌++◌, map, All, filter, Box, Global, refl, ap, sym, ◌∙◌, subst}
+use Rattle.std.proofs.Common.{◌≡◌, ℕ, ◌+◌, ◌%◌, ◌^◌, ◌<◌, Bool, true, false, not, ◌==◌, ◌&&◌, List, [], ◌∷◌, ◌++◌, length, map, All, filter, append_assoc, Box, Global, refl, ap, sym, ◌∙◌, subst, arith}
 use Rattle.std.specs.List.{flat_map}
-use Rattle.std.proofs.lemmas.List.Elements.{All-nil, All-cons, All-head, All-tail, All-append, All-weaker, All-map}
+use Rattle.std.proofs.lemmas.List.{length-append}
+use Rattle.std.proofs.lemmas.List.Elements.{All-nil, All-cons, All-head, All-tail, All-append, All-weaker, All-map, filter-append}
 use Rattle.overlay_set.specs.Entries.{Holds, HasBounds, entries_in, entries_of, is_same, without, raised}
 use Rattle.overlay_set.specs.declared.bounds.Entry.{Entry}
 use Rattle.overlay_set.specs.declared.bounds.Bounds.{Bounds}
@@ -104,3 +105,28 @@ differs b r gone e h k held = by_test (is_same e gone) refl
 -- an entry that the bounds exclude is none of these
 pub without_none : (b : Bounds) (r : Bool) (gone : Entry) (xs : List Entry) → (Holds b gone → r ≡ true) → r ≡ false → All (Holds b) xs → without gone xs ≡ xs
 without_none b r gone xs h k all = filter_all (λ e. not (is_same e gone)) xs (All-weaker (Holds b) (λ e. not (is_same e gone) ≡ true) (λ e held. differs b r gone e h k held) xs all)
+
+-- an entry that is the given one goes from between two parts, and another one stays
+pub gone_between : (gone : Entry) (tree xs : List Entry) (e : Entry) (ys left right : List Entry) → tree ≡ xs ++ e ∷ ys → left ≡ without gone xs → right ≡ without gone ys → is_same e gone ≡ true → left ++ right ≡ without gone tree
+gone_between gone tree xs e ys left right whole front back same =
+    let own : without gone (e ∷ ys) ≡ without gone ys = rw same refl in
+    rw (whole, front, back) (sym (filter-append (λ x. not (is_same x gone)) xs (e ∷ ys) ∙ ap (λ es. without gone xs ++ es) own))
+
+pub kept_between : (gone : Entry) (tree xs : List Entry) (e : Entry) (ys left right : List Entry) → tree ≡ xs ++ e ∷ ys → left ≡ without gone xs → right ≡ without gone ys → is_same e gone ≡ false → left ++ e ∷ right ≡ without gone tree
+kept_between gone tree xs e ys left right whole front back other =
+    let own : without gone (e ∷ ys) ≡ e ∷ without gone ys = rw other refl in
+    rw (whole, front, back) (sym (filter-append (λ x. not (is_same x gone)) xs (e ∷ ys) ∙ ap (λ es. without gone xs ++ es) own))
+
+-- each side of a node is shorter than the whole
+pub left_shorter : (tree xs : List Entry) (e : Entry) (ys : List Entry) → tree ≡ xs ++ e ∷ ys → length xs < length tree
+left_shorter tree xs e ys whole = rw whole (omega (arith, length-append xs (e ∷ ys)))
+
+pub right_shorter : (tree xs : List Entry) (e : Entry) (ys : List Entry) → tree ≡ xs ++ e ∷ ys → length ys < length tree
+right_shorter tree xs e ys whole = rw whole (omega (arith, length-append xs (e ∷ ys)))
+
+-- an item between two lists, of which the first or the second has parts
+pub joined_right : (left xs : List Entry) (e : Entry) (ys : List Entry) (new : Entry) (right more : List Entry) → left ≡ xs ++ e ∷ ys → more ≡ ys ++ new ∷ right → xs ++ e ∷ more ≡ left ++ new ∷ right
+joined_right left xs e ys new right more whole part = rw (whole, part) (sym (append_assoc xs (e ∷ ys) (new ∷ right)))
+
+pub joined_left : (left : List Entry) (new : Entry) (right xs : List Entry) (e : Entry) (ys more : List Entry) → right ≡ xs ++ e ∷ ys → more ≡ left ++ new ∷ xs → more ++ e ∷ ys ≡ left ++ new ∷ right
+joined_left left new right xs e ys more whole part = rw (whole, part) (append_assoc left (new ∷ xs) (e ∷ ys))

@@ -58,6 +58,22 @@ same-flat_map g xs ys h f = total-flat_map f g xs ∙ h (λ x. total f (g x)) �
 pub same-filter : {X : Type 0} (p : X → Bool) (xs ys : List X) → Same xs ys → Same (filter p xs) (filter p ys)
 same-filter p xs ys h f = total-filter f p xs ∙ h (counted_if p f) ∙ sym (total-filter f p ys)
 
+-- ONE PUT IN
+-- where one part of a list gets an item more, the whole list does
+pub put_left : {X : Type 0} (new : X) (all xs : List X) (x : X) (ys more result : List X) → all ≡ xs ++ x ∷ ys → ((f : X → ℕ) → sum_by f more ≡ sum_by f (new ∷ xs)) → result ≡ more ++ x ∷ ys → (f : X → ℕ) → sum_by f result ≡ sum_by f (new ∷ all)
+put_left new all xs x ys more result whole put is = rw (whole, is) (sums_from_same (more ++ x ∷ ys) (new ∷ (xs ++ x ∷ ys)) (λ f.
+    (let part : total f more ≡ f new + total f xs = same_from_sums more (new ∷ xs) put f in
+    let front = total-append f more (x ∷ ys) in
+    let back = total-append f xs (x ∷ ys) in
+    omega (arith, part, front, back))))
+
+pub put_right : {X : Type 0} (new : X) (all xs : List X) (x : X) (ys more result : List X) → all ≡ xs ++ x ∷ ys → ((f : X → ℕ) → sum_by f more ≡ sum_by f (new ∷ ys)) → result ≡ xs ++ x ∷ more → (f : X → ℕ) → sum_by f result ≡ sum_by f (new ∷ all)
+put_right new all xs x ys more result whole put is = rw (whole, is) (sums_from_same (xs ++ x ∷ more) (new ∷ (xs ++ x ∷ ys)) (λ f.
+    (let part : total f more ≡ f new + total f ys = same_from_sums more (new ∷ ys) put f in
+    let front = total-append f xs (x ∷ more) in
+    let back = total-append f xs (x ∷ ys) in
+    omega (arith, part, front, back))))
+
 -- NUMBERS, ONE TAKEN OUT
 abbrev pub is_one : ℕ → ℕ → ℕ
 is_one x y = if y == x then 1 else 0

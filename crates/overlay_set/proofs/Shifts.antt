@@ -1,8 +1,8 @@
 -- Places counted from a shift, modulo 2^64.
-use Rattle.std.proofs.Common.{◌≡◌, ℕ, ◌+◌, ◌-◌, ◌%◌, ◌^◌, ◌<◌, ◌≤◌, Bool, true, false, nat_lt, List, [], ◌∷◌, ◌++◌, map, All, Box, Global, refl, ap, sym, ◌∙◌, subst, arith, mod-lt, mod-eq_of_lt}
+use Rattle.std.proofs.Common.{◌≡◌, ℕ, ◌+◌, ◌-◌, ◌%◌, ◌^◌, ◌<◌, ◌≤◌, Bool, true, false, nat_lt, List, [], ◌∷◌, ◌++◌, length, map, All, Box, Global, refl, ap, sym, ◌∙◌, subst, arith, mod-lt, mod-eq_of_lt}
 use Rattle.std.proofs.Math.Nat.{mod-add-mod, add-mod-mod, mod-eq-sub-mod}
 use Rattle.std.proofs.lemmas.Bool.{ltb-true, ltb-false}
-use Rattle.std.proofs.lemmas.List.{map-append}
+use Rattle.std.proofs.lemmas.List.{map-append, length-map, length-append}
 use Rattle.std.proofs.lemmas.List.Elements.{All-nil, All-cons, All-head, All-tail, All-map, All-weaker}
 use Rattle.overlay_set.specs.Entries.{Holds, HasBounds, Within, entries_in, entries_of, raised, InRange}
 use Rattle.overlay_set.specs.declared.bounds.Entry.{Entry}
@@ -110,6 +110,16 @@ node_at root top n now base by e v d h =
     ap (map (raised base)) (sym v ∙ ap entries_of e ∙ ap entries_in (sym d))
     ∙ all_raised_twice base n.shift by (n.left ++ n.entry ∷ n.right) h
     ∙ three_raised by n.left n.entry n.right
+
+-- each side of its node is shorter than a tree
+in_all : (root : Link) (top : Box Node Global) (n : Node) (now : List Entry) → root ≡ Full top → entries_of root ≡ now → n ≡ top.value → length now ≡ length (n.left ++ n.entry ∷ n.right)
+in_all root top n now e v d = ap length (sym v ∙ ap entries_of e ∙ ap entries_in (sym d)) ∙ length-map (n.left ++ n.entry ∷ n.right) (raised n.shift)
+
+pub left_below : (root : Link) (top : Box Node Global) (n : Node) (now : List Entry) → root ≡ Full top → entries_of root ≡ now → n ≡ top.value → length n.left < length now
+left_below root top n now e v d = omega (arith, in_all root top n now e v d, length-append n.left (n.entry ∷ n.right))
+
+pub right_below : (root : Link) (top : Box Node Global) (n : Node) (now : List Entry) → root ≡ Full top → entries_of root ≡ now → n ≡ top.value → length n.right < length now
+right_below root top n now e v d = omega (arith, in_all root top n now e v d, length-append n.left (n.entry ∷ n.right))
 
 pub bounds_at : (root : Link) (top : Box Node Global) (n : Node) (b : Bounds) (now : List Entry) (base by : ℕ) → root ≡ Full top → HasBounds root → entries_of root ≡ now → n ≡ top.value → by ≡ (base + n.shift) % 2 ^ 64 →
     ((e : Entry) → Holds n.bounds e → Holds b (raised by e)) → All (Holds b) (map (raised base) now)

@@ -1,8 +1,8 @@
-use Rattle.std.proofs.Common.{◌≡◌, ◌+◌, ◌%◌, ◌^◌, ◌++◌, ◌∷◌, map, Contains, Some, None, refl, ap, sym, ◌∙◌, subst}
+use Rattle.std.proofs.Common.{◌≡◌, ◌+◌, ◌%◌, ◌^◌, ◌∷◌, map, Contains, refl, ap, sym, ◌∙◌, subst, arith}
 use Rattle.std.proofs.lemmas.List.Elements.{Contains-append_left}
 use Rattle.overlay_set.specs.Entries.{raised}
 use Rattle.overlay_set.specs.declared.bounds.Entry.{Entry}
-use Rattle.overlay_set.proofs.Shifts.{node_at}
+use Rattle.overlay_set.proofs.Shifts.{node_at, left_below, right_below}
 use Rattle.overlay_set.proofs.FindLemmas.{own_there, right_there, if_some, none_left, named, others_up, others_three, all_others}
 use Rattle.overlay_set.proofs.tree.Tree.+find.Goals as goal
 
@@ -41,3 +41,9 @@ returns-else-is_some-clause-none t c key none =
     let n = c.deref-node.result.now in
     others_up c.args.number c.self.inside.root c.in-Full.node n c.args.self.now c.in-Full.is c.self.view_is c.deref-node.ensures
     (others_three c.args.number n.left n.entry n.right (c.find-left.ensures.none key (none_left c.find-left.result (sym c.is_some.ensures ∙ c.if-is_some.false))) c.if-node-number.false (c.find.ensures.none key none))
+
+pub find-left-requires : goal.find-left-requires
+find-left-requires t c = (omega (arith, left_below c.self.inside.root c.in-Full.node c.deref-node.result.now c.args.self.now c.in-Full.is c.self.view_is c.deref-node.ensures), tt)
+
+pub find-requires : goal.find-requires
+find-requires t c = (omega (arith, right_below c.self.inside.root c.in-Full.node c.deref-node.result.now c.args.self.now c.in-Full.is c.self.view_is c.deref-node.ensures), tt)

@@ -1,12 +1,10 @@
-use Rattle.std.proofs.Common.{◌≡◌, ◌+◌, ◌%◌, ◌^◌, [], ◌∷◌, map, length, refl, ap, ◌∙◌, arith}
-use Rattle.std.proofs.lemmas.Grind.{common_steps}
-use Rattle.std.proofs.lemmas.List.{length-map}
+use Rattle.std.proofs.Common.{◌+◌, ◌%◌, ◌^◌, [], ◌∷◌, map, length, refl, ap, ◌∙◌, arith}
 use Rattle.overlay_set.specs.Slots.{bare_of}
 use Rattle.overlay_set.specs.Entries.{IsMade, passes, raised}
 use Rattle.overlay_set.specs.Winner.{strongest}
 use Rattle.overlay_set.specs.declared.slot.Question.TheVariants.{At}
 use Rattle.overlay_set.proofs.Parts.{node_parts, none_at, all_left, all_own, all_right}
-use Rattle.overlay_set.proofs.Shifts.{node_at}
+use Rattle.overlay_set.proofs.Shifts.{node_at, left_below, right_below}
 use Rattle.overlay_set.proofs.SearchLemmas.{strongest_none, strongest_three}
 use Rattle.overlay_set.proofs.tree.Tree.+winner_from.Goals as goal
 
@@ -19,7 +17,7 @@ pub winner_from-requires : goal.winner_from-requires
 winner_from-requires t c =
     let n = c.deref-node.result.now in
     let made = node_parts (IsMade (length c.args.slots.now)) c.self.inside.root c.in-Full.node n c.args.self.now c.in-Full.is c.self.view_is c.deref-node.ensures c.requires.made in
-    (grind (arith, common_steps, length-map), (all_left (IsMade (length c.args.slots.now)) n.left n.entry n.right made, c.requires.best))
+    (omega (arith, left_below c.self.inside.root c.in-Full.node c.deref-node.result.now c.args.self.now c.in-Full.is c.self.view_is c.deref-node.ensures), (all_left (IsMade (length c.args.slots.now)) n.left n.entry n.right made, c.requires.best))
 
 pub stronger_where-requires-clause-made : goal.stronger_where-requires-clause-made
 stronger_where-requires-clause-made t c =
@@ -31,7 +29,7 @@ pub winner_from-requires-in-Full : goal.winner_from-requires-in-Full
 winner_from-requires-in-Full t c =
     let n = c.deref-node.result.now in
     let made = node_parts (IsMade (length c.args.slots.now)) c.self.inside.root c.in-Full.node n c.args.self.now c.in-Full.is c.self.view_is c.deref-node.ensures c.requires.made in
-    (grind (arith, common_steps, length-map), (all_right (IsMade (length c.args.slots.now)) n.left n.entry n.right made, c.stronger_where.ensures.made))
+    (omega (arith, right_below c.self.inside.root c.in-Full.node c.deref-node.result.now c.args.self.now c.in-Full.is c.self.view_is c.deref-node.ensures), (all_right (IsMade (length c.args.slots.now)) n.left n.entry n.right made, c.stronger_where.ensures.made))
 
 pub returns-else-not-may_pass-clause-exact : goal.returns-else-not-may_pass-clause-exact
 returns-else-not-may_pass-clause-exact t c =
