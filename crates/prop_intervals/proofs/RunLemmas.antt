@@ -63,6 +63,13 @@ total-right at n front total left x right new e h k within g own =
     let size-new = size-grown (at - front - x.1) n right (omega arith) in
     omega (arith, size-append left (x ∷ new), ap size g)
 
+-- a run between two lists, of which the first or the second has parts
+pub joined_right : (left xs : List Run) (x : Run) (ys : List Run) (new : Run) (right more : List Run) → left ≡ xs ++ x ∷ ys → more ≡ ys ++ new ∷ right → xs ++ x ∷ more ≡ left ++ new ∷ right
+joined_right left xs x ys new right more whole part = rw (whole, part) (sym (append_assoc xs (x ∷ ys) (new ∷ right)))
+
+pub joined_left : (left : List Run) (new : Run) (right xs : List Run) (x : Run) (ys more : List Run) → right ≡ xs ++ x ∷ ys → more ≡ left ++ new ∷ xs → more ++ x ∷ ys ≡ left ++ new ∷ right
+joined_left left new right xs x ys more whole part = rw (whole, part) (append_assoc left (new ∷ xs) (x ∷ ys))
+
 -- CUT
 pub before-front : (at : ℕ) (xs ys : List Run) → at < size xs → before at (xs ++ ys) ≡ before at xs
 before-front at [] ys h = absurd (omega arith)
