@@ -44,8 +44,34 @@ fn gather<K: Sink, H: Host, N: Natives>(
     }
 }
 
+/// Runs the script on a kernel of its own, and writes what was gathered. All memory is taken before that.
+fn gather_alone<K: Sink, H: Host, N: Natives>(
+    alloc: Global,
+    script: &Script,
+    sink: &mut K,
+    host: &mut H,
+    natives: &N,
+) -> Status
+    requires { length (H.state host.old).kills ≤ 2 ^ 31 }
+    ensures outcome { CameSo H.state H.made host.old host.new (K.state sink.old) (K.state sink.new)
+        (OnGathering (program_with N.names N.does (script_of script.now) natives.now) (script_of script.now)
+        result) }
+    ensures write_fault { HasCause (K.state sink.old).faults (K.state sink.new).faults
+        (result ≡ Status.WriteFault) }
+{
+    let Ok(name) = buffer_name(alloc) else {
+        return Status::NoMemory;
+    };
+    let Ok(mut kernel) = Kernel::new(alloc) else {
+        return Status::NoMemory;
+    };
+    let status = gather(&mut kernel, script, &name, sink, host, natives);
+    kernel.close();
+    status
+}
+
 /// Runs the program that is wanted, and restarts it as often as it may be while it ends otherwise than with code 0.
-/// Then it writes what was gathered. All memory is taken before that.
+/// Then it writes what was gathered.
 pub(crate) fn run_session<K: Sink, H: Host>(
     alloc: Global,
     wanted: &Wanted<'_>,
@@ -64,13 +90,5 @@ pub(crate) fn run_session<K: Sink, H: Host>(
     let Ok(script) = session.script() else {
         return Status::NoMemory;
     };
-    let Ok(name) = buffer_name(alloc) else {
-        return Status::NoMemory;
-    };
-    let Ok(mut kernel) = Kernel::new(alloc) else {
-        return Status::NoMemory;
-    };
-    let status = gather(&mut kernel, &script, &name, sink, host, &session);
-    kernel.close();
-    status
+    gather_alone(alloc, &script, sink, host, &session)
 }

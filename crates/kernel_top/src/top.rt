@@ -1,6 +1,8 @@
 //! The top call.
 ghost use Rattle.std.specs.Prelude.{◌≡◌, ◌≢◌, ◌^◌, ◌≤◌, [], Some, length, map, string_bytes, IsTrue};
+ghost use Rattle.plain_machine.specs.Drill.{drill_script};
 ghost use Rattle.ek_types.specs.Io.{HasCause};
+ghost use Rattle.ek_call.specs.Meaning.{script_of};
 ghost use Rattle.kernel_state.specs.Whole.{program_with};
 ghost use Rattle.command_words.specs.Commands.{command_of, IsRecord};
 ghost use Rattle.kernel_top.specs.Outcomes.{Came, CameSo, OfBytes, OnRun, OnDrill, Completes};
@@ -14,11 +16,12 @@ use crate::status::{Status, status_of, written_status};
 use crate::summing::{count_run, write_summary};
 use crate::viewing::view_source;
 use command_words::{Command, command_of};
+use ek_call::Script;
 use ek_types::{Sink, Source};
 use handler_code::Natives;
 use host_link::Host;
 use kernel_run::Kernel;
-use line_drill::drill;
+use line_drill::script_of_drill;
 use std::alloc::Global;
 
 /// Reads the script that some bytes are, and runs it on a kernel of its own.
@@ -74,6 +77,33 @@ fn run_source<S: Source, K: Sink, H: Host, N: Natives>(
 }
 
 /// Runs the script of a drill on a kernel of its own, and writes the summary.
+fn sum_up<K: Sink, H: Host, N: Natives>(
+    alloc: Global,
+    count: u32,
+    script: &Script,
+    sink: &mut K,
+    host: &mut H,
+    natives: &N,
+) -> Status
+    requires script { script_of script.now ≡ drill_script count }
+    requires few { length (H.state host.old).kills ≤ 2 ^ 31 }
+    ensures outcome { CameSo H.state H.made host.old host.new (K.state sink.old) (K.state sink.new)
+        (OnDrill (λ script. program_with N.names N.does script natives.now) count result) }
+    ensures write_fault { HasCause (K.state sink.old).faults (K.state sink.new).faults
+        (result ≡ Status.WriteFault) }
+{
+    let Ok(mut kernel) = Kernel::new(alloc) else {
+        return Status::NoMemory;
+    };
+    let counted = count_run(&mut kernel, script, natives, host);
+    kernel.close();
+    let Ok(counts) = counted else {
+        return Status::NoMemory;
+    };
+    written_status(write_summary(count, &counts, sink))
+}
+
+/// Makes the script of a drill, runs it, and writes the summary.
 fn run_drill<K: Sink, H: Host, N: Natives>(
     alloc: Global,
     count: u32,
@@ -87,18 +117,10 @@ fn run_drill<K: Sink, H: Host, N: Natives>(
     ensures write_fault { HasCause (K.state sink.old).faults (K.state sink.new).faults
         (result ≡ Status.WriteFault) }
 {
-    let Ok((script, _)) = drill(alloc, count) else {
-        return Status::NoMemory;
-    };
-    let Ok(mut kernel) = Kernel::new(alloc) else {
-        return Status::NoMemory;
-    };
-    let counted = count_run(&mut kernel, &script, natives, host);
-    kernel.close();
-    let Ok(counts) = counted else {
-        return Status::NoMemory;
-    };
-    written_status(write_summary(count, &counts, sink))
+    match script_of_drill(alloc, count) {
+        Ok(script) => sum_up(alloc, count, &script, sink, host, natives),
+        Err(_) => Status::NoMemory,
+    }
 }
 
 /// The words are those behind the program's name. By what they ask for, this reads and writes:

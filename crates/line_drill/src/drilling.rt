@@ -21,6 +21,14 @@ fn host(alloc: Global, child: Play) -> Mem<MemoryHost>
     Ok(MemoryHost::new(plays, Vec::new(alloc)))
 }
 
+/// The script of the drill of so many lines, without its host.
+pub fn script_of_drill(alloc: Global, lines: u32) -> Mem<Script>
+    ensures { IfOk result (λ script. script_of script ≡ drill_script lines) }
+{
+    let child = child(alloc, lines)?;
+    script(alloc, child.reads.len())
+}
+
 /// The script of the drill of so many lines, and a new host with its one child, of which no call fails.
 pub fn drill(alloc: Global, lines: u32) -> Mem<(Script, MemoryHost)>
     ensures script { IfOk result (λ made. script_of made.0 ≡ drill_script lines) }

@@ -1,9 +1,11 @@
-use Rattle.std.proofs.Common.{sym, subst}
+use Rattle.std.proofs.Common.{sym, subst, ap, Err, arith}
+use Rattle.std.proofs.KnownBytes.{Appends-nil}
 use Rattle.kernel_state.specs.Whole.{program_with}
 use Rattle.kernel_top.specs.Reading.{IsAll}
 use Rattle.kernel_top.specs.Sessions.{longest_session}
+use Rattle.kernel_top.specs.Replaying.{IsUnread}
 use Rattle.kernel_top.specs.Checking.{Told}
-use Rattle.kernel_top.proofs.Replays.{source_settled}
+use Rattle.kernel_top.proofs.Replays.{source_settled, source_unread}
 use Rattle.kernel_top.proofs.Checks.{told_no_fault}
 use Rattle.kernel_top.proofs.checking.check_source.Goals as goal
 
@@ -21,3 +23,21 @@ pub returns-in-Ok-clause-read_fault : goal.returns-in-Ok-clause-read_fault
 returns-in-Ok-clause-read_fault g c =
     let (written, put, so) = c.answer_bytes.ensures.written in
     record { later = c.read_session.ensures.cause.later; rose = λ e. absurd (told_no_fault (λ script. program_with g.N.Natives.names g.N.Natives.does script c.args.natives.now) c.answer_bytes.result c.as_slice.result.now written (g.K.Sink.state c.args.sink.now) (g.K.Sink.state c.answer_bytes.new.sink) so e) }
+
+pub returns-in-Ok-clause-write_fault : goal.returns-in-Ok-clause-write_fault
+returns-in-Ok-clause-write_fault g c = c.answer_bytes.ensures.write_fault
+
+pub returns-in-Ok-clause-unfailing : goal.returns-in-Ok-clause-unfailing
+returns-in-Ok-clause-unfailing g c = c.read_session.ensures.unfailing
+
+pub returns-in-Err-clause-outcome : goal.returns-in-Err-clause-outcome
+returns-in-Err-clause-outcome g c = source_unread (Told (λ script. program_with g.N.Natives.names g.N.Natives.does script c.args.natives.now)) c.in-Err.answer (g.S.Source.state c.args.source.now) (g.S.Source.state c.read_session.new.source) (g.K.Sink.state c.args.sink.now) c.in-Err.ensures.none (Appends-nil _)
+
+pub returns-in-Err-clause-read_fault : goal.returns-in-Err-clause-read_fault
+returns-in-Err-clause-read_fault g c = record { later = c.in-Err.ensures.cause.later; rose = λ e. c.in-Err.ensures.cause.rose (ap Err e) }
+
+pub returns-in-Err-clause-write_fault : goal.returns-in-Err-clause-write_fault
+returns-in-Err-clause-write_fault g c = record { later = omega arith; rose = λ e. absurd (subst (λ a. IsUnread a c.in-Err.ensures.none.read) e c.in-Err.ensures.none.unread) }
+
+pub returns-in-Err-clause-unfailing : goal.returns-in-Err-clause-unfailing
+returns-in-Err-clause-unfailing g c = c.read_session.ensures.unfailing

@@ -1,4 +1,4 @@
-use Rattle.std.proofs.Common.{Some, arith, sym, subst}
+use Rattle.std.proofs.Common.{Some, arith, sym, subst, ap, Err}
 use Rattle.kernel_state.specs.Whole.{program_with}
 use Rattle.plain_machine.specs.Grammar.{longest_script}
 use Rattle.kernel_top.specs.Reading.{IsAll}
@@ -23,3 +23,18 @@ returns-in-Err-clause-outcome g c =
 
 pub returns-in-Err-clause-write_fault : goal.returns-in-Err-clause-write_fault
 returns-in-Err-clause-write_fault g c = record { later = omega arith; rose = λ e. absurd (unread_no_write c.in-Err.status _ c.in-Err.ensures.none.unread e) }
+
+pub returns-in-Ok-clause-read_fault : goal.returns-in-Ok-clause-read_fault
+returns-in-Ok-clause-read_fault g c = record { later = c.read_script.ensures.cause.later; rose = λ e. absurd (c.record_bytes.ensures.no_read e) }
+
+pub returns-in-Ok-clause-write_fault : goal.returns-in-Ok-clause-write_fault
+returns-in-Ok-clause-write_fault g c = c.record_bytes.ensures.write_fault
+
+pub returns-in-Ok-clause-unfailing : goal.returns-in-Ok-clause-unfailing
+returns-in-Ok-clause-unfailing g c = c.read_script.ensures.unfailing
+
+pub returns-in-Err-clause-read_fault : goal.returns-in-Err-clause-read_fault
+returns-in-Err-clause-read_fault g c = record { later = c.in-Err.ensures.cause.later; rose = λ e. c.in-Err.ensures.cause.rose (ap Err e) }
+
+pub returns-in-Err-clause-unfailing : goal.returns-in-Err-clause-unfailing
+returns-in-Err-clause-unfailing g c = c.read_script.ensures.unfailing

@@ -5,6 +5,7 @@ use Rattle.kernel_top.specs.Replaying.{Replayed}
 use Rattle.kernel_top.specs.Checking.{Told}
 use Rattle.kernel_top.specs.Outcomes.{OnDrill, OnSession, Came}
 use Rattle.command_words.specs.declared.commands.Command.TheVariants as command
+use Rattle.kernel_top.specs.declared.status.Status.TheVariants as status
 use Rattle.kernel_top.proofs.Outcomes.{came_aside, came_settled, came_unknown, completes, drill_reads_nothing, session_reads_nothing}
 use Rattle.kernel_top.proofs.top.run.Goals as goal
 
@@ -112,3 +113,85 @@ pub returns-in-None-clause-complete : goal.returns-in-None-clause-complete
 returns-in-None-clause-complete g c =
     let asked : command_of (map string_bytes c.args.words.now) ≡ None = sym c.in-None.ensures in
     rw asked tt
+
+-- WHAT THE CALLS SAY THEMSELVES
+pub run_source-requires : goal.run_source-requires
+run_source-requires g c = c.requires.few
+
+pub returns-in-Some-Run-clause-read_fault : goal.returns-in-Some-Run-clause-read_fault
+returns-in-Some-Run-clause-read_fault g c = c.run_source.ensures.read_fault
+
+pub returns-in-Some-Run-clause-write_fault : goal.returns-in-Some-Run-clause-write_fault
+returns-in-Some-Run-clause-write_fault g c = c.run_source.ensures.write_fault
+
+pub returns-in-Some-Run-clause-unfailing : goal.returns-in-Some-Run-clause-unfailing
+returns-in-Some-Run-clause-unfailing g c = c.run_source.ensures.unfailing
+
+pub record_source-requires-clause-few : goal.record_source-requires-clause-few
+record_source-requires-clause-few g c = c.requires.few
+
+pub returns-in-Some-Record-clause-read_fault : goal.returns-in-Some-Record-clause-read_fault
+returns-in-Some-Record-clause-read_fault g c = c.record_source.ensures.read_fault
+
+pub returns-in-Some-Record-clause-write_fault : goal.returns-in-Some-Record-clause-write_fault
+returns-in-Some-Record-clause-write_fault g c = c.record_source.ensures.write_fault
+
+pub returns-in-Some-Record-clause-unfailing : goal.returns-in-Some-Record-clause-unfailing
+returns-in-Some-Record-clause-unfailing g c = c.record_source.ensures.unfailing
+
+pub view_source-requires : goal.view_source-requires
+view_source-requires g c = c.requires.few
+
+pub returns-in-Some-View-clause-read_fault : goal.returns-in-Some-View-clause-read_fault
+returns-in-Some-View-clause-read_fault g c = c.view_source.ensures.read_fault
+
+pub returns-in-Some-View-clause-write_fault : goal.returns-in-Some-View-clause-write_fault
+returns-in-Some-View-clause-write_fault g c = c.view_source.ensures.write_fault
+
+pub returns-in-Some-View-clause-unfailing : goal.returns-in-Some-View-clause-unfailing
+returns-in-Some-View-clause-unfailing g c = c.view_source.ensures.unfailing
+
+pub returns-in-Some-Replay-clause-read_fault : goal.returns-in-Some-Replay-clause-read_fault
+returns-in-Some-Replay-clause-read_fault g c = c.replay_source.ensures.read_fault
+
+pub returns-in-Some-Replay-clause-write_fault : goal.returns-in-Some-Replay-clause-write_fault
+returns-in-Some-Replay-clause-write_fault g c = c.replay_source.ensures.write_fault
+
+pub returns-in-Some-Replay-clause-unfailing : goal.returns-in-Some-Replay-clause-unfailing
+returns-in-Some-Replay-clause-unfailing g c = c.replay_source.ensures.unfailing
+
+pub returns-in-Some-Check-clause-read_fault : goal.returns-in-Some-Check-clause-read_fault
+returns-in-Some-Check-clause-read_fault g c = c.check_source.ensures.read_fault
+
+pub returns-in-Some-Check-clause-write_fault : goal.returns-in-Some-Check-clause-write_fault
+returns-in-Some-Check-clause-write_fault g c = c.check_source.ensures.write_fault
+
+pub returns-in-Some-Check-clause-unfailing : goal.returns-in-Some-Check-clause-unfailing
+returns-in-Some-Check-clause-unfailing g c = c.check_source.ensures.unfailing
+
+pub run_drill-requires : goal.run_drill-requires
+run_drill-requires g c = c.requires.few
+
+pub returns-in-Some-Drill-clause-write_fault : goal.returns-in-Some-Drill-clause-write_fault
+returns-in-Some-Drill-clause-write_fault g c = c.run_drill.ensures.write_fault
+
+pub returns-in-Some-Drill-clause-unfailing : goal.returns-in-Some-Drill-clause-unfailing
+returns-in-Some-Drill-clause-unfailing g c = λ known. refl
+
+pub run_session-requires : goal.run_session-requires
+run_session-requires g c = c.requires.few
+
+pub returns-in-Some-Session-clause-write_fault : goal.returns-in-Some-Session-clause-write_fault
+returns-in-Some-Session-clause-write_fault g c = c.run_session.ensures.write_fault
+
+pub returns-in-Some-Session-clause-unfailing : goal.returns-in-Some-Session-clause-unfailing
+returns-in-Some-Session-clause-unfailing g c = λ known. refl
+
+pub returns-in-None-clause-read_fault : goal.returns-in-None-clause-read_fault
+returns-in-None-clause-read_fault g c = record { later = omega arith; rose = λ e. absurd (let no : status.Usage ≡ status.ReadFault = e in cc) }
+
+pub returns-in-None-clause-write_fault : goal.returns-in-None-clause-write_fault
+returns-in-None-clause-write_fault g c = record { later = omega arith; rose = λ e. absurd (let no : status.Usage ≡ status.WriteFault = e in cc) }
+
+pub returns-in-None-clause-unfailing : goal.returns-in-None-clause-unfailing
+returns-in-None-clause-unfailing g c = λ known. refl
