@@ -1,187 +1,195 @@
 //! Positions at, in front of and behind each bound.
 
 use super::playing::said;
-use super::words::Word::*;
-use super::words::{BOLD, FACE, ITALIC, Word};
+use crate::checking::is;
 use buffer_table::Editor;
-use ek_call::Prim;
-use ek_call::Prim::*;
-use ek_types::Mem;
 use std::alloc::Global;
 use std::process::Abort;
 
-/// Stands for the position that is tried.
-const P: Word = Int(i64::MIN);
-
 /// Of six characters, from position 1 to 7, those from 2 to 5 are accessible. The third is bold, with an overlay of
 /// its own.
-const SETTING: [(Prim, &[Word]); 4] = [
-    (Insert, &[Styled("abcdef", &[(2, 3, &[FACE, BOLD])])]),
-    (MakeMarker, &[]),
-    (MakeOverlay, &[Int(3), Int(4)]),
-    (NarrowToRegion, &[Int(2), Int(5)]),
+const SETTING: [&str; 4] = [
+    r#"insert | "abcdef" / 2 3 face bold"#,
+    "make-marker",
+    "make-overlay | 3 | 4",
+    "narrow-to-region | 2 | 5",
 ];
 
-/// Calls, and what the last replies at the positions 0 to 8; a mark, where one of the calls is refused.
-type Trial = (&'static [(Prim, &'static [Word])], &'static str);
+/// Calls with a `P` for the position that is tried, and what the last replies at the positions 0 to 8; a mark, where one of
+/// the calls is refused.
+type Trial = (&'static str, &'static str);
 
 const TRIALS: [Trial; 27] = [
-    (&[(CharAfter, &[P])], "nil|nil|98|99|100|nil|nil|nil|nil|"),
-    (&[(GotoChar, &[P]), (Point, &[])], "2|2|2|3|4|5|5|5|5|"),
+    ("char-after | P", "nil|nil|98|99|100|nil|nil|nil|nil|"),
     (
-        &[(BufferSubstringNoProperties, &[P, Int(3)])],
-        "!|!|\"b\"|\"\"|\"c\"|\"cd\"|!|!|!|",
+        r#"goto-char | P
+point"#,
+        "2|2|2|3|4|5|5|5|5|",
     ),
     (
-        &[(BufferSubstringNoProperties, &[Int(3), P])],
-        "!|!|\"b\"|\"\"|\"c\"|\"cd\"|!|!|!|",
+        "buffer-substring-no-properties | P | 3",
+        r#"!|!|"b"|""|"c"|"cd"|!|!|!|"#,
     ),
     (
-        &[(DeleteRegion, &[P, Int(3)]), (BufferSize, &[])],
+        "buffer-substring-no-properties | 3 | P",
+        r#"!|!|"b"|""|"c"|"cd"|!|!|!|"#,
+    ),
+    (
+        r#"delete-region | P | 3
+buffer-size"#,
         "!|!|5|6|5|4|!|!|!|",
     ),
     (
-        &[(DeleteRegion, &[Int(3), P]), (BufferSize, &[])],
+        r#"delete-region | 3 | P
+buffer-size"#,
         "!|!|5|6|5|4|!|!|!|",
     ),
     (
-        &[
-            (InsertBufferSubstring, &[Buffer(0), P, Int(3)]),
-            (BufferSize, &[]),
-        ],
+        r#"insert-buffer-substring | buffer:0 | P | 3
+buffer-size"#,
         "!|!|7|6|7|8|!|!|!|",
     ),
     (
-        &[(NarrowToRegion, &[P, Int(3)]), (PointMin, &[])],
+        r#"narrow-to-region | P | 3
+point-min"#,
         "!|1|2|3|3|3|3|3|!|",
     ),
     (
-        &[(NarrowToRegion, &[Int(3), P]), (PointMax, &[])],
+        r#"narrow-to-region | 3 | P
+point-max"#,
         "!|3|3|3|4|5|6|7|!|",
     ),
     (
-        &[(CopyMarker, &[P]), (MarkerPosition, &[Marker(1)])],
+        r#"copy-marker | P
+marker-position | marker:1"#,
         "1|1|2|3|4|5|6|7|7|",
     ),
     (
-        &[(SetMarker, &[Marker(0), P]), (MarkerPosition, &[Marker(0)])],
+        r#"set-marker | marker:0 | P
+marker-position | marker:0"#,
         "1|1|2|3|4|5|6|7|7|",
     ),
     (
-        &[(GetTextProperty, &[P, FACE])],
+        "get-text-property | P | face",
         "!|!|nil|bold|nil|nil|!|!|!|",
     ),
     (
-        &[(GetCharProperty, &[P, FACE])],
+        "get-char-property | P | face",
         "!|!|nil|bold|nil|nil|!|!|!|",
     ),
     (
-        &[(TextPropertiesAt, &[P])],
+        "text-properties-at | P",
         "!|!|nil|(face bold)|nil|nil|!|!|!|",
     ),
     (
-        &[(AddTextProperties, &[P, Int(3), List(&[FACE, ITALIC])])],
+        "add-text-properties | P | 3 | [face italic]",
         "!|!|t|nil|t|t|!|!|!|",
     ),
     (
-        &[(RemoveTextProperties, &[P, Int(3), List(&[FACE, Nil])])],
+        "remove-text-properties | P | 3 | [face nil]",
         "!|!|nil|nil|t|t|!|!|!|",
     ),
     (
-        &[(SetTextProperties, &[Int(3), P, Nil])],
+        "set-text-properties | 3 | P | nil",
         "!|!|nil|nil|t|t|!|!|!|",
     ),
     (
-        &[(TextPropertyAny, &[P, Int(3), FACE, BOLD])],
+        "text-property-any | P | 3 | face | bold",
         "!|!|nil|nil|3|3|!|!|!|",
     ),
     (
-        &[(TextPropertyNotAll, &[P, Int(3), FACE, Nil])],
+        "text-property-not-all | P | 3 | face | nil",
         "!|!|nil|nil|3|3|!|!|!|",
     ),
-    (&[(NextPropertyChange, &[P])], "!|!|3|4|nil|nil|!|!|!|"),
-    (&[(NextPropertyChange, &[Int(2), P])], "0|1|2|3|3|3|3|3|3|"),
+    ("next-property-change | P", "!|!|3|4|nil|nil|!|!|!|"),
+    ("next-property-change | 2 | P", "0|1|2|3|3|3|3|3|3|"),
     (
-        &[(PreviousSinglePropertyChange, &[P, FACE])],
+        "previous-single-property-change | P | face",
         "!|!|nil|nil|3|4|!|!|!|",
     ),
+    ("previous-property-change | 5 | P", "4|4|4|4|4|5|6|7|8|"),
     (
-        &[(PreviousPropertyChange, &[Int(5), P])],
-        "4|4|4|4|4|5|6|7|8|",
-    ),
-    (
-        &[(MakeOverlay, &[P, Int(3)]), (OverlayStart, &[Overlay(1)])],
+        r#"make-overlay | P | 3
+overlay-start | overlay:1"#,
         "1|1|2|3|3|3|3|3|3|",
     ),
     (
-        &[
-            (MoveOverlay, &[Overlay(0), P, Int(3)]),
-            (OverlayEnd, &[Overlay(0)]),
-        ],
+        r#"move-overlay | overlay:0 | P | 3
+overlay-end | overlay:0"#,
         "3|3|3|3|4|5|6|7|7|",
     ),
-    (&[(NextOverlayChange, &[P])], "3|3|3|4|5|5|5|5|5|"),
-    (&[(PreviousOverlayChange, &[P])], "2|2|2|2|3|4|4|4|4|"),
+    ("next-overlay-change | P", "3|3|3|4|5|5|5|5|5|"),
+    ("previous-overlay-change | P", "2|2|2|2|3|4|4|4|4|"),
 ];
 
-/// These arguments, with a position in its place.
-fn at(alloc: Global, words: &[Word], position: i64) -> Mem<Vec<Word>> {
-    let mut found = Vec::new(alloc);
-    for word in words {
-        match word {
-            Int(i64::MIN) => found.push(Int(position))?,
-            _ => found.push(*word)?,
-        }
+/// A character of a call, or the position in the place of a `P`.
+fn put_placed(rt: &impl Abort, text: &mut String, c: char, position: u32) {
+    if c == 'P' {
+        write!(text, "{position}").expect(rt, "room");
+    } else {
+        text.push(c).expect(rt, "room");
     }
-    Ok(found)
+}
+
+/// A call with a position in its place.
+fn placed(rt: &impl Abort, alloc: Global, call: &str, position: u32) -> String {
+    let mut text = String::new(alloc);
+    for c in call.chars() {
+        put_placed(rt, &mut text, c, position);
+    }
+    text
+}
+
+fn said_at(rt: &impl Abort, editor: &mut Editor, call: &str, position: u32) -> String {
+    let call = placed(rt, editor.allocator(), call, position);
+    said(rt, editor, call.as_str())
 }
 
 /// What the last of these calls replies at a position.
-fn last_said(editor: &mut Editor, calls: &[(Prim, &[Word])], position: i64) -> Mem<String> {
+fn last_said(rt: &impl Abort, editor: &mut Editor, calls: &str, position: u32) -> String {
     let alloc = editor.allocator();
     let mut last = String::new(alloc);
-    for call in calls {
-        last = said_at(editor, call.0, call.1, position)?;
+    for call in calls.split('\n') {
+        last = said_at(rt, editor, call, position);
         if last.starts_with('!') {
-            return Ok(String::from_str(alloc, "!")?);
+            return String::from_str(alloc, "!").expect(rt, "room");
         }
     }
-    Ok(last)
-}
-
-fn said_at(editor: &mut Editor, prim: Prim, words: &[Word], position: i64) -> Mem<String> {
-    let words = at(editor.allocator(), words, position)?;
-    said(editor, prim, words.as_slice())
+    last
 }
 
 fn set_up(rt: &impl Abort, alloc: Global) -> Editor {
     let mut editor = Editor::new(alloc).expect(rt, "an editor");
     for call in &SETTING {
-        said(&mut editor, call.0, call.1).expect(rt, "a setting");
+        said(rt, &mut editor, call);
     }
     editor
 }
 
-fn tried(rt: &impl Abort, alloc: Global, calls: &[(Prim, &[Word])], position: i64) -> String {
+fn tried(rt: &impl Abort, alloc: Global, calls: &str, position: u32) -> String {
     let mut editor = set_up(rt, alloc);
-    let found = last_said(&mut editor, calls, position).expect(rt, "memory");
+    let found = last_said(rt, &mut editor, calls, position);
     editor.close();
     found
 }
 
+fn put(rt: &impl Abort, text: &mut String, more: &str) {
+    text.push_str(more).expect(rt, "room");
+}
+
 /// What these calls reply at each position, one behind the other.
-fn replies(rt: &impl Abort, alloc: Global, calls: &[(Prim, &[Word])]) -> String {
+fn replies(rt: &impl Abort, alloc: Global, calls: &str) -> String {
     let mut found = String::new(alloc);
-    for position in 0..9 {
+    for position in 0..9u32 {
         let reply = tried(rt, alloc, calls, position);
-        found.push_str(reply.as_str()).expect(rt, "room");
-        found.push_str("|").expect(rt, "room");
+        put(rt, &mut found, reply.as_str());
+        put(rt, &mut found, "|");
     }
     found
 }
 
 fn check_trial(rt: &impl Abort, alloc: Global, trial: &Trial) {
-    assert_eq!(rt; replies(rt, alloc, trial.0).as_str(), trial.1);
+    is(rt, replies(rt, alloc, trial.0).as_str(), trial.1);
 }
 
 #[test]

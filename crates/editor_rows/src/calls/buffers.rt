@@ -1,129 +1,81 @@
 //! Buffers.
 
-use super::playing::{Row, check_rows};
-use super::words::Word::*;
-use ek_call::Prim::*;
+use super::playing::check_rows;
 
-const ROWS: [Row; 5] = [
-    Row {
-        shows: "buffers are found, made, and made current",
-        calls: &[
-            (CurrentBuffer, &[], "#<buffer *scratch*>"),
-            (GetBuffer, &[Str("w")], "nil"),
-            (GetBufferCreate, &[Str("w")], "#<buffer w>"),
-            (GetBufferCreate, &[Str("w")], "#<buffer w>"),
-            (GetBufferCreate, &[Buffer(1)], "#<buffer w>"),
-            (CurrentBuffer, &[], "#<buffer *scratch*>"),
-            (SetBuffer, &[Str("w")], "#<buffer w>"),
-            (CurrentBuffer, &[], "#<buffer w>"),
-            (BufferList, &[], "(#<buffer *scratch*> #<buffer w>)"),
-            (GetBuffer, &[Str("")], "nil"),
-            (SetBuffer, &[Str("")], "! no-such-buffer"),
-            (GetBufferCreate, &[Str("")], "! wrong-type-argument"),
-        ],
-    },
-    Row {
-        shows: "the first name that is free",
-        calls: &[
-            (GenerateNewBuffer, &[Str("w")], "#<buffer w>"),
-            (GenerateNewBuffer, &[Str("w")], "#<buffer w<2>>"),
-            (GenerateNewBuffer, &[Str("w")], "#<buffer w<3>>"),
-            (SetBuffer, &[Str("w<2>")], "#<buffer w<2>>"),
-            (RenameBuffer, &[Str("w")], "\"w<2>\""),
-            (RenameBuffer, &[Str("w<2>")], "\"w<2>\""),
-            (RenameBuffer, &[Str("v")], "\"v\""),
-            (GenerateNewBuffer, &[Str("w")], "#<buffer w<2>>"),
-            (BufferName, &[], "\"v\""),
-            (BufferName, &[Buffer(3)], "\"w<3>\""),
-            (
-                BufferList,
-                &[],
-                "(#<buffer *scratch*> #<buffer w> #<buffer v> #<buffer w<3>> #<buffer w<2>>)",
-            ),
-        ],
-    },
-    Row {
-        shows: "the modified flag",
-        calls: &[
-            (BufferModifiedP, &[], "nil"),
-            (Insert, &[Str("")], "nil"),
-            (BufferModifiedP, &[], "nil"),
-            (Insert, &[Str("a")], "nil"),
-            (BufferModifiedP, &[Str("*scratch*")], "t"),
-            (SetBufferModifiedP, &[Nil], "nil"),
-            (BufferModifiedP, &[Buffer(0)], "nil"),
-            (SetBufferModifiedP, &[Int(0)], "t"),
-            (BufferModifiedP, &[Nil], "t"),
-        ],
-    },
-    Row {
-        shows: "a killed buffer",
-        calls: &[
-            (GetBufferCreate, &[Str("w")], "#<buffer w>"),
-            (BufferLiveP, &[Buffer(1)], "t"),
-            (KillBuffer, &[Buffer(1)], "t"),
-            (BufferLiveP, &[Buffer(1)], "nil"),
-            (BufferLiveP, &[Str("w")], "nil"),
-            (GetBuffer, &[Str("w")], "nil"),
-            (GetBuffer, &[Buffer(1)], "#<killed buffer>"),
-            (GetBufferCreate, &[Buffer(1)], "#<killed buffer>"),
-            (BufferName, &[Buffer(1)], "nil"),
-            (GetBufferCreate, &[Str("w")], "#<buffer w>"),
-            (BufferName, &[Buffer(2)], "\"w\""),
-            (BufferLiveP, &[Buffer(1)], "nil"),
-        ],
-    },
-    Row {
-        shows: "what of a killed buffer is refused",
-        calls: &[
-            (GetBufferCreate, &[Str("w")], "#<buffer w>"),
-            (KillBuffer, &[Buffer(1)], "t"),
-            (MakeMarker, &[], "#<marker in no buffer>"),
-            (
-                MakeOverlay,
-                &[Int(1), Int(1)],
-                "#<overlay from 1 to 1 in *scratch*>",
-            ),
-            (SetBuffer, &[Buffer(1)], "! buffer-killed"),
-            (BufferModifiedP, &[Buffer(1)], "! buffer-killed"),
-            (BufferSize, &[Buffer(1)], "! buffer-killed"),
-            (InsertBufferSubstring, &[Buffer(1)], "! buffer-killed"),
-            (
-                InsertBufferSubstring,
-                &[Buffer(1), Int(9), Int(9)],
-                "! buffer-killed",
-            ),
-            (
-                SetMarker,
-                &[Marker(0), Int(1), Buffer(1)],
-                "! buffer-killed",
-            ),
-            (MakeOverlay, &[Int(1), Int(1), Buffer(1)], "! buffer-killed"),
-            (
-                MoveOverlay,
-                &[Overlay(0), Int(1), Int(1), Buffer(1)],
-                "! buffer-killed",
-            ),
-            (SetBuffer, &[Str("w")], "! no-such-buffer"),
-            (BufferModifiedP, &[Str("w")], "! no-such-buffer"),
-            (BufferSize, &[Str("w")], "! no-such-buffer"),
-            (InsertBufferSubstring, &[Str("w")], "! no-such-buffer"),
-            (
-                SetMarker,
-                &[Marker(0), Int(1), Str("w")],
-                "! no-such-buffer",
-            ),
-            (MakeOverlay, &[Int(1), Int(1), Str("w")], "! no-such-buffer"),
-            (
-                MoveOverlay,
-                &[Overlay(0), Int(1), Int(1), Str("w")],
-                "! no-such-buffer",
-            ),
-        ],
-    },
-];
+const ROWS: &str = r#"# buffers are found, made, and made current
+current-buffer => #<buffer *scratch*>
+get-buffer | "w" => nil
+get-buffer-create | "w" => #<buffer w>
+get-buffer-create | "w" => #<buffer w>
+get-buffer-create | buffer:1 => #<buffer w>
+current-buffer => #<buffer *scratch*>
+set-buffer | "w" => #<buffer w>
+current-buffer => #<buffer w>
+buffer-list => (#<buffer *scratch*> #<buffer w>)
+get-buffer | "" => nil
+set-buffer | "" => ! no-such-buffer
+get-buffer-create | "" => ! wrong-type-argument
+
+# the first name that is free
+generate-new-buffer | "w" => #<buffer w>
+generate-new-buffer | "w" => #<buffer w<2>>
+generate-new-buffer | "w" => #<buffer w<3>>
+set-buffer | "w<2>" => #<buffer w<2>>
+rename-buffer | "w" => "w<2>"
+rename-buffer | "w<2>" => "w<2>"
+rename-buffer | "v" => "v"
+generate-new-buffer | "w" => #<buffer w<2>>
+buffer-name => "v"
+buffer-name | buffer:3 => "w<3>"
+buffer-list => (#<buffer *scratch*> #<buffer w> #<buffer v> #<buffer w<3>> #<buffer w<2>>)
+
+# the modified flag
+buffer-modified-p => nil
+insert | "" => nil
+buffer-modified-p => nil
+insert | "a" => nil
+buffer-modified-p | "*scratch*" => t
+set-buffer-modified-p | nil => nil
+buffer-modified-p | buffer:0 => nil
+set-buffer-modified-p | 0 => t
+buffer-modified-p | nil => t
+
+# a killed buffer
+get-buffer-create | "w" => #<buffer w>
+buffer-live-p | buffer:1 => t
+kill-buffer | buffer:1 => t
+buffer-live-p | buffer:1 => nil
+buffer-live-p | "w" => nil
+get-buffer | "w" => nil
+get-buffer | buffer:1 => #<killed buffer>
+get-buffer-create | buffer:1 => #<killed buffer>
+buffer-name | buffer:1 => nil
+get-buffer-create | "w" => #<buffer w>
+buffer-name | buffer:2 => "w"
+buffer-live-p | buffer:1 => nil
+
+# what of a killed buffer is refused
+get-buffer-create | "w" => #<buffer w>
+kill-buffer | buffer:1 => t
+make-marker => #<marker in no buffer>
+make-overlay | 1 | 1 => #<overlay from 1 to 1 in *scratch*>
+set-buffer | buffer:1 => ! buffer-killed
+buffer-modified-p | buffer:1 => ! buffer-killed
+buffer-size | buffer:1 => ! buffer-killed
+insert-buffer-substring | buffer:1 => ! buffer-killed
+insert-buffer-substring | buffer:1 | 9 | 9 => ! buffer-killed
+set-marker | marker:0 | 1 | buffer:1 => ! buffer-killed
+make-overlay | 1 | 1 | buffer:1 => ! buffer-killed
+move-overlay | overlay:0 | 1 | 1 | buffer:1 => ! buffer-killed
+set-buffer | "w" => ! no-such-buffer
+buffer-modified-p | "w" => ! no-such-buffer
+buffer-size | "w" => ! no-such-buffer
+insert-buffer-substring | "w" => ! no-such-buffer
+set-marker | marker:0 | 1 | "w" => ! no-such-buffer
+make-overlay | 1 | 1 | "w" => ! no-such-buffer
+move-overlay | overlay:0 | 1 | 1 | "w" => ! no-such-buffer"#;
 
 #[test]
 fn the_rows_of_buffers_give_their_replies(rt: HostRuntime) {
-    check_rows(&rt, rt.alloc(), &ROWS);
+    check_rows(&rt, rt.alloc(), ROWS);
 }

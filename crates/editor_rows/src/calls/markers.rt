@@ -1,171 +1,89 @@
 //! Markers.
 
-use super::playing::{Row, check_rows};
-use super::words::Word::*;
-use ek_call::Prim::*;
+use super::playing::check_rows;
 
-const ROWS: [Row; 7] = [
-    Row {
-        shows: "markers at a tie",
-        calls: &[
-            (Insert, &[Str("abcd")], "nil"),
-            (CopyMarker, &[Int(2)], "#<marker at 2 in *scratch*>"),
-            (
-                CopyMarker,
-                &[Int(2), T],
-                "#<marker (moves after insertion) at 2 in *scratch*>",
-            ),
-            (GotoChar, &[Int(2)], "2"),
-            (Insert, &[Str("xy")], "nil"),
-            (BufferString, &[], "\"axybcd\""),
-            (Point, &[], "4"),
-            (MarkerPosition, &[Marker(0)], "2"),
-            (MarkerPosition, &[Marker(1)], "4"),
-        ],
-    },
-    Row {
-        shows: "an insertion before markers moves both types",
-        calls: &[
-            (Insert, &[Str("abcd")], "nil"),
-            (CopyMarker, &[Int(2)], "#<marker at 2 in *scratch*>"),
-            (
-                CopyMarker,
-                &[Int(2), T],
-                "#<marker (moves after insertion) at 2 in *scratch*>",
-            ),
-            (GotoChar, &[Int(2)], "2"),
-            (InsertBeforeMarkers, &[Str("x"), Str(""), Str("y")], "nil"),
-            (MarkerPosition, &[Marker(0)], "4"),
-            (MarkerPosition, &[Marker(1)], "4"),
-        ],
-    },
-    Row {
-        shows: "a deletion with markers at both ends, inside and behind",
-        calls: &[
-            (Insert, &[Str("abcdef")], "nil"),
-            (
-                CopyMarker,
-                &[Int(2), T],
-                "#<marker (moves after insertion) at 2 in *scratch*>",
-            ),
-            (CopyMarker, &[Int(3)], "#<marker at 3 in *scratch*>"),
-            (CopyMarker, &[Int(4)], "#<marker at 4 in *scratch*>"),
-            (CopyMarker, &[Int(5)], "#<marker at 5 in *scratch*>"),
-            (DeleteRegion, &[Int(4), Int(2)], "nil"),
-            (MarkerPosition, &[Marker(0)], "2"),
-            (MarkerPosition, &[Marker(1)], "2"),
-            (MarkerPosition, &[Marker(2)], "2"),
-            (MarkerPosition, &[Marker(3)], "3"),
-        ],
-    },
-    Row {
-        shows: "a new marker points nowhere, and its type is set by any flag",
-        calls: &[
-            (MakeMarker, &[], "#<marker in no buffer>"),
-            (MarkerPosition, &[Marker(0)], "nil"),
-            (MarkerBuffer, &[Marker(0)], "nil"),
-            (MarkerInsertionType, &[Marker(0)], "nil"),
-            (SetMarkerInsertionType, &[Marker(0), Int(0)], "t"),
-            (MarkerInsertionType, &[Marker(0)], "t"),
-            (CopyMarker, &[Marker(0)], "#<marker in no buffer>"),
-            (CopyMarker, &[], "#<marker in no buffer>"),
-            (
-                CopyMarker,
-                &[Nil, T],
-                "#<marker (moves after insertion) in no buffer>",
-            ),
-            (SetMarkerInsertionType, &[Marker(0), Nil], "nil"),
-            (
-                SetMarker,
-                &[Marker(0), Int(5)],
-                "#<marker at 1 in *scratch*>",
-            ),
-            (SetMarker, &[Marker(0), Nil], "#<marker in no buffer>"),
-        ],
-    },
-    Row {
-        shows: "a marker is clipped to the whole buffer, narrowed or not",
-        calls: &[
-            (Insert, &[Str("abcd")], "nil"),
-            (NarrowToRegion, &[Int(2), Int(3)], "nil"),
-            (CopyMarker, &[Int(-7)], "#<marker at 1 in *scratch*>"),
-            (CopyMarker, &[Int(9)], "#<marker at 5 in *scratch*>"),
-            (PointMarker, &[], "#<marker at 3 in *scratch*>"),
-            (
-                SetMarker,
-                &[Marker(2), Int(0)],
-                "#<marker at 1 in *scratch*>",
-            ),
-            (
-                SetMarker,
-                &[Marker(2), Int(6)],
-                "#<marker at 5 in *scratch*>",
-            ),
-            (
-                SetMarker,
-                &[Marker(2), Int(4)],
-                "#<marker at 4 in *scratch*>",
-            ),
-        ],
-    },
-    Row {
-        shows: "a marker counts as its number in another buffer",
-        calls: &[
-            (Insert, &[Str("abcd")], "nil"),
-            (
-                CopyMarker,
-                &[Int(4), T],
-                "#<marker (moves after insertion) at 4 in *scratch*>",
-            ),
-            (GetBufferCreate, &[Str("w")], "#<buffer w>"),
-            (SetBuffer, &[Buffer(1)], "#<buffer w>"),
-            (Insert, &[Str("xy")], "nil"),
-            (CopyMarker, &[Marker(0)], "#<marker at 4 in *scratch*>"),
-            (SetMarker, &[Marker(1), Marker(0)], "#<marker at 3 in w>"),
-            (
-                SetMarker,
-                &[Marker(1), Marker(0), Buffer(0)],
-                "#<marker at 4 in *scratch*>",
-            ),
-            (
-                SetMarker,
-                &[Marker(1), Int(2), Str("w")],
-                "#<marker at 2 in w>",
-            ),
-            (MarkerBuffer, &[Marker(1)], "#<buffer w>"),
-            (
-                GotoChar,
-                &[Marker(0)],
-                "#<marker (moves after insertion) at 4 in *scratch*>",
-            ),
-            (Point, &[], "3"),
-        ],
-    },
-    Row {
-        shows: "markers of a killed buffer point nowhere",
-        calls: &[
-            (GetBufferCreate, &[Str("w")], "#<buffer w>"),
-            (MakeMarker, &[], "#<marker in no buffer>"),
-            (
-                SetMarker,
-                &[Marker(0), Int(1), Buffer(1)],
-                "#<marker at 1 in w>",
-            ),
-            (KillBuffer, &[Buffer(1)], "t"),
-            (MarkerPosition, &[Marker(0)], "nil"),
-            (MarkerBuffer, &[Marker(0)], "nil"),
-            (
-                SetMarker,
-                &[Marker(0), Int(1), Buffer(1)],
-                "! buffer-killed",
-            ),
-            (SetMarker, &[Marker(0), Nil, Buffer(1)], "! buffer-killed"),
-            (SetMarker, &[Marker(0), Nil, Str("w")], "! no-such-buffer"),
-        ],
-    },
-];
+const ROWS: &str = r#"# markers at a tie
+insert | "abcd" => nil
+copy-marker | 2 => #<marker at 2 in *scratch*>
+copy-marker | 2 | t => #<marker (moves after insertion) at 2 in *scratch*>
+goto-char | 2 => 2
+insert | "xy" => nil
+buffer-string => "axybcd"
+point => 4
+marker-position | marker:0 => 2
+marker-position | marker:1 => 4
+
+# an insertion before markers moves both types
+insert | "abcd" => nil
+copy-marker | 2 => #<marker at 2 in *scratch*>
+copy-marker | 2 | t => #<marker (moves after insertion) at 2 in *scratch*>
+goto-char | 2 => 2
+insert-before-markers | "x" | "" | "y" => nil
+marker-position | marker:0 => 4
+marker-position | marker:1 => 4
+
+# a deletion with markers at both ends, inside and behind
+insert | "abcdef" => nil
+copy-marker | 2 | t => #<marker (moves after insertion) at 2 in *scratch*>
+copy-marker | 3 => #<marker at 3 in *scratch*>
+copy-marker | 4 => #<marker at 4 in *scratch*>
+copy-marker | 5 => #<marker at 5 in *scratch*>
+delete-region | 4 | 2 => nil
+marker-position | marker:0 => 2
+marker-position | marker:1 => 2
+marker-position | marker:2 => 2
+marker-position | marker:3 => 3
+
+# a new marker points nowhere, and its type is set by any flag
+make-marker => #<marker in no buffer>
+marker-position | marker:0 => nil
+marker-buffer | marker:0 => nil
+marker-insertion-type | marker:0 => nil
+set-marker-insertion-type | marker:0 | 0 => t
+marker-insertion-type | marker:0 => t
+copy-marker | marker:0 => #<marker in no buffer>
+copy-marker => #<marker in no buffer>
+copy-marker | nil | t => #<marker (moves after insertion) in no buffer>
+set-marker-insertion-type | marker:0 | nil => nil
+set-marker | marker:0 | 5 => #<marker at 1 in *scratch*>
+set-marker | marker:0 | nil => #<marker in no buffer>
+
+# a marker is clipped to the whole buffer, narrowed or not
+insert | "abcd" => nil
+narrow-to-region | 2 | 3 => nil
+copy-marker | -7 => #<marker at 1 in *scratch*>
+copy-marker | 9 => #<marker at 5 in *scratch*>
+point-marker => #<marker at 3 in *scratch*>
+set-marker | marker:2 | 0 => #<marker at 1 in *scratch*>
+set-marker | marker:2 | 6 => #<marker at 5 in *scratch*>
+set-marker | marker:2 | 4 => #<marker at 4 in *scratch*>
+
+# a marker counts as its number in another buffer
+insert | "abcd" => nil
+copy-marker | 4 | t => #<marker (moves after insertion) at 4 in *scratch*>
+get-buffer-create | "w" => #<buffer w>
+set-buffer | buffer:1 => #<buffer w>
+insert | "xy" => nil
+copy-marker | marker:0 => #<marker at 4 in *scratch*>
+set-marker | marker:1 | marker:0 => #<marker at 3 in w>
+set-marker | marker:1 | marker:0 | buffer:0 => #<marker at 4 in *scratch*>
+set-marker | marker:1 | 2 | "w" => #<marker at 2 in w>
+marker-buffer | marker:1 => #<buffer w>
+goto-char | marker:0 => #<marker (moves after insertion) at 4 in *scratch*>
+point => 3
+
+# markers of a killed buffer point nowhere
+get-buffer-create | "w" => #<buffer w>
+make-marker => #<marker in no buffer>
+set-marker | marker:0 | 1 | buffer:1 => #<marker at 1 in w>
+kill-buffer | buffer:1 => t
+marker-position | marker:0 => nil
+marker-buffer | marker:0 => nil
+set-marker | marker:0 | 1 | buffer:1 => ! buffer-killed
+set-marker | marker:0 | nil | buffer:1 => ! buffer-killed
+set-marker | marker:0 | nil | "w" => ! no-such-buffer"#;
 
 #[test]
 fn the_rows_of_markers_give_their_replies(rt: HostRuntime) {
-    check_rows(&rt, rt.alloc(), &ROWS);
+    check_rows(&rt, rt.alloc(), ROWS);
 }

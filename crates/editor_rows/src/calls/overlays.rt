@@ -1,396 +1,174 @@
 //! Overlays.
 
-use super::playing::{Row, check_rows};
-use super::words::Word::*;
-use super::words::{BOLD, EVAPORATE, FACE, ITALIC, PRIORITY};
-use ek_call::Prim::*;
+use super::playing::check_rows;
 
-const ROWS: [Row; 12] = [
-    Row {
-        shows: "overlays at an insertion before markers",
-        calls: &[
-            (Insert, &[Str("abcd")], "nil"),
-            (
-                MakeOverlay,
-                &[Int(1), Int(3)],
-                "#<overlay from 1 to 3 in *scratch*>",
-            ),
-            (
-                MakeOverlay,
-                &[Int(3), Int(5)],
-                "#<overlay from 3 to 5 in *scratch*>",
-            ),
-            (GotoChar, &[Int(3)], "3"),
-            (InsertBeforeMarkers, &[Str("xy")], "nil"),
-            (
-                OverlaysIn,
-                &[Int(1), Int(7)],
-                "(#<overlay from 1 to 5 in *scratch*> #<overlay from 5 to 7 in *scratch*>)",
-            ),
-            (Point, &[], "5"),
-        ],
-    },
-    Row {
-        shows: "empty overlays at an insertion",
-        calls: &[
-            (Insert, &[Str("abcd")], "nil"),
-            (
-                MakeOverlay,
-                &[Int(3), Int(3), Nil, Nil, Nil],
-                "#<overlay from 3 to 3 in *scratch*>",
-            ),
-            (
-                MakeOverlay,
-                &[Int(3), Int(3), Nil, Nil, T],
-                "#<overlay from 3 to 3 in *scratch*>",
-            ),
-            (
-                MakeOverlay,
-                &[Int(3), Int(3), Nil, T, T],
-                "#<overlay from 3 to 3 in *scratch*>",
-            ),
-            (
-                MakeOverlay,
-                &[Int(3), Int(3), Nil, T, Nil],
-                "#<overlay from 3 to 3 in *scratch*>",
-            ),
-            (GotoChar, &[Int(3)], "3"),
-            (Insert, &[Str("xy")], "nil"),
-            (OverlayEnd, &[Overlay(0)], "3"),
-            (OverlayStart, &[Overlay(1)], "3"),
-            (OverlayEnd, &[Overlay(1)], "5"),
-            (OverlayStart, &[Overlay(2)], "5"),
-            (OverlayStart, &[Overlay(3)], "3"),
-            (OverlayEnd, &[Overlay(3)], "3"),
-        ],
-    },
-    Row {
-        shows: "the ends of overlays by their advances, at an insertion at each end",
-        calls: &[
-            (Insert, &[Str("abcdef")], "nil"),
-            (
-                MakeOverlay,
-                &[Int(5), Int(3)],
-                "#<overlay from 3 to 5 in *scratch*>",
-            ),
-            (
-                MakeOverlay,
-                &[Int(3), Int(5), Buffer(0), T, T],
-                "#<overlay from 3 to 5 in *scratch*>",
-            ),
-            (GotoChar, &[Int(5)], "5"),
-            (Insert, &[Str("x")], "nil"),
-            (GotoChar, &[Int(3)], "3"),
-            (Insert, &[Str("y")], "nil"),
-            (OverlayStart, &[Overlay(0)], "3"),
-            (OverlayEnd, &[Overlay(0)], "6"),
-            (OverlayStart, &[Overlay(1)], "4"),
-            (OverlayEnd, &[Overlay(1)], "7"),
-            (DeleteRegion, &[Int(1), Int(8)], "nil"),
-            (
-                OverlaysIn,
-                &[Int(1), Int(1)],
-                "(#<overlay from 1 to 1 in *scratch*> #<overlay from 1 to 1 in *scratch*>)",
-            ),
-        ],
-    },
-    Row {
-        shows: "evaporating overlays",
-        calls: &[
-            (Insert, &[Str("abcd")], "nil"),
-            (
-                MakeOverlay,
-                &[Int(2), Int(4)],
-                "#<overlay from 2 to 4 in *scratch*>",
-            ),
-            (OverlayPut, &[Overlay(0), EVAPORATE, T], "t"),
-            (
-                MakeOverlay,
-                &[Int(1), Int(3)],
-                "#<overlay from 1 to 3 in *scratch*>",
-            ),
-            (OverlayPut, &[Overlay(1), EVAPORATE, Int(0)], "0"),
-            (
-                MakeOverlay,
-                &[Int(2), Int(4)],
-                "#<overlay from 2 to 4 in *scratch*>",
-            ),
-            (OverlayPut, &[Overlay(2), EVAPORATE, Nil], "nil"),
-            (DeleteRegion, &[Int(2), Int(4)], "nil"),
-            (OverlayStart, &[Overlay(0)], "nil"),
-            (OverlayBuffer, &[Overlay(0)], "nil"),
-            (OverlayProperties, &[Overlay(0)], "(evaporate t)"),
-            (
-                OverlaysIn,
-                &[Int(1), Int(3)],
-                "(#<overlay from 1 to 2 in *scratch*> #<overlay from 2 to 2 in *scratch*>)",
-            ),
-            (OverlayPut, &[Overlay(2), EVAPORATE, BOLD], "bold"),
-            (OverlayBuffer, &[Overlay(2)], "nil"),
-            (
-                MoveOverlay,
-                &[Overlay(1), Int(2), Int(2)],
-                "#<overlay in no buffer>",
-            ),
-            (
-                MoveOverlay,
-                &[Overlay(1), Int(1), Int(2)],
-                "#<overlay from 1 to 2 in *scratch*>",
-            ),
-        ],
-    },
-    Row {
-        shows: "the overlay that wins",
-        calls: &[
-            (
-                Insert,
-                &[Styled("abcd", &[(0, 4, &[FACE, Str("plain")])])],
-                "nil",
-            ),
-            (
-                MakeOverlay,
-                &[Int(1), Int(5)],
-                "#<overlay from 1 to 5 in *scratch*>",
-            ),
-            (OverlayPut, &[Overlay(0), FACE, BOLD], "bold"),
-            (
-                MakeOverlay,
-                &[Int(2), Int(4)],
-                "#<overlay from 2 to 4 in *scratch*>",
-            ),
-            (OverlayPut, &[Overlay(1), FACE, ITALIC], "italic"),
-            (GetCharProperty, &[Int(2), FACE], "italic"),
-            (GetCharProperty, &[Int(4), FACE], "bold"),
-            (OverlayPut, &[Overlay(0), PRIORITY, Int(1)], "1"),
-            (GetCharProperty, &[Int(2), FACE], "bold"),
-            (GetCharProperty, &[Int(5), FACE], "nil"),
-            (OverlayPut, &[Overlay(0), PRIORITY, Str("9")], "\"9\""),
-            (GetCharProperty, &[Int(2), FACE], "italic"),
-            (OverlayPut, &[Overlay(1), PRIORITY, Int(-1)], "-1"),
-            (GetCharProperty, &[Int(2), FACE], "bold"),
-            (OverlayPut, &[Overlay(0), FACE, Nil], "nil"),
-            (GetCharProperty, &[Int(4), FACE], "\"plain\""),
-        ],
-    },
-    Row {
-        shows: "of equal priority the larger start wins, then the smaller end, then the higher number",
-        calls: &[
-            (Insert, &[Str("abcdef")], "nil"),
-            (
-                MakeOverlay,
-                &[Int(1), Int(4)],
-                "#<overlay from 1 to 4 in *scratch*>",
-            ),
-            (OverlayPut, &[Overlay(0), FACE, Int(0)], "0"),
-            (
-                MakeOverlay,
-                &[Int(2), Int(6)],
-                "#<overlay from 2 to 6 in *scratch*>",
-            ),
-            (OverlayPut, &[Overlay(1), FACE, Int(1)], "1"),
-            (GetCharProperty, &[Int(3), FACE], "1"),
-            (
-                MakeOverlay,
-                &[Int(2), Int(5)],
-                "#<overlay from 2 to 5 in *scratch*>",
-            ),
-            (OverlayPut, &[Overlay(2), FACE, Int(2)], "2"),
-            (GetCharProperty, &[Int(3), FACE], "2"),
-            (
-                MakeOverlay,
-                &[Int(2), Int(5)],
-                "#<overlay from 2 to 5 in *scratch*>",
-            ),
-            (OverlayPut, &[Overlay(3), FACE, Int(3)], "3"),
-            (GetCharProperty, &[Int(3), FACE], "3"),
-            (
-                MoveOverlay,
-                &[Overlay(3), Int(1), Int(2)],
-                "#<overlay from 1 to 2 in *scratch*>",
-            ),
-            (GetCharProperty, &[Int(3), FACE], "2"),
-            (
-                MakeOverlay,
-                &[Int(3), Int(3)],
-                "#<overlay from 3 to 3 in *scratch*>",
-            ),
-            (OverlayPut, &[Overlay(4), FACE, Int(4)], "4"),
-            (GetCharProperty, &[Int(3), FACE], "2"),
-        ],
-    },
-    Row {
-        shows: "overlays at a place and in a region, and where overlays begin or end",
-        calls: &[
-            (Insert, &[Str("abc")], "nil"),
-            (
-                MakeOverlay,
-                &[Int(2), Int(2)],
-                "#<overlay from 2 to 2 in *scratch*>",
-            ),
-            (
-                MakeOverlay,
-                &[Int(1), Int(3)],
-                "#<overlay from 1 to 3 in *scratch*>",
-            ),
-            (
-                MakeOverlay,
-                &[Int(4), Int(4)],
-                "#<overlay from 4 to 4 in *scratch*>",
-            ),
-            (
-                OverlaysIn,
-                &[Int(2), Int(4)],
-                "(#<overlay from 2 to 2 in *scratch*> #<overlay from 1 to 3 in *scratch*> #<overlay from 4 to 4 in *scratch*>)",
-            ),
-            (
-                OverlaysAt,
-                &[Int(2)],
-                "(#<overlay from 1 to 3 in *scratch*>)",
-            ),
-            (NextOverlayChange, &[Int(1)], "2"),
-            (PreviousOverlayChange, &[Int(4)], "3"),
-            (PreviousOverlayChange, &[Int(1)], "1"),
-            (NextOverlayChange, &[Int(3)], "4"),
-            (NextOverlayChange, &[Int(9)], "4"),
-            (
-                OverlaysIn,
-                &[Int(3), Int(2)],
-                "(#<overlay from 2 to 2 in *scratch*> #<overlay from 1 to 3 in *scratch*>)",
-            ),
-            (
-                OverlaysIn,
-                &[Int(3), Int(4)],
-                "(#<overlay from 4 to 4 in *scratch*>)",
-            ),
-            (
-                OverlaysIn,
-                &[Int(1), Int(1)],
-                "(#<overlay from 1 to 3 in *scratch*>)",
-            ),
-            (OverlaysIn, &[Int(3), Int(3)], "nil"),
-            (OverlaysAt, &[Int(3)], "nil"),
-            (OverlaysAt, &[Int(0)], "nil"),
-        ],
-    },
-    Row {
-        shows: "an empty overlay at the end of a region counts at the end of the accessible portion",
-        calls: &[
-            (Insert, &[Str("abcd")], "nil"),
-            (
-                MakeOverlay,
-                &[Int(3), Int(3)],
-                "#<overlay from 3 to 3 in *scratch*>",
-            ),
-            (OverlaysIn, &[Int(1), Int(3)], "nil"),
-            (NarrowToRegion, &[Int(1), Int(3)], "nil"),
-            (
-                OverlaysIn,
-                &[Int(1), Int(3)],
-                "(#<overlay from 3 to 3 in *scratch*>)",
-            ),
-            (NextOverlayChange, &[Int(1)], "3"),
-            (PreviousOverlayChange, &[Int(4)], "3"),
-            (PreviousOverlayChange, &[Int(3)], "1"),
-        ],
-    },
-    Row {
-        shows: "an overlay is clipped to the whole buffer, and moves between buffers",
-        calls: &[
-            (Insert, &[Str("abcd")], "nil"),
-            (NarrowToRegion, &[Int(2), Int(3)], "nil"),
-            (GetBufferCreate, &[Str("w")], "#<buffer w>"),
-            (
-                MakeOverlay,
-                &[Int(9), Int(-9)],
-                "#<overlay from 1 to 5 in *scratch*>",
-            ),
-            (
-                MoveOverlay,
-                &[Overlay(0), Int(2), Int(9), Str("w")],
-                "#<overlay from 1 to 1 in w>",
-            ),
-            (OverlayBuffer, &[Overlay(0)], "#<buffer w>"),
-            (OverlaysIn, &[Int(1), Int(5)], "nil"),
-            (
-                MoveOverlay,
-                &[Overlay(0), Int(2), Int(3)],
-                "#<overlay from 1 to 1 in w>",
-            ),
-            (DeleteOverlay, &[Overlay(0)], "nil"),
-            (
-                MoveOverlay,
-                &[Overlay(0), Int(4), Int(3)],
-                "#<overlay from 3 to 4 in *scratch*>",
-            ),
-        ],
-    },
-    Row {
-        shows: "an overlay in no buffer",
-        calls: &[
-            (
-                MakeOverlay,
-                &[Int(1), Int(1)],
-                "#<overlay from 1 to 1 in *scratch*>",
-            ),
-            (OverlayPut, &[Overlay(0), FACE, BOLD], "bold"),
-            (DeleteOverlay, &[Overlay(0)], "nil"),
-            (DeleteOverlay, &[Overlay(0)], "nil"),
-            (OverlayStart, &[Overlay(0)], "nil"),
-            (OverlayEnd, &[Overlay(0)], "nil"),
-            (OverlayBuffer, &[Overlay(0)], "nil"),
-            (OverlayGet, &[Overlay(0), FACE], "bold"),
-            (OverlayPut, &[Overlay(0), EVAPORATE, T], "t"),
-            (OverlayProperties, &[Overlay(0)], "(evaporate t face bold)"),
-        ],
-    },
-    Row {
-        shows: "properties of an overlay, and a string that loses its own",
-        calls: &[
-            (
-                MakeOverlay,
-                &[Int(1), Int(1)],
-                "#<overlay from 1 to 1 in *scratch*>",
-            ),
-            (OverlayGet, &[Overlay(0), FACE], "nil"),
-            (OverlayProperties, &[Overlay(0)], "nil"),
-            (
-                OverlayPut,
-                &[Overlay(0), FACE, Styled("x", &[(0, 1, &[FACE, BOLD])])],
-                "#(\"x\" 0 1 (face bold))",
-            ),
-            (OverlayGet, &[Overlay(0), FACE], "\"x\""),
-            (OverlayPut, &[Overlay(0), PRIORITY, Int(1)], "1"),
-            (OverlayProperties, &[Overlay(0)], "(priority 1 face \"x\")"),
-            (OverlayPut, &[Overlay(0), FACE, Nil], "nil"),
-            (OverlayProperties, &[Overlay(0)], "(priority 1)"),
-        ],
-    },
-    Row {
-        shows: "overlays of a killed buffer are in none",
-        calls: &[
-            (GetBufferCreate, &[Str("w")], "#<buffer w>"),
-            (
-                MakeOverlay,
-                &[Int(1), Int(1), Str("w")],
-                "#<overlay from 1 to 1 in w>",
-            ),
-            (KillBuffer, &[Buffer(1)], "t"),
-            (OverlayBuffer, &[Overlay(0)], "nil"),
-            (
-                MoveOverlay,
-                &[Overlay(0), Int(1), Int(1), Buffer(1)],
-                "! buffer-killed",
-            ),
-            (
-                MoveOverlay,
-                &[Overlay(0), Int(1), Int(1)],
-                "#<overlay from 1 to 1 in *scratch*>",
-            ),
-        ],
-    },
-];
+const ROWS: &str = r#"# overlays at an insertion before markers
+insert | "abcd" => nil
+make-overlay | 1 | 3 => #<overlay from 1 to 3 in *scratch*>
+make-overlay | 3 | 5 => #<overlay from 3 to 5 in *scratch*>
+goto-char | 3 => 3
+insert-before-markers | "xy" => nil
+overlays-in | 1 | 7 => (#<overlay from 1 to 5 in *scratch*> #<overlay from 5 to 7 in *scratch*>)
+point => 5
+
+# empty overlays at an insertion
+insert | "abcd" => nil
+make-overlay | 3 | 3 | nil | nil | nil => #<overlay from 3 to 3 in *scratch*>
+make-overlay | 3 | 3 | nil | nil | t => #<overlay from 3 to 3 in *scratch*>
+make-overlay | 3 | 3 | nil | t | t => #<overlay from 3 to 3 in *scratch*>
+make-overlay | 3 | 3 | nil | t | nil => #<overlay from 3 to 3 in *scratch*>
+goto-char | 3 => 3
+insert | "xy" => nil
+overlay-end | overlay:0 => 3
+overlay-start | overlay:1 => 3
+overlay-end | overlay:1 => 5
+overlay-start | overlay:2 => 5
+overlay-start | overlay:3 => 3
+overlay-end | overlay:3 => 3
+
+# the ends of overlays by their advances, at an insertion at each end
+insert | "abcdef" => nil
+make-overlay | 5 | 3 => #<overlay from 3 to 5 in *scratch*>
+make-overlay | 3 | 5 | buffer:0 | t | t => #<overlay from 3 to 5 in *scratch*>
+goto-char | 5 => 5
+insert | "x" => nil
+goto-char | 3 => 3
+insert | "y" => nil
+overlay-start | overlay:0 => 3
+overlay-end | overlay:0 => 6
+overlay-start | overlay:1 => 4
+overlay-end | overlay:1 => 7
+delete-region | 1 | 8 => nil
+overlays-in | 1 | 1 => (#<overlay from 1 to 1 in *scratch*> #<overlay from 1 to 1 in *scratch*>)
+
+# evaporating overlays
+insert | "abcd" => nil
+make-overlay | 2 | 4 => #<overlay from 2 to 4 in *scratch*>
+overlay-put | overlay:0 | evaporate | t => t
+make-overlay | 1 | 3 => #<overlay from 1 to 3 in *scratch*>
+overlay-put | overlay:1 | evaporate | 0 => 0
+make-overlay | 2 | 4 => #<overlay from 2 to 4 in *scratch*>
+overlay-put | overlay:2 | evaporate | nil => nil
+delete-region | 2 | 4 => nil
+overlay-start | overlay:0 => nil
+overlay-buffer | overlay:0 => nil
+overlay-properties | overlay:0 => (evaporate t)
+overlays-in | 1 | 3 => (#<overlay from 1 to 2 in *scratch*> #<overlay from 2 to 2 in *scratch*>)
+overlay-put | overlay:2 | evaporate | bold => bold
+overlay-buffer | overlay:2 => nil
+move-overlay | overlay:1 | 2 | 2 => #<overlay in no buffer>
+move-overlay | overlay:1 | 1 | 2 => #<overlay from 1 to 2 in *scratch*>
+
+# the overlay that wins
+insert | "abcd" / 0 4 face "plain" => nil
+make-overlay | 1 | 5 => #<overlay from 1 to 5 in *scratch*>
+overlay-put | overlay:0 | face | bold => bold
+make-overlay | 2 | 4 => #<overlay from 2 to 4 in *scratch*>
+overlay-put | overlay:1 | face | italic => italic
+get-char-property | 2 | face => italic
+get-char-property | 4 | face => bold
+overlay-put | overlay:0 | priority | 1 => 1
+get-char-property | 2 | face => bold
+get-char-property | 5 | face => nil
+overlay-put | overlay:0 | priority | "9" => "9"
+get-char-property | 2 | face => italic
+overlay-put | overlay:1 | priority | -1 => -1
+get-char-property | 2 | face => bold
+overlay-put | overlay:0 | face | nil => nil
+get-char-property | 4 | face => "plain"
+
+# of equal priority the larger start wins, then the smaller end, then the higher number
+insert | "abcdef" => nil
+make-overlay | 1 | 4 => #<overlay from 1 to 4 in *scratch*>
+overlay-put | overlay:0 | face | 0 => 0
+make-overlay | 2 | 6 => #<overlay from 2 to 6 in *scratch*>
+overlay-put | overlay:1 | face | 1 => 1
+get-char-property | 3 | face => 1
+make-overlay | 2 | 5 => #<overlay from 2 to 5 in *scratch*>
+overlay-put | overlay:2 | face | 2 => 2
+get-char-property | 3 | face => 2
+make-overlay | 2 | 5 => #<overlay from 2 to 5 in *scratch*>
+overlay-put | overlay:3 | face | 3 => 3
+get-char-property | 3 | face => 3
+move-overlay | overlay:3 | 1 | 2 => #<overlay from 1 to 2 in *scratch*>
+get-char-property | 3 | face => 2
+make-overlay | 3 | 3 => #<overlay from 3 to 3 in *scratch*>
+overlay-put | overlay:4 | face | 4 => 4
+get-char-property | 3 | face => 2
+
+# overlays at a place and in a region, and where overlays begin or end
+insert | "abc" => nil
+make-overlay | 2 | 2 => #<overlay from 2 to 2 in *scratch*>
+make-overlay | 1 | 3 => #<overlay from 1 to 3 in *scratch*>
+make-overlay | 4 | 4 => #<overlay from 4 to 4 in *scratch*>
+overlays-in | 2 | 4 => (#<overlay from 2 to 2 in *scratch*> #<overlay from 1 to 3 in *scratch*> #<overlay from 4 to 4 in *scratch*>)
+overlays-at | 2 => (#<overlay from 1 to 3 in *scratch*>)
+next-overlay-change | 1 => 2
+previous-overlay-change | 4 => 3
+previous-overlay-change | 1 => 1
+next-overlay-change | 3 => 4
+next-overlay-change | 9 => 4
+overlays-in | 3 | 2 => (#<overlay from 2 to 2 in *scratch*> #<overlay from 1 to 3 in *scratch*>)
+overlays-in | 3 | 4 => (#<overlay from 4 to 4 in *scratch*>)
+overlays-in | 1 | 1 => (#<overlay from 1 to 3 in *scratch*>)
+overlays-in | 3 | 3 => nil
+overlays-at | 3 => nil
+overlays-at | 0 => nil
+
+# an empty overlay at the end of a region counts at the end of the accessible portion
+insert | "abcd" => nil
+make-overlay | 3 | 3 => #<overlay from 3 to 3 in *scratch*>
+overlays-in | 1 | 3 => nil
+narrow-to-region | 1 | 3 => nil
+overlays-in | 1 | 3 => (#<overlay from 3 to 3 in *scratch*>)
+next-overlay-change | 1 => 3
+previous-overlay-change | 4 => 3
+previous-overlay-change | 3 => 1
+
+# an overlay is clipped to the whole buffer, and moves between buffers
+insert | "abcd" => nil
+narrow-to-region | 2 | 3 => nil
+get-buffer-create | "w" => #<buffer w>
+make-overlay | 9 | -9 => #<overlay from 1 to 5 in *scratch*>
+move-overlay | overlay:0 | 2 | 9 | "w" => #<overlay from 1 to 1 in w>
+overlay-buffer | overlay:0 => #<buffer w>
+overlays-in | 1 | 5 => nil
+move-overlay | overlay:0 | 2 | 3 => #<overlay from 1 to 1 in w>
+delete-overlay | overlay:0 => nil
+move-overlay | overlay:0 | 4 | 3 => #<overlay from 3 to 4 in *scratch*>
+
+# an overlay in no buffer
+make-overlay | 1 | 1 => #<overlay from 1 to 1 in *scratch*>
+overlay-put | overlay:0 | face | bold => bold
+delete-overlay | overlay:0 => nil
+delete-overlay | overlay:0 => nil
+overlay-start | overlay:0 => nil
+overlay-end | overlay:0 => nil
+overlay-buffer | overlay:0 => nil
+overlay-get | overlay:0 | face => bold
+overlay-put | overlay:0 | evaporate | t => t
+overlay-properties | overlay:0 => (evaporate t face bold)
+
+# properties of an overlay, and a string that loses its own
+make-overlay | 1 | 1 => #<overlay from 1 to 1 in *scratch*>
+overlay-get | overlay:0 | face => nil
+overlay-properties | overlay:0 => nil
+overlay-put | overlay:0 | face | "x" / 0 1 face bold => #("x" 0 1 (face bold))
+overlay-get | overlay:0 | face => "x"
+overlay-put | overlay:0 | priority | 1 => 1
+overlay-properties | overlay:0 => (priority 1 face "x")
+overlay-put | overlay:0 | face | nil => nil
+overlay-properties | overlay:0 => (priority 1)
+
+# overlays of a killed buffer are in none
+get-buffer-create | "w" => #<buffer w>
+make-overlay | 1 | 1 | "w" => #<overlay from 1 to 1 in w>
+kill-buffer | buffer:1 => t
+overlay-buffer | overlay:0 => nil
+move-overlay | overlay:0 | 1 | 1 | buffer:1 => ! buffer-killed
+move-overlay | overlay:0 | 1 | 1 => #<overlay from 1 to 1 in *scratch*>"#;
 
 #[test]
 fn the_rows_of_overlays_give_their_replies(rt: HostRuntime) {
-    check_rows(&rt, rt.alloc(), &ROWS);
+    check_rows(&rt, rt.alloc(), ROWS);
 }

@@ -1,343 +1,138 @@
 //! Text properties, and what insertions inherit.
 
-use super::playing::{Row, check_rows};
-use super::words::Word::*;
-use super::words::{BOLD, FACE, FRONT_STICKY, ITALIC, PRIORITY, REAR_NONSTICKY};
-use ek_call::Prim::*;
+use super::playing::check_rows;
 
-const ROWS: [Row; 12] = [
-    Row {
-        shows: "where properties change",
-        calls: &[
-            (Insert, &[Styled("abcd", &[(1, 3, &[FACE, BOLD])])], "nil"),
-            (NextPropertyChange, &[Int(1)], "2"),
-            (NextPropertyChange, &[Int(2)], "4"),
-            (NextPropertyChange, &[Int(4)], "nil"),
-            (NextPropertyChange, &[Int(2), Int(3)], "3"),
-            (
-                AddTextProperties,
-                &[Int(2), Int(4), List(&[FACE, BOLD])],
-                "nil",
-            ),
-            (TextPropertyNotAll, &[Int(1), Int(5), FACE, BOLD], "1"),
-        ],
-    },
-    Row {
-        shows: "changes of one property, and the limits of a search",
-        calls: &[
-            (
-                Insert,
-                &[Styled(
-                    "abcdef",
-                    &[
-                        (1, 5, &[FACE, BOLD]),
-                        (2, 3, &[FACE, BOLD, PRIORITY, Int(7)]),
-                    ],
-                )],
-                "nil",
-            ),
-            (NextPropertyChange, &[Int(2)], "3"),
-            (NextSinglePropertyChange, &[Int(2), FACE], "6"),
-            (NextSinglePropertyChange, &[Int(2), FACE, Int(4)], "4"),
-            (NextSinglePropertyChange, &[Int(2), FACE, Int(6)], "6"),
-            (NextSinglePropertyChange, &[Int(2), FACE, Int(1)], "1"),
-            (NextSinglePropertyChange, &[Int(6), FACE, Int(99)], "99"),
-            (NextSinglePropertyChange, &[Int(7), FACE], "nil"),
-            (PreviousPropertyChange, &[Int(7)], "6"),
-            (PreviousPropertyChange, &[Int(6)], "4"),
-            (PreviousPropertyChange, &[Int(2)], "nil"),
-            (PreviousPropertyChange, &[Int(6), Int(5)], "5"),
-            (PreviousSinglePropertyChange, &[Int(6), FACE], "2"),
-            (PreviousSinglePropertyChange, &[Int(2), FACE, Int(-5)], "-5"),
-            (PreviousSinglePropertyChange, &[Int(1), FACE], "nil"),
-        ],
-    },
-    Row {
-        shows: "a search stays within the narrowing",
-        calls: &[
-            (Insert, &[Styled("abcdef", &[(1, 5, &[FACE, BOLD])])], "nil"),
-            (NarrowToRegion, &[Int(2), Int(6)], "nil"),
-            (NextPropertyChange, &[Int(2)], "nil"),
-            (PreviousPropertyChange, &[Int(6)], "nil"),
-            (GetTextProperty, &[Int(5), FACE], "bold"),
-            (GetTextProperty, &[Int(6), FACE], "nil"),
-            (TextPropertiesAt, &[Int(6)], "nil"),
-            (GetTextProperty, &[Int(1), FACE], "! args-out-of-range"),
-        ],
-    },
-    Row {
-        shows: "a change answers whether something was to change",
-        calls: &[
-            (Insert, &[Str("abcd")], "nil"),
-            (
-                AddTextProperties,
-                &[Int(1), Int(3), List(&[FACE, BOLD])],
-                "t",
-            ),
-            (
-                AddTextProperties,
-                &[Int(1), Int(3), List(&[FACE, BOLD])],
-                "nil",
-            ),
-            (
-                AddTextProperties,
-                &[Int(3), Int(1), List(&[FACE, Nil, PRIORITY, Int(1)])],
-                "t",
-            ),
-            (BufferString, &[], "#(\"abcd\" 0 2 (priority 1))"),
-            (
-                RemoveTextProperties,
-                &[Int(2), Int(5), List(&[PRIORITY, BOLD])],
-                "t",
-            ),
-            (
-                RemoveTextProperties,
-                &[Int(2), Int(5), List(&[PRIORITY, Nil])],
-                "nil",
-            ),
-            (
-                SetTextProperties,
-                &[Int(1), Int(3), List(&[FACE, ITALIC])],
-                "t",
-            ),
-            (
-                SetTextProperties,
-                &[Int(1), Int(3), List(&[FACE, ITALIC])],
-                "nil",
-            ),
-            (BufferString, &[], "#(\"abcd\" 0 2 (face italic))"),
-            (SetTextProperties, &[Int(2), Int(5), Nil], "t"),
-            (AddTextProperties, &[Int(1), Int(5), Nil], "nil"),
-            (PutTextProperty, &[Int(1), Int(2), FACE, Nil], "nil"),
-            (BufferString, &[], "\"abcd\""),
-            (BufferModifiedP, &[], "t"),
-        ],
-    },
-    Row {
-        shows: "each kind of value, in the order of the names",
-        calls: &[
-            (Insert, &[Str("a")], "nil"),
-            (
-                PutTextProperty,
-                &[Int(1), Int(2), FACE, List(&[BOLD, ITALIC])],
-                "nil",
-            ),
-            (PutTextProperty, &[Int(1), Int(2), PRIORITY, Int(-3)], "nil"),
-            (
-                PutTextProperty,
-                &[
-                    Int(1),
-                    Int(2),
-                    Sym(12),
-                    Styled("x", &[(0, 1, &[FACE, BOLD])]),
-                ],
-                "nil",
-            ),
-            (PutTextProperty, &[Int(1), Int(2), Sym(10), T], "nil"),
-            (
-                TextPropertiesAt,
-                &[Int(1)],
-                "(priority -3 read-only t before-string \"x\" face (bold italic))",
-            ),
-            (GetTextProperty, &[Int(1), FACE], "(bold italic)"),
-            (GetTextProperty, &[Int(1), Sym(12)], "\"x\""),
-            (TextPropertyAny, &[Int(1), Int(2), Sym(12), Str("x")], "1"),
-            (
-                TextPropertyAny,
-                &[Int(1), Int(2), FACE, List(&[ITALIC, BOLD])],
-                "nil",
-            ),
-        ],
-    },
-    Row {
-        shows: "the first position that has a value, and the first that hasn't",
-        calls: &[
-            (Insert, &[Styled("abcd", &[(1, 3, &[FACE, BOLD])])], "nil"),
-            (TextPropertyAny, &[Int(1), Int(5), FACE, BOLD], "2"),
-            (TextPropertyAny, &[Int(5), Int(3), FACE, BOLD], "3"),
-            (TextPropertyAny, &[Int(4), Int(5), FACE, BOLD], "nil"),
-            (TextPropertyAny, &[Int(2), Int(5), FACE, Nil], "4"),
-            (TextPropertyNotAll, &[Int(2), Int(5), FACE, BOLD], "4"),
-            (TextPropertyNotAll, &[Int(2), Int(4), FACE, BOLD], "nil"),
-            (TextPropertyNotAll, &[Int(2), Int(2), FACE, BOLD], "nil"),
-            (TextPropertyNotAll, &[Int(2), Int(4), FACE, Nil], "2"),
-        ],
-    },
-    Row {
-        shows: "property lists that are none",
-        calls: &[
-            (
-                AddTextProperties,
-                &[Int(1), Int(1), List(&[FACE])],
-                "! wrong-type-argument",
-            ),
-            (
-                AddTextProperties,
-                &[Int(1), Int(1), List(&[FACE, BOLD, FACE, BOLD])],
-                "! wrong-type-argument",
-            ),
-            (
-                AddTextProperties,
-                &[Int(1), Int(1), List(&[Int(1), BOLD])],
-                "! wrong-type-argument",
-            ),
-            (
-                AddTextProperties,
-                &[Int(1), Int(1), List(&[FACE, Buffer(0)])],
-                "! wrong-type-argument",
-            ),
-            (
-                RemoveTextProperties,
-                &[Int(1), Int(1), List(&[T, BOLD])],
-                "! wrong-type-argument",
-            ),
-            (
-                SetTextProperties,
-                &[Int(1), Int(1), List(&[FACE, Marker(0)])],
-                "! wrong-type-argument",
-            ),
-            (
-                AddTextProperties,
-                &[Int(1), Int(1), List(&[FACE, List(&[BOLD])])],
-                "nil",
-            ),
-        ],
-    },
-    Row {
-        shows: "what an insertion inherits",
-        calls: &[
-            (
-                Insert,
-                &[Styled(
-                    "ab",
-                    &[
-                        (0, 1, &[FACE, BOLD, REAR_NONSTICKY, List(&[FACE])]),
-                        (1, 2, &[FACE, ITALIC, FRONT_STICKY, T]),
-                    ],
-                )],
-                "nil",
-            ),
-            (GotoChar, &[Int(2)], "2"),
-            (InsertAndInherit, &[Str("x")], "nil"),
-            (
-                BufferString,
-                &[],
-                "#(\"axb\" 0 1 (rear-nonsticky (face) face bold) 1 2 (face italic) 2 3 (front-sticky t face italic))",
-            ),
-        ],
-    },
-    Row {
-        shows: "an insertion inherits from the character before, unless it has a value of its own",
-        calls: &[
-            (
-                Insert,
-                &[Styled(
-                    "ab",
-                    &[
-                        (0, 1, &[FACE, BOLD, PRIORITY, Int(1)]),
-                        (1, 2, &[FACE, ITALIC]),
-                    ],
-                )],
-                "nil",
-            ),
-            (GotoChar, &[Int(2)], "2"),
-            (
-                InsertBeforeMarkersAndInherit,
-                &[Styled("xy", &[(1, 2, &[FACE, ITALIC])])],
-                "nil",
-            ),
-            (
-                BufferString,
-                &[],
-                "#(\"axyb\" 0 2 (priority 1 face bold) 2 3 (priority 1 face italic) 3 4 (face italic))",
-            ),
-            (Insert, &[Str("z")], "nil"),
-            (GetTextProperty, &[Int(4), PRIORITY], "nil"),
-        ],
-    },
-    Row {
-        shows: "a character that is rear-nonsticky offers nothing, nor does one behind without front-sticky",
-        calls: &[
-            (
-                Insert,
-                &[Styled(
-                    "ab",
-                    &[
-                        (0, 1, &[FACE, BOLD, REAR_NONSTICKY, T]),
-                        (1, 2, &[FACE, ITALIC]),
-                    ],
-                )],
-                "nil",
-            ),
-            (GotoChar, &[Int(2)], "2"),
-            (InsertAndInherit, &[Str("x")], "nil"),
-            (TextPropertiesAt, &[Int(2)], "nil"),
-            (
-                PutTextProperty,
-                &[Int(3), Int(4), FRONT_STICKY, List(&[PRIORITY])],
-                "nil",
-            ),
-            (InsertAndInherit, &[Str("y")], "nil"),
-            (TextPropertiesAt, &[Int(3)], "nil"),
-            (
-                PutTextProperty,
-                &[Int(4), Int(5), FRONT_STICKY, List(&[FACE])],
-                "nil",
-            ),
-            (InsertAndInherit, &[Str("z")], "nil"),
-            (TextPropertiesAt, &[Int(4)], "(face italic)"),
-        ],
-    },
-    Row {
-        shows: "where both offer a property the character before wins, and a number makes nothing sticky",
-        calls: &[
-            (
-                Insert,
-                &[Styled(
-                    "ab",
-                    &[
-                        (0, 1, &[FACE, BOLD]),
-                        (1, 2, &[FACE, ITALIC, FRONT_STICKY, T, PRIORITY, Int(2)]),
-                    ],
-                )],
-                "nil",
-            ),
-            (GotoChar, &[Int(2)], "2"),
-            (InsertAndInherit, &[Str("x")], "nil"),
-            (TextPropertiesAt, &[Int(2)], "(priority 2 face bold)"),
-            (
-                PutTextProperty,
-                &[Int(2), Int(3), REAR_NONSTICKY, Int(1)],
-                "nil",
-            ),
-            (
-                PutTextProperty,
-                &[Int(3), Int(4), FRONT_STICKY, Int(1)],
-                "nil",
-            ),
-            (InsertAndInherit, &[Str("y")], "nil"),
-            (TextPropertiesAt, &[Int(3)], "(priority 2 face bold)"),
-        ],
-    },
-    Row {
-        shows: "nothing is inherited from outside the narrowing",
-        calls: &[
-            (
-                Insert,
-                &[Styled("abc", &[(0, 3, &[FACE, BOLD, FRONT_STICKY, T])])],
-                "nil",
-            ),
-            (NarrowToRegion, &[Int(2), Int(2)], "nil"),
-            (InsertAndInherit, &[Str("x")], "nil"),
-            (TextPropertiesAt, &[Int(2)], "nil"),
-            (PutTextProperty, &[Int(2), Int(3), FACE, ITALIC], "nil"),
-            (InsertAndInherit, &[Str("y")], "nil"),
-            (BufferString, &[], "#(\"xy\" 0 2 (face italic))"),
-        ],
-    },
-];
+const ROWS: &str = r#"# where properties change
+insert | "abcd" / 1 3 face bold => nil
+next-property-change | 1 => 2
+next-property-change | 2 => 4
+next-property-change | 4 => nil
+next-property-change | 2 | 3 => 3
+add-text-properties | 2 | 4 | [face bold] => nil
+text-property-not-all | 1 | 5 | face | bold => 1
+
+# changes of one property, and the limits of a search
+insert | "abcdef" / 1 5 face bold / 2 3 face bold priority 7 => nil
+next-property-change | 2 => 3
+next-single-property-change | 2 | face => 6
+next-single-property-change | 2 | face | 4 => 4
+next-single-property-change | 2 | face | 6 => 6
+next-single-property-change | 2 | face | 1 => 1
+next-single-property-change | 6 | face | 99 => 99
+next-single-property-change | 7 | face => nil
+previous-property-change | 7 => 6
+previous-property-change | 6 => 4
+previous-property-change | 2 => nil
+previous-property-change | 6 | 5 => 5
+previous-single-property-change | 6 | face => 2
+previous-single-property-change | 2 | face | -5 => -5
+previous-single-property-change | 1 | face => nil
+
+# a search stays within the narrowing
+insert | "abcdef" / 1 5 face bold => nil
+narrow-to-region | 2 | 6 => nil
+next-property-change | 2 => nil
+previous-property-change | 6 => nil
+get-text-property | 5 | face => bold
+get-text-property | 6 | face => nil
+text-properties-at | 6 => nil
+get-text-property | 1 | face => ! args-out-of-range
+
+# a change answers whether something was to change
+insert | "abcd" => nil
+add-text-properties | 1 | 3 | [face bold] => t
+add-text-properties | 1 | 3 | [face bold] => nil
+add-text-properties | 3 | 1 | [face nil priority 1] => t
+buffer-string => #("abcd" 0 2 (priority 1))
+remove-text-properties | 2 | 5 | [priority bold] => t
+remove-text-properties | 2 | 5 | [priority nil] => nil
+set-text-properties | 1 | 3 | [face italic] => t
+set-text-properties | 1 | 3 | [face italic] => nil
+buffer-string => #("abcd" 0 2 (face italic))
+set-text-properties | 2 | 5 | nil => t
+add-text-properties | 1 | 5 | nil => nil
+put-text-property | 1 | 2 | face | nil => nil
+buffer-string => "abcd"
+buffer-modified-p => t
+
+# each kind of value, in the order of the names
+insert | "a" => nil
+put-text-property | 1 | 2 | face | [bold italic] => nil
+put-text-property | 1 | 2 | priority | -3 => nil
+put-text-property | 1 | 2 | before-string | "x" / 0 1 face bold => nil
+put-text-property | 1 | 2 | read-only | t => nil
+text-properties-at | 1 => (priority -3 read-only t before-string "x" face (bold italic))
+get-text-property | 1 | face => (bold italic)
+get-text-property | 1 | before-string => "x"
+text-property-any | 1 | 2 | before-string | "x" => 1
+text-property-any | 1 | 2 | face | [italic bold] => nil
+
+# the first position that has a value, and the first that hasn't
+insert | "abcd" / 1 3 face bold => nil
+text-property-any | 1 | 5 | face | bold => 2
+text-property-any | 5 | 3 | face | bold => 3
+text-property-any | 4 | 5 | face | bold => nil
+text-property-any | 2 | 5 | face | nil => 4
+text-property-not-all | 2 | 5 | face | bold => 4
+text-property-not-all | 2 | 4 | face | bold => nil
+text-property-not-all | 2 | 2 | face | bold => nil
+text-property-not-all | 2 | 4 | face | nil => 2
+
+# property lists that are none
+add-text-properties | 1 | 1 | [face] => ! wrong-type-argument
+add-text-properties | 1 | 1 | [face bold face bold] => ! wrong-type-argument
+add-text-properties | 1 | 1 | [1 bold] => ! wrong-type-argument
+add-text-properties | 1 | 1 | [face buffer:0] => ! wrong-type-argument
+remove-text-properties | 1 | 1 | [t bold] => ! wrong-type-argument
+set-text-properties | 1 | 1 | [face marker:0] => ! wrong-type-argument
+add-text-properties | 1 | 1 | [face (bold)] => nil
+
+# what an insertion inherits
+insert | "ab" / 0 1 face bold rear-nonsticky (face) / 1 2 face italic front-sticky t => nil
+goto-char | 2 => 2
+insert-and-inherit | "x" => nil
+buffer-string => #("axb" 0 1 (rear-nonsticky (face) face bold) 1 2 (face italic) 2 3 (front-sticky t face italic))
+
+# an insertion inherits from the character before, unless it has a value of its own
+insert | "ab" / 0 1 face bold priority 1 / 1 2 face italic => nil
+goto-char | 2 => 2
+insert-before-markers-and-inherit | "xy" / 1 2 face italic => nil
+buffer-string => #("axyb" 0 2 (priority 1 face bold) 2 3 (priority 1 face italic) 3 4 (face italic))
+insert | "z" => nil
+get-text-property | 4 | priority => nil
+
+# a character that is rear-nonsticky offers nothing, nor does one behind without front-sticky
+insert | "ab" / 0 1 face bold rear-nonsticky t / 1 2 face italic => nil
+goto-char | 2 => 2
+insert-and-inherit | "x" => nil
+text-properties-at | 2 => nil
+put-text-property | 3 | 4 | front-sticky | [priority] => nil
+insert-and-inherit | "y" => nil
+text-properties-at | 3 => nil
+put-text-property | 4 | 5 | front-sticky | [face] => nil
+insert-and-inherit | "z" => nil
+text-properties-at | 4 => (face italic)
+
+# where both offer a property the character before wins, and a number makes nothing sticky
+insert | "ab" / 0 1 face bold / 1 2 face italic front-sticky t priority 2 => nil
+goto-char | 2 => 2
+insert-and-inherit | "x" => nil
+text-properties-at | 2 => (priority 2 face bold)
+put-text-property | 2 | 3 | rear-nonsticky | 1 => nil
+put-text-property | 3 | 4 | front-sticky | 1 => nil
+insert-and-inherit | "y" => nil
+text-properties-at | 3 => (priority 2 face bold)
+
+# nothing is inherited from outside the narrowing
+insert | "abc" / 0 3 face bold front-sticky t => nil
+narrow-to-region | 2 | 2 => nil
+insert-and-inherit | "x" => nil
+text-properties-at | 2 => nil
+put-text-property | 2 | 3 | face | italic => nil
+insert-and-inherit | "y" => nil
+buffer-string => #("xy" 0 2 (face italic))"#;
 
 #[test]
 fn the_rows_of_properties_give_their_replies(rt: HostRuntime) {
-    check_rows(&rt, rt.alloc(), &ROWS);
+    check_rows(&rt, rt.alloc(), ROWS);
 }

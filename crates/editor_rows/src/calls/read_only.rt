@@ -1,141 +1,86 @@
 //! Buffers and texts that are read-only.
 
-use super::playing::{Row, check_rows};
-use super::words::Word::*;
-use super::words::{FACE, FRONT_STICKY, READ_ONLY, REAR_NONSTICKY};
-use ek_call::Prim::*;
+use super::playing::check_rows;
 
-const ROWS: [Row; 5] = [
-    Row {
-        shows: "a read-only buffer refuses what would change it",
-        calls: &[
-            (BufferReadOnlyP, &[], "nil"),
-            (Insert, &[Str("ab")], "nil"),
-            (UndoStart, &[], "nil"),
-            (SetBufferReadOnly, &[Int(0)], "t"),
-            (BufferReadOnlyP, &[Str("*scratch*")], "t"),
-            (Insert, &[Str("")], "nil"),
-            (Insert, &[Str("c")], "! buffer-read-only"),
-            (DeleteRegion, &[Int(1), Int(1)], "nil"),
-            (DeleteRegion, &[Int(1), Int(2)], "! buffer-read-only"),
-            (DeleteRegion, &[Int(1), Int(99)], "! args-out-of-range"),
-            (EraseBuffer, &[], "! buffer-read-only"),
-            (
-                DeleteAndExtractRegion,
-                &[Int(1), Int(2)],
-                "! buffer-read-only",
-            ),
-            (InsertBufferSubstring, &[Buffer(0)], "! buffer-read-only"),
-            (
-                PutTextProperty,
-                &[Int(1), Int(2), FACE, T],
-                "! buffer-read-only",
-            ),
-            (PutTextProperty, &[Int(1), Int(2), FACE, Nil], "nil"),
-            (UndoMore, &[Int(0)], "! args-out-of-range"),
-            (UndoMore, &[Int(1)], "! buffer-read-only"),
-            (SetBufferModifiedP, &[Nil], "nil"),
-            (NarrowToRegion, &[Int(1), Int(2)], "nil"),
-            (SetBufferReadOnly, &[Nil], "nil"),
-            (UndoMore, &[Int(1)], "! undo-outside"),
-        ],
-    },
-    Row {
-        shows: "each buffer is read-only by itself",
-        calls: &[
-            (GetBufferCreate, &[Str("w")], "#<buffer w>"),
-            (SetBufferReadOnly, &[T], "t"),
-            (BufferReadOnlyP, &[Str("w")], "nil"),
-            (RenameBuffer, &[Str("v")], "\"v\""),
-            (BufferReadOnlyP, &[Nil], "t"),
-            (SetBuffer, &[Str("w")], "#<buffer w>"),
-            (Insert, &[Str("a")], "nil"),
-            (KillBuffer, &[Buffer(0)], "t"),
-            (BufferReadOnlyP, &[Buffer(0)], "! buffer-killed"),
-            (BufferReadOnlyP, &[Str("v")], "! no-such-buffer"),
-            (GetBufferCreate, &[Str("v")], "#<buffer v>"),
-            (BufferReadOnlyP, &[Str("v")], "nil"),
-        ],
-    },
-    Row {
-        shows: "read-only text refuses what would change it",
-        calls: &[
-            (Insert, &[Str("abcd")], "nil"),
-            (PutTextProperty, &[Int(2), Int(3), READ_ONLY, Int(0)], "nil"),
-            (DeleteRegion, &[Int(1), Int(3)], "! text-read-only"),
-            (EraseBuffer, &[], "! text-read-only"),
-            (DeleteRegion, &[Int(3), Int(4)], "nil"),
-            (
-                PutTextProperty,
-                &[Int(1), Int(4), READ_ONLY, Nil],
-                "! text-read-only",
-            ),
-            (PutTextProperty, &[Int(2), Int(3), READ_ONLY, Int(0)], "nil"),
-            (
-                RemoveTextProperties,
-                &[Int(2), Int(3), List(&[FACE, T])],
-                "nil",
-            ),
-            (
-                SetTextProperties,
-                &[Int(2), Int(3), Nil],
-                "! text-read-only",
-            ),
-            (
-                AddTextProperties,
-                &[Int(2), Int(4), List(&[FACE, T])],
-                "! text-read-only",
-            ),
-            (AddTextProperties, &[Int(3), Int(4), List(&[FACE, T])], "t"),
-            (SetBufferReadOnly, &[T], "t"),
-            (DeleteRegion, &[Int(1), Int(3)], "! buffer-read-only"),
-        ],
-    },
-    Row {
-        shows: "both neighbours say whether text may be put in",
-        calls: &[
-            (
-                Insert,
-                &[Styled(
-                    "ab",
-                    &[
-                        (0, 1, &[FRONT_STICKY, T, READ_ONLY, T]),
-                        (1, 2, &[REAR_NONSTICKY, T, READ_ONLY, T]),
-                    ],
-                )],
-                "nil",
-            ),
-            (GotoChar, &[Int(1)], "1"),
-            (Insert, &[Str("x")], "! text-read-only"),
-            (InsertAndInherit, &[Str("")], "nil"),
-            (GotoChar, &[Int(2)], "2"),
-            (Insert, &[Str("x")], "! text-read-only"),
-            (InsertBeforeMarkers, &[Str("x")], "! text-read-only"),
-            (InsertBufferSubstring, &[Buffer(0)], "! text-read-only"),
-            (GotoChar, &[Int(3)], "3"),
-            (InsertAndInherit, &[Str("x")], "nil"),
-            (TextPropertiesAt, &[Int(3)], "nil"),
-            (NarrowToRegion, &[Int(2), Int(2)], "nil"),
-            (Insert, &[Str("y")], "nil"),
-        ],
-    },
-    Row {
-        shows: "read-only text doesn't bar undoing",
-        calls: &[
-            (Insert, &[Str("ab")], "nil"),
-            (PutTextProperty, &[Int(1), Int(3), READ_ONLY, T], "nil"),
-            (UndoBoundary, &[], "nil"),
-            (UndoStart, &[], "nil"),
-            (SetBufferReadOnly, &[T], "t"),
-            (UndoMore, &[Int(1)], "! buffer-read-only"),
-            (SetBufferReadOnly, &[Nil], "nil"),
-            (UndoMore, &[Int(2)], "nil"),
-            (BufferSize, &[], "0"),
-        ],
-    },
-];
+const ROWS: &str = r#"# a read-only buffer refuses what would change it
+buffer-read-only-p => nil
+insert | "ab" => nil
+undo-start => nil
+set-buffer-read-only | 0 => t
+buffer-read-only-p | "*scratch*" => t
+insert | "" => nil
+insert | "c" => ! buffer-read-only
+delete-region | 1 | 1 => nil
+delete-region | 1 | 2 => ! buffer-read-only
+delete-region | 1 | 99 => ! args-out-of-range
+erase-buffer => ! buffer-read-only
+delete-and-extract-region | 1 | 2 => ! buffer-read-only
+insert-buffer-substring | buffer:0 => ! buffer-read-only
+put-text-property | 1 | 2 | face | t => ! buffer-read-only
+put-text-property | 1 | 2 | face | nil => nil
+undo-more | 0 => ! args-out-of-range
+undo-more | 1 => ! buffer-read-only
+set-buffer-modified-p | nil => nil
+narrow-to-region | 1 | 2 => nil
+set-buffer-read-only | nil => nil
+undo-more | 1 => ! undo-outside
+
+# each buffer is read-only by itself
+get-buffer-create | "w" => #<buffer w>
+set-buffer-read-only | t => t
+buffer-read-only-p | "w" => nil
+rename-buffer | "v" => "v"
+buffer-read-only-p | nil => t
+set-buffer | "w" => #<buffer w>
+insert | "a" => nil
+kill-buffer | buffer:0 => t
+buffer-read-only-p | buffer:0 => ! buffer-killed
+buffer-read-only-p | "v" => ! no-such-buffer
+get-buffer-create | "v" => #<buffer v>
+buffer-read-only-p | "v" => nil
+
+# read-only text refuses what would change it
+insert | "abcd" => nil
+put-text-property | 2 | 3 | read-only | 0 => nil
+delete-region | 1 | 3 => ! text-read-only
+erase-buffer => ! text-read-only
+delete-region | 3 | 4 => nil
+put-text-property | 1 | 4 | read-only | nil => ! text-read-only
+put-text-property | 2 | 3 | read-only | 0 => nil
+remove-text-properties | 2 | 3 | [face t] => nil
+set-text-properties | 2 | 3 | nil => ! text-read-only
+add-text-properties | 2 | 4 | [face t] => ! text-read-only
+add-text-properties | 3 | 4 | [face t] => t
+set-buffer-read-only | t => t
+delete-region | 1 | 3 => ! buffer-read-only
+
+# both neighbours say whether text may be put in
+insert | "ab" / 0 1 front-sticky t read-only t / 1 2 rear-nonsticky t read-only t => nil
+goto-char | 1 => 1
+insert | "x" => ! text-read-only
+insert-and-inherit | "" => nil
+goto-char | 2 => 2
+insert | "x" => ! text-read-only
+insert-before-markers | "x" => ! text-read-only
+insert-buffer-substring | buffer:0 => ! text-read-only
+goto-char | 3 => 3
+insert-and-inherit | "x" => nil
+text-properties-at | 3 => nil
+narrow-to-region | 2 | 2 => nil
+insert | "y" => nil
+
+# read-only text doesn't bar undoing
+insert | "ab" => nil
+put-text-property | 1 | 3 | read-only | t => nil
+undo-boundary => nil
+undo-start => nil
+set-buffer-read-only | t => t
+undo-more | 1 => ! buffer-read-only
+set-buffer-read-only | nil => nil
+undo-more | 2 => nil
+buffer-size => 0"#;
 
 #[test]
 fn the_rows_of_read_only_texts_give_their_replies(rt: HostRuntime) {
-    check_rows(&rt, rt.alloc(), &ROWS);
+    check_rows(&rt, rt.alloc(), ROWS);
 }

@@ -1,25 +1,16 @@
-//! Arguments of calls as constants, and the values that they stand for.
+//! Arguments of calls as words, and the values that they stand for.
+//!
+//! An argument is `nil`, `t`, a number, a symbol, a string in quotes, a list in square brackets, or an object by its kind and
+//! its number, as `marker:0`. Objects count from 0 in the order in which they are made. Behind a string a ` / ` begins each run
+//! of it: its two ends, and the names and values of its properties. As a value among these, or inside a list, a list of symbols
+//! stands in round brackets, with commas.
 
+use crate::checking::{at_most, holds};
 use ek_call::{Value, Values};
-use ek_types::{Ch, Chars, Mem, Piece, PropSet, PropVal, Sym, SymList};
+use ek_types::{Ch, Chars, Piece, PropSet, PropVal, Sym, SymList};
 use std::alloc::Global;
+use std::process::Abort;
 use std::rc::Rc;
-
-pub const EVAPORATE: Word = Word::Sym(2);
-
-pub const FACE: Word = Word::Sym(17);
-
-pub const BOLD: Word = Word::Sym(18);
-
-pub const ITALIC: Word = Word::Sym(19);
-
-pub const FRONT_STICKY: Word = Word::Sym(0);
-
-pub const PRIORITY: Word = Word::Sym(3);
-
-pub const READ_ONLY: Word = Word::Sym(10);
-
-pub const REAR_NONSTICKY: Word = Word::Sym(1);
 
 /// The names of the symbols by their numbers. The last three are those of these tests.
 pub const NAMES: [&str; 20] = [
@@ -45,150 +36,187 @@ pub const NAMES: [&str; 20] = [
     "italic",
 ];
 
-/// An argument. Objects are given by their numbers, which count from 0 in the order in which they are made.
-#[derive(Clone, Copy)]
-pub enum Word {
-    Nil,
-    T,
-    Int(i64),
-    Sym(u32),
-    Str(&'static str),
-    /// A string, and runs of it with the names and values of their properties.
-    Styled(&'static str, &'static [(usize, usize, &'static [Word])]),
-    /// A list. One within it has symbols alone.
-    List(&'static [Word]),
-    Buffer(u32),
-    Marker(u32),
-    Overlay(u32),
-    Process(u32),
-}
-
-fn put_chars(chars: &mut Chars, text: &str) -> Mem<()> {
-    for c in text.chars() {
-        chars.push(Ch::Scalar(c))?;
-    }
-    Ok(())
-}
-
-pub fn chars(alloc: Global, text: &str) -> Mem<Chars> {
+pub fn chars(rt: &impl Abort, alloc: Global, text: &str) -> Chars {
     let mut chars = Chars::new(alloc);
-    put_chars(&mut chars, text)?;
-    Ok(chars)
+    for c in text.chars() {
+        chars.push(Ch::Scalar(c)).expect(rt, "memory");
+    }
+    chars
 }
 
 /// A string without properties.
-pub fn plain(alloc: Global, text: &str) -> Mem<Piece> {
-    Piece::plain(alloc, chars(alloc, text)?)
+pub fn plain(rt: &impl Abort, alloc: Global, text: &str) -> Piece {
+    Piece::plain(alloc, chars(rt, alloc, text)).expect(rt, "memory")
 }
 
-fn put_symbols(names: &mut SymList, words: &[Word]) -> Mem<()> {
-    for word in words {
-        if let Word::Sym(number) = word {
-            names.push(Sym(*number))?;
+/// What stands between two brackets, or quotes.
+fn between(word: &str, first: char, last: char) -> &str {
+    let word = word.strip_prefix(first).unwrap_or(word);
+    word.strip_suffix(last).unwrap_or(word)
+}
+
+/// The symbol of a name.
+fn symbol(rt: &impl Abort, name: &str) -> Sym {
+    for (i, known) in NAMES.iter().enumerate() {
+        if *known == name {
+            return Sym(i as u32);
         }
     }
-    Ok(())
+    holds(rt, false);
+    Sym(0)
 }
 
-fn symbols(alloc: Global, words: &[Word]) -> Mem<SymList> {
-    let mut names = SymList::new(alloc);
-    put_symbols(&mut names, words)?;
-    Ok(names)
+fn symbols(rt: &impl Abort, alloc: Global, names: &str) -> SymList {
+    let mut list = SymList::new(alloc);
+    for name in names.split(',') {
+        list.push(symbol(rt, name)).expect(rt, "memory");
+    }
+    list
 }
 
-fn property(alloc: Global, word: &Word) -> Mem<PropVal> {
-    Ok(match word {
-        Word::Int(i) => PropVal::Int(*i),
-        Word::Sym(number) => PropVal::Sym(Sym(*number)),
-        Word::Str(text) => PropVal::Text(Rc::new(alloc, chars(alloc, text)?)?),
-        Word::List(words) => PropVal::Syms(symbols(alloc, words)?),
-        _ => PropVal::Truth,
-    })
+fn text(rt: &impl Abort, alloc: Global, letters: &str) -> PropVal {
+    PropVal::Text(Rc::new(alloc, chars(rt, alloc, letters)).expect(rt, "memory"))
 }
 
-/// The set of these names and values.
-fn set(alloc: Global, words: &[Word]) -> Mem<PropSet> {
+/// The value of a property that a name stands for.
+fn named(rt: &impl Abort, name: &str) -> PropVal {
+    if name == "t" {
+        PropVal::Truth
+    } else {
+        PropVal::Sym(symbol(rt, name))
+    }
+}
+
+fn property(rt: &impl Abort, alloc: Global, word: &str) -> PropVal {
+    match word.as_bytes().first() {
+        Some(b'"') => text(rt, alloc, between(word, '"', '"')),
+        Some(b'(') => PropVal::Syms(symbols(rt, alloc, between(word, '(', ')'))),
+        Some(b'-' | b'0'..=b'9') => PropVal::Int(word.parse::<i64>().unwrap_or(0)),
+        _ => named(rt, word),
+    }
+}
+
+fn with(rt: &impl Abort, set: PropSet, name: Sym, value: &PropVal) -> PropSet {
+    set.with(name, value).expect(rt, "memory")
+}
+
+/// The set of these names and values, one behind the other.
+fn set(rt: &impl Abort, alloc: Global, words: &str) -> PropSet {
     let mut set = PropSet::empty(alloc);
     let mut name = None;
-    for word in words {
+    for word in words.split(' ') {
         match name {
             Some(known) => {
-                set = set.with(known, &property(alloc, word)?)?;
+                set = with(rt, set, known, &property(rt, alloc, word));
                 name = None;
             }
-            None => {
-                if let Word::Sym(number) = word {
-                    name = Some(Sym(*number));
-                }
-            }
+            None => name = Some(symbol(rt, word)),
         }
     }
-    Ok(set)
+    set
 }
 
-/// Gives a part of a string the properties of these words, if it is one.
-fn style(alloc: Global, piece: &mut Piece, from: usize, to: usize, words: &[Word]) -> Mem<()> {
-    if from <= to && to <= piece.len() {
-        piece.put(from, to, &set(alloc, words)?)?;
+/// Gives a part of a string these properties.
+fn put(rt: &impl Abort, piece: &mut Piece, from: usize, to: usize, set: &PropSet) {
+    at_most(rt, from, to);
+    at_most(rt, to, piece.len());
+    piece.put(from, to, set).expect(rt, "memory");
+}
+
+/// The number that a word stands for.
+pub fn number(word: &str) -> usize {
+    word.parse::<usize>().unwrap_or(0)
+}
+
+/// Gives a run of a string its properties.
+fn style(rt: &impl Abort, alloc: Global, piece: &mut Piece, run: &str) {
+    let (from, behind) = run.split_once(' ').unwrap_or((run, ""));
+    let (to, words) = behind.split_once(' ').unwrap_or((behind, ""));
+    let set = set(rt, alloc, words);
+    put(rt, piece, number(from), number(to), &set);
+}
+
+fn styled(rt: &impl Abort, alloc: Global, text: &str, runs: &str) -> Piece {
+    let mut piece = plain(rt, alloc, between(text, '"', '"'));
+    for run in runs.split(" / ") {
+        style(rt, alloc, &mut piece, run);
     }
-    Ok(())
+    piece
 }
 
-fn styled(alloc: Global, text: &str, runs: &[(usize, usize, &[Word])]) -> Mem<Piece> {
-    let mut piece = plain(alloc, text)?;
-    for run in runs {
-        style(alloc, &mut piece, run.0, run.1, run.2)?;
+fn string(rt: &impl Abort, alloc: Global, word: &str) -> Piece {
+    match word.split_once(" / ") {
+        Some((text, runs)) => styled(rt, alloc, text, runs),
+        None => plain(rt, alloc, between(word, '"', '"')),
     }
-    Ok(piece)
 }
 
-fn symbol_list(alloc: Global, words: &[Word]) -> Mem<Value> {
-    let names = symbols(alloc, words)?;
+fn symbol_list(rt: &impl Abort, alloc: Global, names: &str) -> Values {
     let mut list = Values::new(alloc);
-    for i in 0..names.len() {
-        list.push(Value::Sym(*names.at(i)))?;
+    for name in names.split(',') {
+        list.push(Value::Sym(symbol(rt, name))).expect(rt, "memory");
     }
-    Ok(Value::List(list))
+    list
 }
 
-fn item(alloc: Global, word: &Word) -> Mem<Value> {
-    Ok(match word {
-        Word::Nil => Value::Nil,
-        Word::T => Value::T,
-        Word::Int(i) => Value::Int(*i),
-        Word::Sym(number) => Value::Sym(Sym(*number)),
-        Word::Str(text) => Value::Str(plain(alloc, text)?),
-        Word::Styled(text, runs) => Value::Str(styled(alloc, text, runs)?),
-        Word::List(words) => symbol_list(alloc, words)?,
-        Word::Buffer(id) => Value::Buffer(*id),
-        Word::Marker(k) => Value::Marker(*k),
-        Word::Overlay(k) => Value::Overlay(*k),
-        Word::Process(p) => Value::Process(*p),
-    })
+fn object(kind: &str, number: u32) -> Value {
+    match kind {
+        "buffer" => Value::Buffer(number),
+        "marker" => Value::Marker(number),
+        "overlay" => Value::Overlay(number),
+        _ => Value::Process(number),
+    }
 }
 
-/// The values of these words.
-pub fn items(alloc: Global, words: &[Word]) -> Mem<Values> {
+fn constant(rt: &impl Abort, name: &str) -> Value {
+    match name {
+        "nil" => Value::Nil,
+        "t" => Value::T,
+        _ => Value::Sym(symbol(rt, name)),
+    }
+}
+
+/// The value of a word that begins with a letter.
+fn object_or_constant(rt: &impl Abort, word: &str) -> Value {
+    match word.split_once(':') {
+        Some((kind, number)) => object(kind, number.parse::<u32>().unwrap_or(0)),
+        None => constant(rt, word),
+    }
+}
+
+fn item(rt: &impl Abort, alloc: Global, word: &str) -> Value {
+    match word.as_bytes().first() {
+        Some(b'"') => Value::Str(string(rt, alloc, word)),
+        Some(b'(') => Value::List(symbol_list(rt, alloc, between(word, '(', ')'))),
+        Some(b'-' | b'0'..=b'9') => Value::Int(word.parse::<i64>().unwrap_or(0)),
+        _ => object_or_constant(rt, word),
+    }
+}
+
+fn items(rt: &impl Abort, alloc: Global, words: &str) -> Values {
     let mut list = Values::new(alloc);
-    for word in words {
-        list.push(item(alloc, word)?)?;
+    for word in words.split(' ') {
+        list.push(item(rt, alloc, word)).expect(rt, "memory");
     }
-    Ok(list)
+    list
 }
 
-/// The value of a word.
-pub fn value(alloc: Global, word: &Word) -> Mem<Value> {
-    match word {
-        Word::List(words) => Ok(Value::List(items(alloc, words)?)),
-        _ => item(alloc, word),
+/// The value of an argument.
+pub fn value(rt: &impl Abort, alloc: Global, word: &str) -> Value {
+    if word.starts_with('[') {
+        Value::List(items(rt, alloc, between(word, '[', ']')))
+    } else {
+        item(rt, alloc, word)
     }
 }
 
-/// The arguments of a call.
-pub fn arguments(alloc: Global, words: &[Word]) -> Mem<Values> {
+/// The values of arguments, with ` | ` between any two.
+pub fn arguments(rt: &impl Abort, alloc: Global, words: &str) -> Values {
     let mut list = Values::new(alloc);
-    for word in words {
-        list.push(value(alloc, word)?)?;
+    for word in words.split(" | ") {
+        if !word.is_empty() {
+            list.push(value(rt, alloc, word)).expect(rt, "memory");
+        }
     }
-    Ok(list)
+    list
 }

@@ -1,6 +1,7 @@
 //! A buffer with its pool.
 ghost use Rattle.std.specs.Prelude.{◌≡◌, ◌<◌, length};
 
+use crate::checking::{at_most, below};
 use buffer_core::{Buffer, Marks};
 use ek_types::{Ch, Chars, Piece, PropSet, PropVal, Sym};
 use prop_intervals::PropEdit;
@@ -75,7 +76,7 @@ impl Scene {
     pub fn put(&mut self, rt: &impl Abort, at: usize, piece: &Piece) {
         let _bounds = self.buffer.bounds();
         let size = self.buffer.text().len();
-        assert!(rt; at <= size);
+        at_most(rt, at, size);
         let done = self.buffer.replace(
             0,
             at,
@@ -85,7 +86,7 @@ impl Scene {
             &mut self.marks,
             &mut self.pool,
         );
-        assert!(rt; done.is_ok());
+        done.expect(rt, "memory");
     }
 
     pub fn insert(&mut self, rt: &impl Abort, at: usize, text: &str) {
@@ -96,11 +97,12 @@ impl Scene {
     pub fn delete(&mut self, rt: &impl Abort, from: usize, to: usize) {
         let _bounds = self.buffer.bounds();
         let size = self.buffer.text().len();
-        assert!(rt; from <= to && to <= size);
+        at_most(rt, from, to);
+        at_most(rt, to, size);
         let done = self
             .buffer
             .replace(0, from, to, &[], false, &mut self.marks, &mut self.pool);
-        assert!(rt; done.is_ok());
+        done.expect(rt, "memory");
     }
 
     /// Gives a part a face, and says whether that changes something.
@@ -109,19 +111,21 @@ impl Scene {
         let edit = PropEdit::Replace(set.expect(rt, "a set"));
         let _bounds = self.buffer.bounds();
         let size = self.buffer.text().len();
-        assert!(rt; from <= to && to <= size);
+        at_most(rt, from, to);
+        at_most(rt, to, size);
         self.buffer.reprop(from, to, &edit).expect(rt, "a change")
     }
 
     pub fn boundary(&mut self, rt: &impl Abort) {
         let done = self.buffer.undo_boundary();
-        assert!(rt; done.is_ok());
+        done.expect(rt, "memory");
     }
 
     pub fn narrow(&mut self, rt: &impl Abort, from: usize, to: usize) {
         let _bounds = self.buffer.bounds();
         let size = self.buffer.text().len();
-        assert!(rt; from <= to && to <= size);
+        at_most(rt, from, to);
+        at_most(rt, to, size);
         self.buffer.narrow(from, to);
     }
 
@@ -148,12 +152,12 @@ impl Scene {
     /// Makes all records pending.
     pub fn start(&mut self, rt: &impl Abort) {
         let done = self.buffer.undo_start();
-        assert!(rt; done.is_ok());
+        done.expect(rt, "memory");
     }
 
     /// Undoes so many groups of what is pending. Says whether there was anything, inside the accessible portion.
     pub fn undo(&mut self, rt: &impl Abort, groups: u32) -> bool {
-        assert!(rt; groups > 0);
+        below(rt, 0, groups);
         let bounds = self.buffer.bounds();
         let (start, end) = (bounds.start, bounds.end);
         match self
@@ -166,7 +170,7 @@ impl Scene {
                 let done = self
                     .buffer
                     .apply_plan(0, &plan, &mut self.marks, &mut self.pool);
-                assert!(rt; done.is_ok());
+                done.expect(rt, "memory");
                 true
             }
             Err(_) => false,

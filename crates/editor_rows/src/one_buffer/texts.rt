@@ -7,7 +7,7 @@ use std::process::Abort;
 
 /// The text is this.
 fn shows(rt: &impl Abort, scene: &Scene, text: &str) {
-    assert_eq!(rt; scene.shown(rt).as_str(), text);
+    is(rt, scene.shown(rt).as_str(), text);
 }
 
 #[test]
@@ -286,8 +286,8 @@ const NARROWED: [Narrowed; 14] = [
 
 /// Compares the bounds behind a change with those that are expected.
 fn stands_at(rt: &impl Abort, change: &Change, found: Places, expected: Places) {
-    let Change { from, to, text } = change;
-    assert_eq!(rt; found, expected, "{from} to {to} {text}");
+    let of = (change.from, change.to, change.text);
+    is(rt, (of, found), (of, expected));
 }
 
 fn check_narrowed(rt: &impl Abort, alloc: Global, row: &Narrowed) {
