@@ -3,11 +3,14 @@ ghost use Rattle.std.specs.Prelude.{◌≡◌, ◌∷◌, map, OnOk};
 ghost use Rattle.editor_model.specs.Prims.{ChangesText, ConcernsHandlers, OnlyAsks, SetsState};
 ghost use Rattle.editor_model.specs.Prims.{manner_of};
 ghost use Rattle.editor_model.specs.Values.{AcceptProcessOutput, DeleteProcess, KillBuffer};
-ghost use Rattle.plain_machine.specs.Items.{MakeCall, KillBuffer as KillsBuffer};
+ghost use Rattle.editor_model.specs.Table.{commit};
+ghost use Rattle.plain_machine.specs.Items.{GiveAnswer, MakeCall, MakeChange};
+ghost use Rattle.plain_machine.specs.Items.{KillBuffer as KillsBuffer};
 ghost use Rattle.plain_machine.specs.State.{Program as Plain};
 ghost use Rattle.ek_types.specs.Listing.{items_of};
 ghost use Rattle.ek_call.specs.Meaning.{view};
 ghost use Rattle.ek_call.specs.Primitives.{prim_of};
+ghost use Rattle.prim_changes.specs.Meaning.{change_of};
 ghost use Rattle.kernel_steps.specs.Processes.{IsSilent};
 ghost use Rattle.kernel_steps.specs.Waits.{Passes};
 ghost use Rattle.trace_check.specs.Meaning.{list_of, target_of};
@@ -17,8 +20,8 @@ use crate::item::{Item, Target};
 use crate::replies::put_reply;
 use crate::waiting::Waiting;
 use crate::work::Work;
-use editor_prims::Prepared;
-use ek_call::{Primitive, Reply, Value, Values};
+use editor_prims::{Change, Prepared};
+use ek_call::{Primitive, Value, Values};
 use ek_types::{Copied, Mem};
 use kernel_steps::{Kernel, Program};
 
@@ -36,8 +39,7 @@ pub(crate) fn ask_editor<M: Kernel>(
         (list_of work.new)) }
 {
     let reply = kernel.query(prim, args)?;
-    put_reply(work, reply, target)?;
-    Ok(())
+    put_reply(work, reply, target)
 }
 
 /// A call that sets state and is heard by no hook.
@@ -54,8 +56,7 @@ pub(crate) fn set_editor<M: Kernel>(
         (list_of work.new)) }
 {
     let reply = kernel.apply(prim, args)?;
-    put_reply(work, reply, target)?;
-    Ok(())
+    put_reply(work, reply, target)
 }
 
 /// A call that changes a text.
@@ -72,27 +73,47 @@ pub(crate) fn change_text<M: Kernel>(
         (list_of work.new)) }
 {
     match kernel.prepare(prim, args)? {
-        Prepared::Change(change) => {
-            let reply = change.reply.copy()?;
-            work.put(Item::GiveAnswer(reply, target))?;
-            work.put(Item::MakeChange(change))?;
-            Ok(())
-        }
-        Prepared::Quiet(change) => {
-            kernel.commit_quiet(&change)?;
-            let reply = change.reply.copy()?;
-            work.put(Item::GiveAnswer(reply, target))?;
-            Ok(())
-        }
-        Prepared::Nothing(value) => {
-            work.put(Item::GiveAnswer(value, target))?;
-            Ok(())
-        }
-        Prepared::Fault(fault) => {
-            work.put(Item::Refuse(fault))?;
-            Ok(())
-        }
+        Prepared::Change(change) => put_change(work, change, target),
+        Prepared::Quiet(change) => change_quietly(kernel, work, &change, target),
+        Prepared::Nothing(value) => work.put(Item::GiveAnswer(value, target)),
+        Prepared::Fault(fault) => work.put(Item::Refuse(fault)),
     }
+}
+
+/// Puts a change in front, and its answer behind it.
+fn put_change(work: &mut Work, change: Change, target: Target) -> Mem<()>
+    ensures { OnOk result (list_of work.new ≡ MakeChange (change_of change) ∷
+        GiveAnswer (change_of change).reply (target_of target) ∷ (list_of work.old)) }
+{
+    put_answer(work, &change, target)?;
+    work.put(Item::MakeChange(change))
+}
+
+/// Makes a change that no hook hears of, and puts its answer in front.
+fn change_quietly<M: Kernel>(
+    kernel: &mut M,
+    work: &mut Work,
+    change: &Change,
+    target: Target,
+) -> Mem<()>
+    ensures state { OnOk result (M.state kernel.new ≡
+        record (M.state kernel.old) {
+          editor = (commit (M.state kernel.old).editor (change_of change.now)).editor;
+        }) }
+    ensures work { OnOk result (list_of work.new ≡
+        GiveAnswer (change_of change.now).reply (target_of target) ∷ (list_of work.old)) }
+{
+    kernel.commit_quiet(change)?;
+    put_answer(work, change, target)
+}
+
+/// Puts the answer of a change in front.
+fn put_answer(work: &mut Work, change: &Change, target: Target) -> Mem<()>
+    ensures { OnOk result (list_of work.new ≡
+        GiveAnswer (change_of change.now).reply (target_of target) ∷ (list_of work.old)) }
+{
+    let reply = change.reply.copy()?;
+    work.put(Item::GiveAnswer(reply, target))
 }
 
 /// A call on hooks or processes that asks and enters nothing.
@@ -113,8 +134,7 @@ pub(crate) fn call_silently<M: Kernel, P: Program>(
         (list_of work.new)) }
 {
     let value = kernel.call_silently(program, prim, args)?;
-    work.put(Item::GiveAnswer(value, target))?;
-    Ok(())
+    work.put(Item::GiveAnswer(value, target))
 }
 
 /// A wait for output.
@@ -131,8 +151,7 @@ pub(crate) fn accept_output<M: Kernel, P: Program>(
         (list_of work.new)) }
 {
     let waiting = Waiting::new(kernel, args);
-    work.put(Item::Wait(waiting, target))?;
-    Ok(())
+    work.put(Item::Wait(waiting, target))
 }
 
 /// The deletion of a process.
@@ -150,8 +169,7 @@ pub(crate) fn delete_process<M: Kernel, P: Program>(
 {
     let p = kernel.process_given(args);
     work.put(Item::GiveAnswer(Value::Nil, target))?;
-    work.put(Item::Delete(p))?;
-    Ok(())
+    work.put(Item::Delete(p))
 }
 
 /// The killing of a buffer, behind the deletions of its processes.
@@ -188,6 +206,5 @@ pub(crate) fn kill_live<M: Kernel>(
         (KillsBuffer buffer (target_of target) ∷ (list_of work.old)) (list_of work.new)) }
 {
     let reply = kernel.kill_live(buffer)?;
-    put_reply(work, reply, target)?;
-    Ok(())
+    put_reply(work, reply, target)
 }

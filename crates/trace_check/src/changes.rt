@@ -1,5 +1,5 @@
 //! Changes of texts, with the functions before and behind them.
-ghost use Rattle.std.specs.Prelude.{◌≡◌, ◌∷◌, List, drop, map, OnOk};
+ghost use Rattle.std.specs.Prelude.{◌≡◌, ◌<◌, ◌∷◌, List, drop, false, true, map, IfOk, OnOk};
 ghost use Rattle.plain_machine.specs.Items.{Item as MachineItem, Calm, CommitChange, Hooks};
 ghost use Rattle.plain_machine.specs.Items.{MakeChange};
 ghost use Rattle.plain_machine.specs.State.{Program as Plain, State};
@@ -7,9 +7,10 @@ ghost use Rattle.ek_types.specs.Listing.{items_of};
 ghost use Rattle.ek_types.specs.Property.{number_of};
 ghost use Rattle.ek_call.specs.Meaning.{view};
 ghost use Rattle.prim_changes.specs.Meaning.{change_of};
-ghost use Rattle.kernel_steps.specs.Handlers.{around, kind_of};
+ghost use Rattle.kernel_steps.specs.Changes.{begun, ends_of};
+ghost use Rattle.kernel_steps.specs.Handlers.{around, hook_names, kind_of};
 ghost use Rattle.kernel_steps.specs.Work.{working};
-ghost use Rattle.trace_check.specs.Meaning.{list_of};
+ghost use Rattle.trace_check.specs.Meaning.{list_of, places_of};
 ghost use Rattle.trace_check.specs.Steps.{Quietly};
 
 use crate::item::Item;
@@ -21,15 +22,24 @@ use kernel_steps::{Kernel, Kind};
 
 /// A change that was prepared: its ends are kept, and the functions before it come first.
 pub(crate) fn make_change<M: Kernel>(kernel: &mut M, work: &mut Work, change: Change) -> Mem<()>
+    requires { 0 < places_of work.old }
     ensures { (program : Plain) → OnOk result (Quietly program (M.state kernel.old) (M.state kernel.new)
         (MakeChange (change_of change) ∷ (list_of work.old)) (list_of work.new)) }
 {
     let kind = Kind::Before(change.buffer);
-    let ends = M::ends(kernel.allocator(), &change)?;
-    kernel.keep_ends(&change)?;
-    work.put(Item::CommitChange(change))?;
-    put_hooks(kernel, work, kind, ends)?;
-    Ok(())
+    let ends = keep_ends(kernel, &change)?;
+    work.put_back(Item::CommitChange(change));
+    put_hooks(kernel, work, kind, ends)
+}
+
+/// Keeps the ends of a change, and gives them as its hook functions get them.
+fn keep_ends<M: Kernel>(kernel: &mut M, change: &Change) -> Mem<Values>
+    ensures state { OnOk result (M.state kernel.new ≡ begun (change_of change.now) (M.state kernel.old)) }
+    ensures ends { IfOk result (λ ends. map view (items_of ends) ≡
+        ends_of change.now.from change.now.to) }
+{
+    kernel.keep_ends(change)?;
+    M::ends(kernel.allocator(), change)
 }
 
 /// Puts the functions of a kind in front, unless hooks are inhibited. They are meanwhile.
@@ -40,11 +50,21 @@ fn put_hooks<M: Kernel>(kernel: &mut M, work: &mut Work, kind: Kind, args: Value
     if kernel.inhibited() {
         return Ok(());
     }
+    let names = begin_hooks(kernel, work, kind)?;
+    work.put(Item::Hooks(kind, names, 0, args))
+}
+
+/// Inhibits hooks, puts the end of that in front, and gives the functions of a kind.
+fn begin_hooks<M: Kernel>(kernel: &mut M, work: &mut Work, kind: Kind) -> Mem<SymList>
+    ensures names { IfOk result (λ names. map number_of (items_of names) ≡
+        hook_names (kind_of kind) (M.state kernel.old)) }
+    ensures state { OnOk result (M.state kernel.new ≡ record (M.state kernel.old) { inhibited = true }) }
+    ensures work { OnOk result (list_of work.new ≡ Calm false ∷ (list_of work.old)) }
+{
     let names = kernel.hooks(kind)?;
     work.put(Item::Calm(false))?;
-    work.put(Item::Hooks(kind, names, 0, args))?;
     kernel.inhibit(true);
-    Ok(())
+    Ok(names)
 }
 
 /// A change is committed at its kept ends, and the functions behind it come first.
@@ -53,14 +73,10 @@ pub(crate) fn commit_change<M: Kernel>(kernel: &mut M, work: &mut Work, change: 
         (CommitChange (change_of change.now) ∷ (list_of work.old)) (list_of work.new)) }
 {
     match kernel.commit(change)? {
-        Committed::Fault(fault) => {
-            work.put(Item::Refuse(fault))?;
-            Ok(())
-        }
+        Committed::Fault(fault) => work.put(Item::Refuse(fault)),
         Committed::Done { from, to, old } => {
             let ends = M::ends_behind(kernel.allocator(), from, to, old)?;
-            put_hooks(kernel, work, Kind::After(change.buffer), ends)?;
-            Ok(())
+            put_hooks(kernel, work, Kind::After(change.buffer), ends)
         }
     }
 }
@@ -73,6 +89,7 @@ pub(crate) fn enter_hooks(
     at: usize,
     args: Values,
 ) -> Mem<()>
+    requires { 0 < places_of work.old }
     ensures { (program : Plain) (s : State) → OnOk result (Quietly program s s
         (Hooks (kind_of kind) (drop at (map number_of (items_of names))) (map view (items_of args)) ∷
         (list_of work.old)) (list_of work.new)) }
@@ -82,9 +99,8 @@ pub(crate) fn enter_hooks(
     }
     let name = *names.at(at);
     let copies = args.copy()?;
-    work.put(Item::Hooks(kind, names, at + 1, args))?;
-    work.put(Item::Enter(kind, Some(name), copies))?;
-    Ok(())
+    work.put_back(Item::Hooks(kind, names, at + 1, args));
+    work.put(Item::Enter(kind, Some(name), copies))
 }
 
 /// Hooks are inhibited as before.

@@ -49,10 +49,26 @@ pub fn check<N: Natives>(
         (script_of script.now) (exchanges_of journal.now) claimed.now) }
 {
     let program = RunProgram::new(alloc, script, natives)?;
+    run(alloc, script, &program, journal, claimed)
+}
+
+/// Runs a script, of which a program was made, and compares.
+fn run<P: Program>(
+    alloc: Global,
+    script: &Script,
+    program: &P,
+    journal: &Exchanges,
+    claimed: &[u8],
+) -> Mem<Verdict>
+    requires few { length (exchanges_of journal.now) < 2 ^ 32 }
+    requires short { length claimed.now < 2 ^ 32 - 1 }
+    ensures { IfOk result (IsVerdict (P.meant program.now) (script_of script.now) (exchanges_of journal.now)
+        claimed.now) }
+{
     let work = Work::of_script(alloc, script)?;
     let kernel = KernelState::new(alloc)?;
     let mut machine = Machine::new(kernel, work);
-    let verdict = compare(&mut machine, &program, journal, claimed);
+    let verdict = compare(&mut machine, program, journal, claimed);
     machine.into_kernel().close();
     verdict
 }

@@ -11,16 +11,17 @@ use crate::item::Item;
 use crate::turn::{Done, StepFault};
 use crate::waits::is_running;
 use crate::work::Work;
-use ek_types::{Mem, Sink};
+use ek_types::Sink;
 use host_link::Exchange;
 use kernel_steps::{Kernel, Program};
 
 /// Nothing is left but this.
-fn leave_only(work: &mut Work, item: Item) -> Mem<()>
-    ensures { OnOk result (list_of work.new ≡ item_of item ∷ []) }
+fn leave_only(work: &mut Work, item: Item)
+    requires { 0 < places_of work.old }
+    ensures { list_of work.new ≡ item_of item ∷ [] }
 {
     work.clear();
-    work.put(item)
+    work.put_back(item);
 }
 
 /// A process that still runs is killed, with a line. Behind the last one comes the dump.
@@ -40,12 +41,12 @@ pub(crate) fn finish<M: Kernel, P: Program, K: Sink>(
         Err StepFault.Sink) }
 {
     if p >= kernel.processes().count() {
-        leave_only(work, Item::WriteDump)?;
+        leave_only(work, Item::WriteDump);
         return Ok(Done::Alone);
     }
     let child = kernel.processes().get(p).child();
     if !is_running(kernel, p) {
-        leave_only(work, Item::Finish(p + 1))?;
+        leave_only(work, Item::Finish(p + 1));
         return Ok(Done::Alone);
     }
     match meet(next, &Question::Kill(child)) {
@@ -63,7 +64,7 @@ pub(crate) fn finish<M: Kernel, P: Program, K: Sink>(
                 return Ok(Done::Off);
             }
             kernel.tell_kill(program.symbols(), p, sink)?;
-            leave_only(work, Item::Finish(p + 1))?;
+            leave_only(work, Item::Finish(p + 1));
             Ok(Done::Answered)
         }
     }

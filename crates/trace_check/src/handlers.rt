@@ -1,5 +1,5 @@
 //! Handlers: how they are entered, go on and are left.
-ghost use Rattle.std.specs.Prelude.{◌≡◌, ◌∷◌, Err, map, option_map, OnOk};
+ghost use Rattle.std.specs.Prelude.{◌≡◌, ◌<◌, ◌∷◌, Err, map, option_map, OnOk};
 ghost use Rattle.plain_machine.specs.Handling.{default_handler, native_call, without_hooks_item};
 ghost use Rattle.plain_machine.specs.Items.{Enter, Exit, Native};
 ghost use Rattle.ek_types.specs.Io.{HasCause};
@@ -9,7 +9,7 @@ ghost use Rattle.ek_call.specs.Meaning.{reply_of, view};
 ghost use Rattle.handler_code.specs.Calls.{call_asked};
 ghost use Rattle.kernel_steps.specs.Handlers.{code_of, ended_work, kind_of, named_code};
 ghost use Rattle.kernel_steps.specs.Work.{working};
-ghost use Rattle.trace_check.specs.Meaning.{list_of};
+ghost use Rattle.trace_check.specs.Meaning.{list_of, places_of};
 ghost use Rattle.trace_check.specs.Steps.{Aloud, Quietly};
 
 use crate::item::{Item, Target};
@@ -34,6 +34,7 @@ pub(crate) fn enter<M: Kernel, P: Program, K: Sink>(
     handler: Option<Sym>,
     args: Values,
 ) -> Result<(), StepFault>
+    requires { 0 < places_of work.old }
     ensures step { OnOk result (Aloud (P.meant program.now) (M.state kernel.old) (M.state kernel.new)
         (Enter (kind_of kind) (option_map number_of handler) (map view (items_of args)) ∷ (list_of work.old))
         (list_of work.new) (K.state sink.old) (K.state sink.new)) }
@@ -43,7 +44,7 @@ pub(crate) fn enter<M: Kernel, P: Program, K: Sink>(
     let current = kernel.current();
     kernel.tell_entry(program.symbols(), kind, handler, &args, sink)?;
     kernel.enter(program.params(handler), &args)?;
-    work.put(Item::Exit(kind, handler, current, false))?;
+    work.put_back(Item::Exit(kind, handler, current, false));
     put_code(kernel, program, work, kind, handler, args)?;
     Ok(())
 }
@@ -81,13 +82,11 @@ fn put_named<M: Kernel, P: Program>(
     match program.body(name) {
         Some(body) => {
             let copy = body.copy()?;
-            work.put(Item::Body(copy, 0))?;
-            Ok(())
+            work.put(Item::Body(copy, 0))
         }
         None => {
             let past = ListOf::new(kernel.allocator());
-            work.put(Item::Native(program.native(name), args, past))?;
-            Ok(())
+            work.put(Item::Native(program.native(name), args, past))
         }
     }
 }
@@ -98,14 +97,8 @@ fn put_default<M: Kernel>(kernel: &mut M, work: &mut Work, kind: Kind, args: &Va
         default_handler (M.state kernel.old) (kind_of kind) (map view (items_of args.now)) (list_of work.old)) }
 {
     match kernel.prepare_default(kind, args)? {
-        Prepared::Change(change) => {
-            work.put(Item::MakeChange(change))?;
-            Ok(())
-        }
-        Prepared::Fault(fault) => {
-            work.put(Item::Refuse(fault))?;
-            Ok(())
-        }
+        Prepared::Change(change) => work.put(Item::MakeChange(change)),
+        Prepared::Fault(fault) => work.put(Item::Refuse(fault)),
         Prepared::Quiet(_) => Ok(()),
         Prepared::Nothing(_) => Ok(()),
     }
@@ -120,6 +113,7 @@ pub(crate) fn go_on<M: Kernel, P: Program>(
     args: Values,
     past: Replies,
 ) -> Mem<()>
+    requires { 0 < places_of work.old }
     ensures { OnOk result (Quietly (P.meant program.now) (M.state kernel.now) (M.state kernel.now)
         (Native native (map view (items_of args)) (map reply_of (items_of past)) ∷ (list_of work.old))
         (list_of work.new)) }
@@ -130,9 +124,8 @@ pub(crate) fn go_on<M: Kernel, P: Program>(
     match program.next(native, &args, &past)? {
         Next::Done => Ok(()),
         Next::Call(asked) => {
-            work.put(Item::Called(native, args, past))?;
-            put_call(kernel, program, work, asked)?;
-            Ok(())
+            work.put_back(Item::Called(native, args, past));
+            put_call(kernel, program, work, asked)
         }
     }
 }
@@ -148,14 +141,8 @@ fn put_call<M: Kernel, P: Program>(
         (call_asked asked) ∷ (list_of work.old)) }
 {
     match kernel.allowed(program, asked)? {
-        Some(made) => {
-            work.put(Item::MakeCall(made.prim, made.args, Target::Native))?;
-            Ok(())
-        }
-        None => {
-            work.put(Item::Refuse(Fault::WrongType))?;
-            Ok(())
-        }
+        Some(made) => work.put(Item::MakeCall(made.prim, made.args, Target::Native)),
+        None => work.put(Item::Refuse(Fault::WrongType)),
     }
 }
 
@@ -179,34 +166,31 @@ pub(crate) fn exit<M: Kernel, P: Program, K: Sink>(
     kernel.tell_exit(program.symbols(), handler, sink)?;
     kernel.leave(current);
     kernel.end_handler(kind, faulted);
-    end_work(work, kind, faulted)?;
+    end_work(work, kind, faulted);
     Ok(())
 }
 
 /// Drops the hook functions that are left, where a fault ended one of them.
-fn end_work(work: &mut Work, kind: Kind, faulted: bool) -> Mem<()>
-    ensures { OnOk result (list_of work.new ≡ ended_work (kind_of kind) faulted (list_of work.old)) }
+fn end_work(work: &mut Work, kind: Kind, faulted: bool)
+    ensures { list_of work.new ≡ ended_work (kind_of kind) faulted (list_of work.old) }
 {
     if !faulted {
-        return Ok(());
+        return;
     }
     match kind {
         Kind::Before(_) => drop_hooks(work),
         Kind::After(_) => drop_hooks(work),
-        Kind::Filter(_) => Ok(()),
-        Kind::Sentinel(_) => Ok(()),
+        Kind::Filter(_) => {}
+        Kind::Sentinel(_) => {}
     }
 }
 
-fn drop_hooks(work: &mut Work) -> Mem<()>
-    ensures { OnOk result (list_of work.new ≡ without_hooks_item (list_of work.old)) }
+fn drop_hooks(work: &mut Work)
+    ensures { list_of work.new ≡ without_hooks_item (list_of work.old) }
 {
     match work.take() {
-        None => Ok(()),
-        Some(Item::Hooks(_, _, _, _)) => Ok(()),
-        Some(item) => {
-            work.put(item)?;
-            Ok(())
-        }
+        None => {}
+        Some(Item::Hooks(_, _, _, _)) => {}
+        Some(item) => work.put_back(item),
     }
 }

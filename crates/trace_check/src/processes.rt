@@ -95,7 +95,7 @@ fn take_spawned<M: Kernel, P: Program>(
         Answer::Started(child) => take_child(kernel, program, work, args, target, *child),
         Answer::Refused => {
             kernel.count_asked();
-            work.put(Item::Refuse(Fault::SpawnFailed))?;
+            work.put_back(Item::Refuse(Fault::SpawnFailed));
             Ok(Done::Answered)
         }
         _ => unmade(work, Primitive::StartProcess, args, target, Done::Off),
@@ -125,7 +125,7 @@ fn take_child<M: Kernel, P: Program>(
     }
     kernel.reserve_process(program, &args)?;
     let p = kernel.start(program, &args, child);
-    work.put(Item::GiveAnswer(Value::Process(p), target))?;
+    work.put_back(Item::GiveAnswer(Value::Process(p), target));
     Ok(Done::Answered)
 }
 
@@ -148,7 +148,7 @@ pub(crate) fn send_string<M: Kernel, P: Program>(
 {
     let bytes = kernel.bytes_given(&args)?;
     if is_empty(bytes.as_slice()) {
-        work.put(Item::GiveAnswer(Value::Nil, target))?;
+        work.put_back(Item::GiveAnswer(Value::Nil, target));
         return Ok(Done::Alone);
     }
     let child = kernel.processes().get(kernel.process_given(&args)).child();
@@ -191,12 +191,12 @@ fn take_sent<M: Kernel>(
     match answer {
         Answer::Sent => {
             kernel.count_sent(size);
-            work.put(Item::GiveAnswer(Value::Nil, target))?;
+            work.put_back(Item::GiveAnswer(Value::Nil, target));
             Ok(Done::Answered)
         }
         Answer::Broken => {
             kernel.count_sent(size);
-            work.put(Item::Refuse(Fault::BrokenPipe))?;
+            work.put_back(Item::Refuse(Fault::BrokenPipe));
             Ok(Done::Answered)
         }
         _ => unmade(work, Primitive::ProcessSendString, args, target, Done::Off),
@@ -224,7 +224,7 @@ pub(crate) fn send_eof<M: Kernel, P: Program>(
     let process = kernel.processes().get(p);
     let child = process.child();
     if process.closed() {
-        work.put(Item::GiveAnswer(Value::Process(p), target))?;
+        work.put_back(Item::GiveAnswer(Value::Process(p), target));
         return Ok(Done::Alone);
     }
     match meet(next, &Question::Close(child)) {
@@ -254,7 +254,7 @@ fn take_closed<M: Kernel>(
     match answer {
         Answer::Closed => {
             kernel.note_closed(p);
-            work.put(Item::GiveAnswer(Value::Process(p), target))?;
+            work.put_back(Item::GiveAnswer(Value::Process(p), target));
             Ok(Done::Answered)
         }
         _ => unmade(work, Primitive::ProcessSendEof, args, target, Done::Off),

@@ -1,5 +1,5 @@
 //! The replies of calls, and faults.
-ghost use Rattle.std.specs.Prelude.{◌≡◌, ◌∷◌, false, Err, IfOk, OnOk};
+ghost use Rattle.std.specs.Prelude.{◌≡◌, ◌<◌, ◌∷◌, false, Err, IfOk, OnOk};
 ghost use Rattle.plain_machine.specs.Items.{GiveAnswer, Refuse};
 ghost use Rattle.editor_model.specs.Values.{Answered, Value as Meant};
 ghost use Rattle.plain_machine.specs.Forms.{assigned, kept_reply};
@@ -7,7 +7,7 @@ ghost use Rattle.ek_types.specs.Io.{HasCause};
 ghost use Rattle.ek_call.specs.Faults.{fault_of};
 ghost use Rattle.ek_call.specs.Meaning.{reply_of, view};
 ghost use Rattle.kernel_steps.specs.Work.{reply_item};
-ghost use Rattle.trace_check.specs.Meaning.{item_of, list_of, target_of};
+ghost use Rattle.trace_check.specs.Meaning.{item_of, list_of, places_of, target_of};
 ghost use Rattle.trace_check.specs.Steps.{Aloud, Drops, DropsBy};
 ghost use Rattle.trace_check.specs.Replies.{HandsOn};
 
@@ -23,14 +23,8 @@ pub(crate) fn put_reply(work: &mut Work, reply: Reply, target: Target) -> Mem<()
     ensures { OnOk result (list_of work.new ≡ reply_item (reply_of reply) (target_of target) ∷ (list_of work.old)) }
 {
     match reply {
-        Reply::Value(value) => {
-            work.put(Item::GiveAnswer(value, target))?;
-            Ok(())
-        }
-        Reply::Fault(fault) => {
-            work.put(Item::Refuse(fault))?;
-            Ok(())
-        }
+        Reply::Value(value) => work.put(Item::GiveAnswer(value, target)),
+        Reply::Fault(fault) => work.put(Item::Refuse(fault)),
     }
 }
 
@@ -96,11 +90,11 @@ fn keep_reply(work: &mut Work, reply: Reply) -> Mem<()>
         Some(Item::Called(native, args, past)) => {
             let mut past = past;
             past.push(reply)?;
-            work.put(Item::Native(native, args, past))?;
+            work.put_back(Item::Native(native, args, past));
             Ok(())
         }
         Some(item) => {
-            work.put(item)?;
+            work.put_back(item);
             Ok(())
         }
     }
@@ -138,25 +132,26 @@ fn drop_work<M: Stepped>(kernel: &mut M, work: &mut Work, fault: Fault) -> Mem<(
     Ok(())
 }
 
-/// Drops one item, or says that the fault ends there.
+/// Drops one item that was taken, or says that the fault ends there.
 fn drop_item<M: Stepped>(kernel: &mut M, work: &mut Work, item: Item, fault: Fault) -> Mem<bool>
+    requires { 0 < places_of work.old }
     ensures drops { IfOk result (λ ends. DropsBy ends (fault_of fault) (M.state kernel.old)
         (M.state kernel.new) (item_of item ∷ (list_of work.old)) (list_of work.new)) }
     ensures rest { IfOk result (λ ends. ends ≡ false → list_of work.new ≡ list_of work.old) }
 {
     match item {
         Item::Top(forms, at) => {
-            work.put(Item::Top(forms, at))?;
+            work.put_back(Item::Top(forms, at));
             Ok(true)
         }
         Item::Called(native, args, past) => {
             let mut past = past;
             past.push(Reply::Fault(fault))?;
-            work.put(Item::Native(native, args, past))?;
+            work.put_back(Item::Native(native, args, past));
             Ok(true)
         }
         Item::Exit(kind, handler, current, _) => {
-            work.put(Item::Exit(kind, handler, current, true))?;
+            work.put_back(Item::Exit(kind, handler, current, true));
             Ok(true)
         }
         Item::Leave(kept) => {

@@ -24,7 +24,7 @@ pub enum StepFault {
 }
 
 /// What an item comes to.
-#[derive(Clone, Copy, Debug, PartialEq, Eq)]
+#[derive(Clone, Copy)]
 pub(crate) enum Done {
     /// The step asked nothing.
     Alone,

@@ -27,7 +27,7 @@ use wait_loop::Aim;
 const MOST_ROUNDS: u64 = 1000;
 
 /// What a wait comes to next.
-#[derive(Clone, Copy, Debug, PartialEq, Eq)]
+#[derive(Clone, Copy)]
 pub(crate) enum Ahead {
     /// The process of this number is asked.
     Ask(u32),

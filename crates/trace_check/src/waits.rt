@@ -47,13 +47,13 @@ pub(crate) fn wait<M: Stepped>(
 {
     match waiting.ahead(kernel.processes()) {
         Ahead::Done(heard) => {
-            work.put(Item::GiveAnswer(truth(heard), target))?;
+            work.put_back(Item::GiveAnswer(truth(heard), target));
             Ok(Done::Alone)
         }
         Ahead::Round => {
             let mut waiting = waiting;
             waiting.begin_round(kernel.processes())?;
-            work.put(Item::Wait(waiting, target))?;
+            work.put_back(Item::Wait(waiting, target));
             Ok(Done::Alone)
         }
         Ahead::Ask(p) => ask(kernel, work, waiting, target, p, next),
@@ -87,7 +87,7 @@ fn ask<M: Stepped>(
         (list_of work.new) }
 {
     if !kernel.may_ask() {
-        work.put(Item::Refuse(Fault::ExchangesSpent))?;
+        work.put_back(Item::Refuse(Fault::ExchangesSpent));
         return Ok(Done::Alone);
     }
     let process = kernel.processes().get(p);
@@ -122,6 +122,7 @@ fn hear<M: Stepped>(
     p: u32,
     answer: &Answer,
 ) -> Mem<()>
+    requires place { 0 < places_of work.old }
     requires asked { may_ask (M.state kernel.old) ≡ true }
     requires allowed { IsAllowed (M.state kernel.old) p (answer_of answer.now) }
     ensures { OnOk result (Hears (M.state kernel.old) (M.state kernel.new) waiting (target_of target) p
@@ -131,9 +132,8 @@ fn hear<M: Stepped>(
     let _taken = waiting.take_first(kernel.processes());
     let heard = kernel.take_answer(p, answer)?;
     waiting.note(p, heard.bytes);
-    work.put(Item::Wait(waiting, target))?;
-    put_entry(work, heard.entry)?;
-    Ok(())
+    work.put_back(Item::Wait(waiting, target));
+    put_entry(work, heard.entry)
 }
 
 /// Puts a filter or a sentinel in front, if there is one to be entered.
@@ -142,10 +142,7 @@ fn put_entry(work: &mut Work, entry: Option<Entry>) -> Mem<()>
 {
     match entry {
         None => Ok(()),
-        Some(entry) => {
-            work.put(Item::Enter(entry.kind, entry.handler, entry.args))?;
-            Ok(())
-        }
+        Some(entry) => work.put(Item::Enter(entry.kind, entry.handler, entry.args)),
     }
 }
 
@@ -199,6 +196,5 @@ fn kill<M: Stepped>(kernel: &mut M, work: &mut Work, p: u32) -> Mem<()>
         (list_of work.new)) }
 {
     let entry = kernel.take_kill(p)?;
-    work.put(Item::Enter(entry.kind, entry.handler, entry.args))?;
-    Ok(())
+    work.put(Item::Enter(entry.kind, entry.handler, entry.args))
 }

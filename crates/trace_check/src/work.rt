@@ -1,5 +1,5 @@
 //! The list of work.
-ghost use Rattle.std.specs.Prelude.{◌≡◌, ◌<◌, [], ◌∷◌, OnOk, OnErr, IfNone, IfOk, IfSome};
+ghost use Rattle.std.specs.Prelude.{◌≡◌, ◌<◌, ◌≤◌, [], ◌∷◌, OnOk, OnErr, IfNone, IfOk, IfSome};
 ghost use Rattle.plain_machine.specs.Run.{start};
 ghost use Rattle.ek_call.specs.Meaning.{script_of};
 ghost use Rattle.trace_check.specs.Meaning.{item_of, list_of, places_of};
@@ -66,9 +66,10 @@ impl Work {
         Some(item)
     }
 
-    /// Drops all work.
+    /// Drops all work, and keeps its places.
     pub(crate) fn clear(&mut self)
-        ensures { list_of self.new ≡ [] }
+        ensures work { list_of self.new ≡ [] }
+        ensures places { places_of self.old ≤ places_of self.new }
     {
         self.items.clear();
     }

@@ -9,6 +9,7 @@ use Rattle.ek_call.specs.Meaning.{view}
 use Rattle.kernel_steps.specs.Handlers.{kind_of}
 use Rattle.trace_check.specs.Meaning.{list_of}
 use Rattle.trace_check.proofs.ChangeItems.{hooks_go, hooks_end}
+use Rattle.trace_check.proofs.Listing.{once_put}
 use Rattle.trace_check.proofs.changes.enter_hooks.Goals as goal
 
 pub returns-then-at-len : goal.returns-then-at-len
@@ -16,11 +17,11 @@ returns-then-at-len c = λ program s.
     rw (drop_all c.args.at (map number_of (items_of c.args.names)) (rw length-map (omega arith))) (hooks_end program s (list_of c.args.work.now) (kind_of c.args.kind) (map view (items_of c.args.args)))
 
 pub returns : goal.returns
-returns c = λ program s.
+returns c = λ program s. once_put c.put.result c.put.ensures.ok (λ put.
     let kind = kind_of c.args.kind in
     let args = map view (items_of c.args.args) in
     let names = map number_of (items_of c.args.names) in
     let name = number_of c.at-name.result.now in
     let left = drop (c.args.at + 1) names in
-    rw (drop_at names c.args.at name (mapped_at number_of (items_of c.args.names) c.args.at c.at-name.result.now c.at-name.ensures), c.in_ok-put-2.ensures.ok ∙ ap (λ l. Enter kind (Some name) (map view (items_of c.in_ok-copies.copies)) ∷ l) c.in_ok-put.ensures.ok ∙ ap (λ a. Enter kind (Some name) a ∷ Hooks kind left args ∷ list_of c.args.work.now) c.in_ok-copies.ensures)
-    (hooks_go program s (list_of c.args.work.now) kind args name left)
+    rw (drop_at names c.args.at name (mapped_at number_of (items_of c.args.names) c.args.at c.at-name.result.now c.at-name.ensures), put ∙ ap (λ l. Enter kind (Some name) (map view (items_of c.in_ok-copies.copies)) ∷ l) c.put_back.ensures ∙ ap (λ a. Enter kind (Some name) a ∷ Hooks kind left args ∷ list_of c.args.work.now) c.in_ok-copies.ensures)
+    (hooks_go program s (list_of c.args.work.now) kind args name left))

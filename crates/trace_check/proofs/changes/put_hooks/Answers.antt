@@ -1,15 +1,12 @@
-use Rattle.std.proofs.Common.{◌≡◌, ◌∷◌, true, false, List, map, ap, ◌∙◌, sym}
-use Rattle.editor_model.specs.Values.{Value}
-use Rattle.plain_machine.specs.State.{State}
-use Rattle.plain_machine.specs.Forms.{bracket}
-use Rattle.plain_machine.specs.Items.{Item, Hooks, Calm}
+use Rattle.std.proofs.Common.{◌∷◌, map, ap, ◌∙◌, sym}
+use Rattle.plain_machine.specs.Items.{Hooks}
 use Rattle.ek_types.specs.Listing.{items_of}
 use Rattle.ek_types.specs.Property.{number_of}
 use Rattle.ek_call.specs.Meaning.{view}
-use Rattle.kernel_steps.specs.Handlers.{hook_names, kind_of}
-use Rattle.kernel_steps.specs.Work.{working}
+use Rattle.kernel_steps.specs.Handlers.{kind_of}
 use Rattle.trace_check.specs.Meaning.{list_of}
 use Rattle.trace_check.proofs.ChangeItems.{unhooked, hooked}
+use Rattle.trace_check.proofs.Listing.{once_put}
 use Rattle.trace_check.proofs.changes.put_hooks.Goals as goal
 
 pub returns-then-inhibited : goal.returns-then-inhibited
@@ -17,6 +14,8 @@ returns-then-inhibited g c =
     unhooked (g.M.Kernel.state c.args.kernel.now) (list_of c.args.work.now) (kind_of c.args.kind) (map view (items_of c.args.args)) (sym c.inhibited.ensures ∙ c.if-inhibited.true)
 
 pub returns : goal.returns
-returns g c =
-    hooked (g.M.Kernel.state c.args.kernel.now) (g.M.Kernel.state c.inhibit.new.self) (list_of c.args.work.now) (list_of c.put-2.new.self) (kind_of c.args.kind) (map number_of (items_of c.in_ok-names.names)) (map view (items_of c.args.args)) (sym c.inhibited.ensures ∙ c.if-inhibited.false) c.inhibit.ensures c.in_ok-names.ensures
-    (c.in_ok-put-2.ensures.ok ∙ ap (λ l. Hooks (kind_of c.args.kind) (map number_of (items_of c.in_ok-names.names)) (map view (items_of c.args.args)) ∷ l) c.in_ok-put.ensures.ok)
+returns g c = once_put c.put.result c.put.ensures.ok (λ put.
+    let names = map number_of (items_of c.in_ok-names.names) in
+    let args = map view (items_of c.args.args) in
+    hooked (g.M.Kernel.state c.args.kernel.now) (g.M.Kernel.state c.begin_hooks.new.kernel) (list_of c.args.work.now) (list_of c.put.new.self) (kind_of c.args.kind) names args (sym c.inhibited.ensures ∙ c.if-inhibited.false) c.in_ok-names.ensures.state c.in_ok-names.ensures.names
+    (put ∙ ap (λ l. Hooks (kind_of c.args.kind) names args ∷ l) c.in_ok-names.ensures.work))

@@ -6,5 +6,4 @@ use Rattle.trace_check.proofs.checking.check.Goals as goal
 
 pub returns : goal.returns
 returns g c =
-    subst (λ p. IfOk c.compare-verdict.result (IsVerdict p (script_of c.args.script.now) (exchanges_of c.args.journal.now) c.args.claimed.now)) c.in_ok-program.ensures
-    (c.compare-verdict.ensures (script_of c.args.script.now) (rw c.new-machine.ensures c.in_ok-work.ensures))
+    subst (λ p. IfOk c.run.result (IsVerdict p (script_of c.args.script.now) (exchanges_of c.args.journal.now) c.args.claimed.now)) c.in_ok-program.ensures c.run.ensures

@@ -10,5 +10,5 @@ returns-clause-step g c =
     let known = g.M.Kernel.state c.args.kernel.now in
     let old = g.K.Sink.state c.args.sink.now in
     let new = g.K.Sink.state c.tell_dump.new.sink in
-    dump_written program known (list_of c.args.work.now) (list_of c.clear.new.self) old new c.in_ok-tell_dump.field-0 c.clear.ensures
+    dump_written program known (list_of c.args.work.now) (list_of c.clear.new.self) old new c.in_ok-tell_dump.field-0 c.clear.ensures.work
     (by_names _ old new c.symbols.result.now program.symbols known Dumped c.symbols.ensures c.in_ok-tell_dump.ensures)

@@ -24,5 +24,5 @@ returns-clause-step g c =
     let rest = list_of c.args.work.now in
     handler_entered program kind args handler known mid (g.M.Kernel.state c.put_code.new.kernel) rest (list_of c.put_code.new.work) old new c.in_ok-tell_entry.field-0
     (c.in_ok-enter.ensures.ok ∙ ap (λ ps. in_scope (bound_params ps args) (record known { depth = known.depth + 1 })) c.params.ensures)
-    (c.in_ok-put_code.ensures ∙ ap (code_of program kind handler args mid) (c.in_ok-put.ensures.ok ∙ ap (λ b. Exit kind handler b false ∷ rest) c.current-current.ensures))
+    (c.in_ok-put_code.ensures ∙ ap (code_of program kind handler args mid) (c.put_back.ensures ∙ ap (λ b. Exit kind handler b false ∷ rest) c.current-current.ensures))
     (by_names _ old new c.symbols.result.now program.symbols known (Entered known.depth kind handler args) c.symbols.ensures c.in_ok-tell_entry.ensures)

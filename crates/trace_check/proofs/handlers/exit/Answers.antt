@@ -16,5 +16,5 @@ returns-clause-step g c =
     let kind = kind_of c.args.kind in
     let handler = option_map number_of c.args.handler in
     handler_left program kind handler c.args.current c.args.faulted known (g.M.Kernel.state c.end_handler.new.self) (list_of c.args.work.now) (list_of c.end_work.new.work) old new c.in_ok-tell_exit.field-0
-    (c.end_handler.ensures ∙ ap (ended_state kind c.args.faulted) c.leave.ensures) c.in_ok-end_work.ensures
+    (c.end_handler.ensures ∙ ap (ended_state kind c.args.faulted) c.leave.ensures) c.end_work.ensures
     (by_names _ old new c.symbols.result.now program.symbols known (Left (known.depth - 1) handler) c.symbols.ensures c.in_ok-tell_exit.ensures)

@@ -6,6 +6,7 @@ use Rattle.ek_call.specs.Meaning.{reply_of, view}
 use Rattle.handler_code.specs.Calls.{call_asked}
 use Rattle.trace_check.specs.Meaning.{list_of}
 use Rattle.trace_check.proofs.HandlerItems.{native_asks, native_done, native_spent}
+use Rattle.trace_check.proofs.Listing.{once_put}
 use Rattle.trace_check.proofs.handlers.go_on.Goals as goal
 
 pub returns-then-len-ge-MOST_REPLIES : goal.returns-then-len-ge-MOST_REPLIES
@@ -16,9 +17,9 @@ pub returns-in-Done : goal.returns-in-Done
 returns-in-Done g c =
     native_done (g.P.Program.meant c.args.program.now) (g.M.Kernel.state c.args.kernel.now) (list_of c.args.work.now) c.args.native (map view (items_of c.args.args)) (map reply_of (items_of c.args.past)) (rw length-map (omega arith)) (rw c.in-Done.is at c.in_ok-next.ensures)
 
-pub returns-in_ok-put_call-in-Call : goal.returns-in_ok-put_call-in-Call
-returns-in_ok-put_call-in-Call g c =
+pub returns-in-Call : goal.returns-in-Call
+returns-in-Call g c = once_put c.put_call.result c.put_call.ensures (λ put.
     let program = g.P.Program.meant c.args.program.now in
     let known = g.M.Kernel.state c.args.kernel.now in
     native_asks program known (list_of c.args.work.now) c.args.native (map view (items_of c.args.args)) (map reply_of (items_of c.args.past)) (call_asked c.in-Call.asked) (list_of c.put_call.new.work) (rw length-map (omega arith)) (rw c.in-Call.is at c.in_ok-next.ensures)
-    (c.in_ok-put_call-in-Call.ensures ∙ ap (λ l. native_call program known (call_asked c.in-Call.asked) ∷ l) c.in_ok-put-in-Call.ensures.ok)
+    (put ∙ ap (λ l. native_call program known (call_asked c.in-Call.asked) ∷ l) c.put_back.ensures))

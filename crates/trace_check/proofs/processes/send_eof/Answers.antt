@@ -94,8 +94,8 @@ returns-then-closed g c =
     let k = c.get-process.result.now in
     let made : slice_get known.processes p ≡ Some k = subst (λ l. slice_get l p ≡ Some k) c.processes.ensures c.get-process.ensures in
     let closed = closed_found known p k made ∙ sym c.closed.ensures ∙ c.if-closed.true in
-    let left_is = c.in_ok-put.ensures.ok ∙ ap (λ v. GiveAnswer v target ∷ rest) (process_is p) in
-    stays_put program known (MakeCall ProcessSendEof args target ∷ rest) (list_of c.put.new.self) (λ s h. close_nothing program known args target rest p c.requires.passes c.process_given-p.ensures closed s h ∙ ap (on s) (sym left_is))
+    let left_is = c.put_back.ensures ∙ ap (λ v. GiveAnswer v target ∷ rest) (process_is p) in
+    stays_put program known (MakeCall ProcessSendEof args target ∷ rest) (list_of c.put_back.new.self) (λ s h. close_nothing program known args target rest p c.requires.passes c.process_given-p.ensures closed s h ∙ ap (on s) (sym left_is))
 
 pub get-process-requires : goal.get-process-requires
 get-process-requires g c =

@@ -97,8 +97,8 @@ returns-then-is_empty g c =
     let rest = list_of c.args.work.now in
     let bytes = c.in_ok-bytes.bytes.items in
     let none = nothing_there bytes (sym (ap (λ l. nat_eq (length l) 0) c.as_slice.ensures.value) ∙ sym c.is_empty.ensures ∙ c.if-is_empty.true) in
-    let left_is = c.in_ok-put.ensures.ok ∙ ap (λ v. GiveAnswer v target ∷ rest) nil_is in
-    stays_put program known (MakeCall ProcessSendString args target ∷ rest) (list_of c.put.new.self) (λ s h. send_nothing program known args target rest bytes c.requires.passes c.in_ok-bytes.ensures none s h ∙ ap (on s) (sym left_is))
+    let left_is = c.put_back.ensures ∙ ap (λ v. GiveAnswer v target ∷ rest) nil_is in
+    stays_put program known (MakeCall ProcessSendString args target ∷ rest) (list_of c.put_back.new.self) (λ s h. send_nothing program known args target rest bytes c.requires.passes c.in_ok-bytes.ensures none s h ∙ ap (on s) (sym left_is))
 
 pub get-requires : goal.get-requires
 get-requires g c =

@@ -29,5 +29,5 @@ returns g c =
     let rest = list_of c.args.work.now in
     let state_is = rw c.reserve_process.ensures.state at c.start-p.ensures.state in
     let number_is = rw c.reserve_process.ensures.state at c.start-p.ensures.number in
-    child_taken (g.M.Kernel.state c.args.kernel.now) target rest (arg args 0) (arg args 1) c.args.child (g.M.Kernel.state c.start-p.new.self) c.start-p.result (list_of c.put.new.self) (sym c.is_new.ensures ∙ c.if-not-is_new.false) state_is number_is
-    (c.in_ok-put.ensures.ok ∙ ap (λ v. GiveAnswer v target ∷ rest) (process_is c.start-p.result))
+    child_taken (g.M.Kernel.state c.args.kernel.now) target rest (arg args 0) (arg args 1) c.args.child (g.M.Kernel.state c.start-p.new.self) c.start-p.result (list_of c.put_back.new.self) (sym c.is_new.ensures ∙ c.if-not-is_new.false) state_is number_is
+    (c.put_back.ensures ∙ ap (λ v. GiveAnswer v target ∷ rest) (process_is c.start-p.result))

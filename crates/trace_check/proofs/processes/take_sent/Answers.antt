@@ -8,13 +8,13 @@ use Rattle.trace_check.specs.Meaning.{list_of, target_of}
 use Rattle.trace_check.proofs.Asking.{other_sent}
 use Rattle.trace_check.proofs.processes.take_sent.Goals as goal
 
-pub returns-in_ok-put-in-Sent : goal.returns-in_ok-put-in-Sent
-returns-in_ok-put-in-Sent g c =
-    rw c.in-Sent.is (λ s h. (counted c.args.size s, c.count_sent.ensures ∙ ap (counted c.args.size) h, ap (λ l. Some (silent (counted c.args.size s) l)) (sym (c.in_ok-put-in-Sent.ensures.ok ∙ ap (λ v. GiveAnswer v (target_of c.args.target) ∷ list_of c.args.work.now) nil_is))))
+pub returns-in-Sent : goal.returns-in-Sent
+returns-in-Sent g c =
+    rw c.in-Sent.is (λ s h. (counted c.args.size s, c.count_sent.ensures ∙ ap (counted c.args.size) h, ap (λ l. Some (silent (counted c.args.size s) l)) (sym (c.put_back.ensures ∙ ap (λ v. GiveAnswer v (target_of c.args.target) ∷ list_of c.args.work.now) nil_is))))
 
-pub returns-in_ok-put-in-Broken : goal.returns-in_ok-put-in-Broken
-returns-in_ok-put-in-Broken g c =
-    rw c.in-Broken.is (λ s h. (counted c.args.size s, c.count_sent-in-Broken.ensures ∙ ap (counted c.args.size) h, ap (λ l. Some (silent (counted c.args.size s) l)) (sym c.in_ok-put-in-Broken.ensures.ok)))
+pub returns-in-Broken : goal.returns-in-Broken
+returns-in-Broken g c =
+    rw c.in-Broken.is (λ s h. (counted c.args.size s, c.count_sent-in-Broken.ensures ∙ ap (counted c.args.size) h, ap (λ l. Some (silent (counted c.args.size s) l)) (sym c.put_back-in-Broken.ensures)))
 
 pub returns-in_default : goal.returns-in_default
 returns-in_default g c =

@@ -18,8 +18,8 @@ returns-in-Started g c = rw c.in-Started.is c.take_child.ensures
 pub count_asked-requires : goal.count_asked-requires
 count_asked-requires g c = starts_may (g.P.Program.meant c.args.program.now) (g.M.Kernel.state c.args.kernel.now) (map view (items_of c.args.args)) c.requires.passes
 
-pub returns-in_ok-put-in-Refused : goal.returns-in_ok-put-in-Refused
-returns-in_ok-put-in-Refused g c = rw c.in-Refused.is (λ s h. (asked_more s, c.count_asked.ensures ∙ ap asked_more h, ap (λ l. Some (silent (asked_more s) l)) (sym c.in_ok-put-in-Refused.ensures.ok)))
+pub returns-in-Refused : goal.returns-in-Refused
+returns-in-Refused g c = rw c.in-Refused.is (λ s h. (asked_more s, c.count_asked.ensures ∙ ap asked_more h, ap (λ l. Some (silent (asked_more s) l)) (sym c.put_back.ensures)))
 
 pub returns-in_default : goal.returns-in_default
 returns-in_default g c =

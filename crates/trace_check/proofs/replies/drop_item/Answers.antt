@@ -15,18 +15,18 @@ use Rattle.trace_check.proofs.Dropping.{top_stays, native_replied, exit_faulted,
 use Rattle.trace_check.proofs.replies.drop_item.Goals as goal
 
 pub returns-in-Top-clause-drops : goal.returns-in-Top-clause-drops
-returns-in-Top-clause-drops g c = rw c.in-Top.is (top_stays (fault_of c.args.fault) (g.M.Kernel.state c.args.kernel.now) (list_of c.args.work.now) (list_of c.put.new.self) (joined (drop c.in-Top.at (map form_of (items_of c.in-Top.forms)))) c.in_ok-put-in-Top.ensures.ok)
+returns-in-Top-clause-drops g c = rw c.in-Top.is (top_stays (fault_of c.args.fault) (g.M.Kernel.state c.args.kernel.now) (list_of c.args.work.now) (list_of c.put_back.new.self) (joined (drop c.in-Top.at (map form_of (items_of c.in-Top.forms)))) c.put_back.ensures)
 
 pub returns-in-Called-clause-drops : goal.returns-in-Called-clause-drops
 returns-in-Called-clause-drops g c =
     let args = map view (items_of c.in-Called.args) in
     let past = map reply_of (items_of c.in-Called.past) in
     let rest = list_of c.args.work.now in
-    rw c.in-Called.is (native_replied (fault_of c.args.fault) (g.M.Kernel.state c.args.kernel.now) rest (list_of c.put-in-Called.new.self) c.in-Called.native args past
-    (c.in_ok-put-in-Called.ensures.ok ∙ ap (λ l. Native c.in-Called.native args l ∷ rest) (ap (map reply_of) c.in_ok-push-in-Called.ensures.ok ∙ map_more reply_of (items_of c.in-Called.past) (reply.Fault c.args.fault))))
+    rw c.in-Called.is (native_replied (fault_of c.args.fault) (g.M.Kernel.state c.args.kernel.now) rest (list_of c.put_back-in-Called.new.self) c.in-Called.native args past
+    (c.put_back-in-Called.ensures ∙ ap (λ l. Native c.in-Called.native args l ∷ rest) (ap (map reply_of) c.in_ok-push-in-Called.ensures.ok ∙ map_more reply_of (items_of c.in-Called.past) (reply.Fault c.args.fault))))
 
 pub returns-in-Exit-clause-drops : goal.returns-in-Exit-clause-drops
-returns-in-Exit-clause-drops g c = rw c.in-Exit.is (exit_faulted (fault_of c.args.fault) (g.M.Kernel.state c.args.kernel.now) (list_of c.args.work.now) (list_of c.put-in-Exit.new.self) (kind_of c.in-Exit.kind) (option_map number_of c.in-Exit.handler) c.in-Exit.current c.in-Exit.field-3 c.in_ok-put-in-Exit.ensures.ok)
+returns-in-Exit-clause-drops g c = rw c.in-Exit.is (exit_faulted (fault_of c.args.fault) (g.M.Kernel.state c.args.kernel.now) (list_of c.args.work.now) (list_of c.put_back-in-Exit.new.self) (kind_of c.in-Exit.kind) (option_map number_of c.in-Exit.handler) c.in-Exit.current c.in-Exit.field-3 c.put_back-in-Exit.ensures)
 
 pub returns-in-Leave-clause-drops : goal.returns-in-Leave-clause-drops
 returns-in-Leave-clause-drops g c = rw c.in-Leave.is (block_restored (fault_of c.args.fault) (g.M.Kernel.state c.args.kernel.now) (g.M.Kernel.state c.restore.new.self) (list_of c.args.work.now) (kept_as c.in-Leave.kept) c.restore.ensures)

@@ -14,7 +14,7 @@ use Rattle.trace_check.proofs.waits.ask.Goals as goal
 
 pub returns-then-not-may_ask : goal.returns-then-not-may_ask
 returns-then-not-may_ask g c = λ program.
-    asks_spent program (g.M.Kernel.state c.args.kernel.now) c.args.waiting (target_of c.args.target) (list_of c.args.work.now) c.args.p c.requires.ahead (list_of c.put.new.self) (sym c.may_ask.ensures ∙ c.if-not-may_ask.true) c.in_ok-put.ensures.ok
+    asks_spent program (g.M.Kernel.state c.args.kernel.now) c.args.waiting (target_of c.args.target) (list_of c.args.work.now) c.args.p c.requires.ahead (list_of c.put_back.new.self) (sym c.may_ask.ensures ∙ c.if-not-may_ask.true) c.put_back.ensures
 
 pub get-process-requires : goal.get-process-requires
 get-process-requires g c = rw c.processes.ensures (asked_is_made (g.M.Kernel.state c.args.kernel.now).processes c.args.waiting c.args.p c.requires.ahead)
@@ -33,7 +33,7 @@ returns-in-Nothing g c = λ program.
     let asks = asks_process program known w target rest c.args.p c.requires.ahead k made may in
     let go = goes program known w target rest c.args.p c.requires.ahead in
     let none : Meets (asked c.question_about-question.result) next c.meet.result = c.meet.ensures in
-    comes_waiting program next known (Wait w target ∷ rest) (asked_about k.drained k.child) (Unit {0}) known (list_of c.put_back.new.self) go asks (rw c.in-Nothing.is at none) refl c.put_back.ensures
+    comes_waiting program next known (Wait w target ∷ rest) (asked_about k.drained k.child) (Unit {0}) known (list_of c.put_back-in-Nothing.new.self) go asks (rw c.in-Nothing.is at none) refl c.put_back-in-Nothing.ensures
 
 pub returns-in-Another : goal.returns-in-Another
 returns-in-Another g c = λ program.
