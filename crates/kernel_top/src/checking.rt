@@ -5,6 +5,7 @@ ghost use Rattle.std.specs.Io.KnownBytes.{Appends};
 ghost use Rattle.ek_types.specs.Io.{HasCause};
 ghost use Rattle.ek_call.specs.Meaning.{script_of};
 ghost use Rattle.host_link.specs.Meaning.{exchanges_of};
+ghost use Rattle.journal_text.specs.Transcripts.{IsTranscriptTo};
 ghost use Rattle.kernel_state.specs.Whole.{program_with};
 ghost use Rattle.kernel_top.specs.Sessions.{longest_session};
 ghost use Rattle.kernel_top.specs.Checking.{Judged, Checked, Told};
@@ -41,26 +42,35 @@ fn judge<N: Natives>(
     }
 }
 
+/// Reads the script of a transcript that was found in some bytes, and judges its claimed lines.
+fn check_found<N: Natives>(alloc: Global, bytes: &[u8], found: &Transcript, natives: &N) -> Status
+    requires short { length bytes.now ≤ longest_session }
+    requires read { IsTranscriptTo bytes.now (exchanges_of found.now.journal) found.now.from found.now.to
+        found.now.script }
+    ensures { Checked (λ script. program_with N.names N.does script natives.now) result bytes.now }
+{
+    match script_in(alloc, &bytes[found.script..]) {
+        Ok(script) => judge(
+            alloc,
+            &script,
+            &found.journal,
+            &bytes[found.from..found.to],
+            natives,
+        ),
+        Err(status) => status,
+    }
+}
+
 /// Reads the transcript that some bytes are, and judges its claimed lines. Nothing is written.
 fn check_bytes<N: Natives>(alloc: Global, bytes: &[u8], natives: &N) -> Status
     requires { length bytes.now ≤ longest_session }
     ensures { Checked (λ script. program_with N.names N.does script natives.now) result bytes.now }
 {
-    let Transcript {
-        journal,
-        from,
-        to,
-        script: at,
-    } = match read_transcript(alloc, bytes) {
-        Ok(found) => found,
-        Err(JournalFault::Line(line)) => return Status::Journal(line),
-        Err(JournalFault::NoMemory) => return Status::NoMemory,
-    };
-    let script = match script_in(alloc, &bytes[at..]) {
-        Ok(script) => script,
-        Err(status) => return status,
-    };
-    judge(alloc, &script, &journal, &bytes[from..to], natives)
+    match read_transcript(alloc, bytes) {
+        Ok(found) => check_found(alloc, bytes, &found, natives),
+        Err(JournalFault::Line(line)) => Status::Journal(line),
+        Err(JournalFault::NoMemory) => Status::NoMemory,
+    }
 }
 
 /// Reads the transcript that some bytes are, judges its claimed lines, and writes one line where they are those of

@@ -1,11 +1,4 @@
-use Rattle.std.proofs.Common.{ap, subst, drop, Err, arith}
-use Rattle.plain_machine.specs.Grammar.{IsScript}
-use Rattle.ek_call.specs.Meaning.{script_of}
-use Rattle.host_link.specs.Meaning.{exchanges_of}
-use Rattle.kernel_state.specs.Whole.{program_with}
-use Rattle.kernel_top.specs.Scripts.{IsNoScript}
-use Rattle.kernel_top.proofs.Replays.{rest_is}
-use Rattle.kernel_top.proofs.Checks.{few_in, short_claim, checked_bytes, unscripted}
+use Rattle.std.proofs.Common.{ap, Err}
 use Rattle.kernel_top.proofs.checking.check_bytes.Goals as goal
 
 pub returns-in-Err-Line : goal.returns-in-Err-Line
@@ -13,27 +6,3 @@ returns-in-Err-Line g c =
     let none = c.in-Err-Line.ensures.none c.in-Err-Line.line (ap Err c.in-Err-Line.field-0-is) in
     let at = c.in-Err-Line.ensures.line c.in-Err-Line.line (ap Err c.in-Err-Line.field-0-is) in
     rw c.in-Err-Line.line-is (record { none = none; at = at })
-
-pub returns-in-Err : goal.returns-in-Err
-returns-in-Err g c =
-    let found = c.in-Ok.found in
-    let none : IsNoScript c.in-Err.status (drop found.script c.args.bytes.now) = subst (IsNoScript c.in-Err.status) (rest_is c.args.bytes.now found.script) c.in-Err.ensures.none in
-    unscripted (λ script. program_with g.N.Natives.names g.N.Natives.does script c.args.natives.now) c.in-Err.status c.args.bytes.now (exchanges_of found.journal) found.from found.to found.script c.in-Ok.ensures.read none
-
-pub judge-requires-clause-few : goal.judge-requires-clause-few
-judge-requires-clause-few g c =
-    let found = c.in-Ok.found in
-    let few = few_in c.args.bytes.now (exchanges_of found.journal) found.from found.to found.script c.in-Ok.ensures.read c.requires in
-    omega (arith, few)
-
-pub judge-requires-clause-short : goal.judge-requires-clause-short
-judge-requires-clause-short g c =
-    let found = c.in-Ok.found in
-    let order = c.in-Ok.ensures.read.in_order in
-    short_claim c.args.bytes.now found.from found.to c.requires order.0 (omega (arith, order.1, order.2))
-
-pub returns : goal.returns
-returns g c =
-    let found = c.in-Ok.found in
-    checked_bytes (λ script. program_with g.N.Natives.names g.N.Natives.does script c.args.natives.now) (script_of c.in-Ok-script_in.script) c.judge.result c.args.bytes.now (exchanges_of found.journal) found.from found.to found.script c.in-Ok.ensures.read
-    (subst (λ l. IsScript l (script_of c.in-Ok-script_in.script)) (rest_is c.args.bytes.now found.script) c.in-Ok-script_in.ensures.script) c.judge.ensures
