@@ -4,6 +4,7 @@ ghost use Rattle.std.specs.Prelude.{◌≡◌, []};
 use super::acting::InTurn;
 use super::comparing::is_for;
 use super::shown::shown;
+use super::texts::given;
 use ek_types::{Copied, ListOf, MemorySink, MemorySource};
 use host_link::{Answer, Answers, Ended, Exchanges, Host, MemoryHost, Play};
 use kernel_top::{Status, run};
@@ -100,16 +101,6 @@ fn failing(rt: &impl Abort, alloc: Global, call: Option<u32>) -> Vec<u32> {
         fails.push(call).expect(rt, "memory");
     }
     fails
-}
-
-fn given(rt: &impl Abort, alloc: Global, words: &[&str]) -> Vec<String> {
-    let mut given = Vec::new(alloc);
-    for word in words {
-        given
-            .push(String::from_str(alloc, word).expect(rt, "memory"))
-            .expect(rt, "memory");
-    }
-    given
 }
 
 fn answer(rt: &impl Abort, alloc: Global, heard: &[u8]) -> Answer {

@@ -1,6 +1,7 @@
 //! Whole runs with the shipped handlers, over real children.
 
 use crate::comparing::{holds, is};
+use crate::texts::{given, push};
 use ek_types::{MemorySink, MemorySource};
 use host_link::Recorder;
 use kernel_top::Status;
@@ -15,16 +16,6 @@ use system_host::{Output, RealHost};
 struct Wrote {
     status: Status,
     bytes: Vec<u8>,
-}
-
-fn given(rt: &impl Abort, alloc: Global, words: &[&str]) -> Vec<String> {
-    let mut given = Vec::new(alloc);
-    for word in words {
-        given
-            .push(String::from_str(alloc, word).expect(rt, "memory"))
-            .expect(rt, "memory");
-    }
-    given
 }
 
 /// What some words with the shipped handlers write for some bytes, over real children.
@@ -231,10 +222,6 @@ text \"\"
 "
             .as_slice(),
     );
-}
-
-fn push(rt: &impl Abort, text: &mut String, more: &str) {
-    text.push_str(more).expect(rt, "memory");
 }
 
 /// How the child's output is cut is not known, so the text of the buffer alone is compared.
