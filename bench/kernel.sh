@@ -2,7 +2,8 @@
 # How long the whole program takes, and its peak of memory: on 70,000 short forms, on the longest script of insertions, and
 # with a child that writes 8 MiB. The child is heard once into the buffer, whose text ends at 4,194,304 characters, so
 # that what comes later is refused, and once with no buffer; and 4,194,303 bytes of it with no records of undo, which shows
-# what memory a text takes. Where `rustc` is installed, `plain_forms.rs` shows the least that forms and insertions take. Where emacs is installed, `emacs -Q --batch` does the same
+# what memory a text takes. Where `rustc` is installed, `plain_forms.rs` shows the least that forms and insertions take, and
+# `plain_output.rs` the least for a child's output. Where emacs is installed, `emacs -Q --batch` does the same
 # work beside it: it evaluates the same forms and prints the same answers, or takes the same output into a buffer. The
 # ratio is that of the processor's seconds, which other work on the machine changes little.
 #
@@ -62,17 +63,24 @@ cat > "$work/output.el" <<'LISP'
 LISP
 
 # measured SCRIPT COMMAND ..: how many seconds the command took, how many of them some processor's, and its peak of memory
-# in MiB. Python starts it and asks what its children took since then, so that nothing else counts: not what started Python.
+# in MiB. What its own children took doesn't count: it is asked before it is waited for.
 measured() {
-    python3 -c 'import resource, subprocess, sys, time
-start, before = time.time(), resource.getrusage(resource.RUSAGE_CHILDREN)
+    python3 -c 'import os, subprocess, sys, time
+start = time.time()
 with open(sys.argv[1]) as given:
-    ran = subprocess.run(sys.argv[2:], stdin=given, stdout=subprocess.DEVNULL, stderr=subprocess.DEVNULL)
-took = resource.getrusage(resource.RUSAGE_CHILDREN)
-if ran.returncode:
-    sys.exit(f"{sys.argv[2]}: status {ran.returncode}")
-processor = took.ru_utime + took.ru_stime - before.ru_utime - before.ru_stime
-print(f"{time.time() - start:.2f} {processor:.3f} {took.ru_maxrss // 1024}")' "$@"
+    ran = subprocess.Popen(sys.argv[2:], stdin=given, stdout=subprocess.DEVNULL, stderr=subprocess.DEVNULL)
+os.waitid(os.P_PID, ran.pid, os.WEXITED | os.WNOWAIT)
+with open(f"/proc/{ran.pid}/schedstat") as stat:
+    worked = int(stat.read().split()[0]) / 1e9
+_, status, usage = os.wait4(ran.pid, 0)
+if status:
+    sys.exit(f"{sys.argv[2]}: status {status}")
+print(f"{time.time() - start:.2f} {worked:.4f} {usage.ru_maxrss // 1024}")' "$@"
+}
+
+# plain NAME SCRIPT COMMAND ..: what a plain loop takes for the work of this name
+plain() {
+    printf '%-11s plain  %6s s, %6s s of a processor, %4s MiB\n' "$1" $(shift; measured "$@")
 }
 
 # compared NAME LISP [SCRIPT]: the program on the script of this name, and the Lisp, if any, beside it on that script or
@@ -94,9 +102,12 @@ compared child output.el child
 compared unkept output.el unkept
 compared text ""
 if command -v rustc > /dev/null; then
-    rustc -O --edition 2021 -o "$work/plain_forms" "$top/bench/plain_forms.rs"
-    for name in forms insertions; do
-        printf '%-11s plain  %6s s, %6s s of a processor, %4s MiB\n' "$name" $(measured "$work/$name" "$work/plain_forms")
+    for name in plain_forms plain_output; do
+        rustc -O --edition 2021 -o "$work/$name" "$top/bench/$name.rs"
     done
+    plain forms "$work/forms" "$work/plain_forms"
+    plain insertions "$work/insertions" "$work/plain_forms"
+    plain child /dev/null "$work/plain_output" kept "$output"
+    plain unkept /dev/null "$work/plain_output" unkept "$output"
 fi
 command -v emacs > /dev/null || echo "emacs is not installed here"

@@ -5,6 +5,7 @@ pieces of a drill from a real child. Of each, the processor's seconds of the pro
 work, its peak of memory, and how many times as long Emacs takes; of a few runs, the least.
 
 Emacs evaluates the same forms, its handlers byte-compiled, and prints a line for each answer at each depth, as the kernel does.
+Where `rustc` is installed, `plain_edits.rs` and `plain_output.rs` show the least that some of this takes.
 
     bench/whole.py [PROGRAM] [RUNS]     (what `rt run` leaves in crates/kernel_cli/out, and 3, if none is given)
 """
@@ -89,9 +90,14 @@ HEARD = """(defhandler f (process text)
 """
 
 
+def output(waits):
+    """A command that writes as many reads of 4,096 bytes, but for some waits more than they need."""
+    return f"yes aaaaaaa | head -c {waits * 16384 // 17000 * 4096}"
+
+
 def loud(waits):
-    """Output of as many reads of 4,096 bytes, but for some waits more than they need."""
-    start = f'(setq p (start-process "c" "*scratch*" "sh" "-c" "yes aaaaaaa | head -c {waits * 16384 // 17000 * 4096}"))\n'
+    """The output of this command, heard by a filter that inserts and marks."""
+    start = f'(setq p (start-process "c" "*scratch*" "sh" "-c" "{output(waits)}"))\n'
     return HEARD + start + "(set-process-filter p 'f)\n" + "(accept-process-output p)\n" * waits
 
 
@@ -148,6 +154,16 @@ def least(words, text, environment={}):
         return min(seconds(words, script.name, {**environment, "SCRIPT": script.name}) for _ in range(RUNS))
 
 
+def plain_loops(work):
+    """The plain loops, made, by the names of the works that they do."""
+    if not shutil.which("rustc"):
+        return {}
+    for name in "plain_edits", "plain_output":
+        subprocess.run(["rustc", "-O", "--edition", "2021", "-o", f"{work}/{name}", f"{HERE}/{name}.rs"], check=True)
+    edits = ["insertions at the end", "wandering", "at random places", "with 1,000 markers"]
+    return {**{name: [f"{work}/plain_edits"] for name in edits}, "64 MiB of a child": [f"{work}/plain_output", "loud", output(17000)]}
+
+
 def main():
     random.seed(1)
     work = tempfile.mkdtemp(prefix="noonwool_whole_")
@@ -168,6 +184,7 @@ def main():
             "64 MiB of a child": lambda part: loud(17000 // part),
             "a drill of a child": lambda part: drill(f"{work}/pieces.py", 18724 // part),
         }
+        plain = plain_loops(work)
         for name, script in works.items():
             half, _ = least([PROGRAM, "run"], script(2))
             whole = script(1)
@@ -176,6 +193,8 @@ def main():
             if shutil.which("emacs"):
                 theirs, memory = least(["emacs", "-Q", "--batch", "-l", f"{work}/script.el"], whole)
                 told += f"; emacs {theirs:6.2f} s, {memory:4} MiB; {theirs / max(ours, 0.001):.1f} times as long"
+            if name in plain:
+                told += f"; a plain loop {least(plain[name], whole)[0]:7.3f} s"
             print(told, flush=True)
     finally:
         shutil.rmtree(work)
