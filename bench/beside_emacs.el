@@ -24,22 +24,22 @@
 ;; - `erase-buffer' shows functions before the change the narrowing; a buffer put into itself keeps its properties;
 ;; - nil as a property's value, values compared by what they hold, `set-text-properties' that changes nothing;
 ;; - undo records: no point of an insertion, no end of an overlay, one record for insertions that follow one another,
-;;   and of a change of properties one for each stretch of one value, one property after the other; the old values that
-;;   `set-text-properties' may lose;
+;;   and of a change of properties one for each stretch of one value, one property after the other, also where undoing
+;;   makes these changes; the old values that `set-text-properties' may lose;
 ;; - hook functions are entered from a list of this file: one that ends by a fault empties it, and the change goes on;
 ;;   what was current is put back, and a change whose buffer is gone is refused; where functions before a change have
 ;;   changed its text or narrowed it away, the change is begun again at its ends as they have moved, which stay where
 ;;   text comes in at them;
 ;; - names of buffers and processes, which buffer is current behind `kill-buffer', recording in each new buffer;
 ;; - the whole order of waits: Emacs reads and decodes, and the pieces are handed over in the kernel's rounds;
+;; - where hook functions see point and put it at an insertion of output, and that the mark is set before those after it;
 ;; - the default filter and sentinel, what a sentinel is told, the shipped handlers, nesting, pipes for children, their
 ;;   standard error (dropped here), sending to an input that was closed.
 ;;
 ;; Not masked, so a difference may show: bytes of codes above 10FFFF, and bytes above 7F that finish no character, in
 ;; what a child writes; carriage returns in its output, and what came before its coding was set; a child that closes
-;; its output and lives on; how many objects, records and bytes there may be; where point is while hook functions run at
-;; an insertion of output; records of properties that undoing leaves; properties to which Emacs gives a meaning, as
-;; `category' and `modification-hooks'.
+;; its output and lives on; how many objects, records and bytes there may be; properties to which Emacs gives a meaning,
+;; as `category' and `modification-hooks'.
 ;; Numbers of exchanges aren't compared, and `exchanges-spent' never comes. A script that is none isn't told as such.
 
 (require 'cl-lib)
@@ -96,6 +96,8 @@
 (defvar beside-bounds nil "Two ends that hook functions see instead, and whether those behind the change see them too.")
 (defvar beside-begun nil "What notes the undo records before the change under way.")
 (defvar beside-changed nil "What puts right the undo records of the change under way, until that is done.")
+(defvar beside-still nil "What puts back the places that stay at the insertion before markers under way, until that is done.")
+(defvar beside-point nil "Where hook functions at an insertion of output see point, and put it: a marker.")
 (defvar-local beside-before nil)
 (defvar-local beside-after nil)
 (defvar-local beside-pending t "The undo records that are pending; t where there are none.")
@@ -330,7 +332,7 @@
     (overlay-properties overlay) (move-overlay overlay pos pos here) (delete-overlay overlay) (overlays-at pos)
     (overlays-in pos pos) (get-char-property acc prop) (next-overlay-change pos) (previous-overlay-change pos)
     (add-hook hook function) (remove-hook hook function) (undo-more number)
-    (start-process name home name &rest word) (get-process process) (process-name process) (process-status process)
+    (start-process name home program &rest word) (get-process process) (process-name process) (process-status process)
     (process-buffer process) (process-mark process) (process-live-p process) (process-exit-status process)
     (process-filter process) (process-sentinel process) (set-process-filter process filter)
     (set-process-sentinel process handler) (set-process-buffer process here) (process-send-string process string)
@@ -378,6 +380,7 @@
             ('home (or (null v) (bufferp v) (and (stringp v) (> (length v) 0))))
             ('string (stringp v))
             ('word (beside-is-word v))
+            ('program (and (beside-is-word v) (> (length v) 0)))
             ('name (and (stringp v) (> (length v) 0)))
             ('prop (beside-is-symbol v))
             ('value (beside-is-value v))
@@ -645,22 +648,29 @@ change run, if any do, and those of functions before it are no part of them."
         (beside-writable)
         (beside-tried text (lambda () (put-text-property 1 (point-max) 'beside-tried t)))))))
 
-(defun beside-insert (args function)
+(defun beside-insert (args function &optional mark)
+  "Insert ARGS at point as FUNCTION does, and put MARK behind the text."
   (let ((text (apply #'concat args)))
     (beside-room (length text))
-    (pcase function
-      ('insert-and-inherit (setq text (beside-inheriting text) function #'insert))
-      ('insert-before-markers-and-inherit (setq text (beside-inheriting text) function #'insert-before-markers)))
-    (beside-change 'text (point) (point) (lambda (from _to) (goto-char from) (funcall function text))))
+    (when (memq function '(insert-and-inherit insert-before-markers-and-inherit)) (setq text (beside-inheriting text)))
+    (beside-change 'text (point) (point)
+                   (lambda (from _to)
+                     (goto-char from)
+                     (if (memq function '(insert insert-and-inherit))
+                         (insert text)
+                       (beside-put-before text mark)))))
   nil)
 
-(defun beside-insert-before (args function)
-  "Insert before markers at point, where the points that blocks keep stay."
+(defun beside-put-before (text mark)
+  "Insert TEXT before markers at point, where the points that blocks keep stay, and put MARK behind it.
+Both are done before functions after the change run."
   (let* ((at (point))
-         (still (cl-remove-if-not (lambda (m) (and (eq (marker-buffer m) (current-buffer)) (= m at))) beside-kept)))
-    (beside-insert args function)
-    (dolist (m still) (set-marker m at))
-    nil))
+         (still (cl-remove-if-not (lambda (m) (and (eq (marker-buffer m) (current-buffer)) (= m at))) beside-kept))
+         (beside-still (lambda ()
+                         (dolist (m still) (set-marker m at))
+                         (when mark (set-marker mark (+ at (length text)) (current-buffer))))))
+    (insert-before-markers text)
+    (when beside-still (funcall beside-still))))
 
 (defun beside-insert-part (buffer from to)
   (let ((from (or from (with-current-buffer buffer (point-min))))
@@ -730,11 +740,22 @@ change run, if any do, and those of functions before it are no part of them."
         (beside-before-change (point-min) (point-max))
         (beside-undoable n))
       (setq size (- (point-max) (point-min)))
-      (let ((pending-undo-list beside-pending))
-        (beside-change nil 1 1 (lambda (_from _to) (undo-more n) (beside-strip)))
-        (setq beside-pending (if (consp pending-undo-list) pending-undo-list t)))
+      (let ((pending beside-pending))
+        (beside-change nil 1 1 (lambda (_from _to) (setq pending (beside-undo-groups n pending)) (beside-strip)))
+        (setq beside-pending (or pending t)))
       (unless quiet (beside-after-change (point-min) (point-max) size)))
     nil))
+
+(defun beside-undo-groups (n records)
+  "Undo N groups of RECORDS, whose own records are put right one by one; the records that are left."
+  (while (and records (> n 0))
+    (let* ((record (pop records)) (kind (car-safe record)) (part (list record)) (old buffer-undo-list))
+      (if (null record) (setq n (1- n))
+        (when (stringp kind)
+          (while (markerp (car-safe (car records))) (push (pop records) part)))
+        (primitive-undo 1 (nreverse part))
+        (beside-settle old (cond ((stringp kind) 'text) ((and (consp record) (null kind)) 'properties)) nil))))
+  records)
 
 (defun beside-undoable (n)
   "Refuse to undo N groups where none is pending, or one reaches outside."
@@ -848,11 +869,23 @@ change run, if any do, and those of functions before it are no part of them."
 
 ;; HOOKS
 (defun beside-in-bounds (bounds work)
+  "Do WORK, which enters hook functions, between BOUNDS if there are any; where they move these counts."
   (if bounds
-      (save-restriction
-        (narrow-to-region (car bounds) (cadr bounds))
-        (let ((beside-bounds nil)) (funcall work)))
-    (funcall work)))
+      (let ((buffer (current-buffer)))
+        (save-restriction
+          (narrow-to-region (car bounds) (cadr bounds))
+          (let ((beside-bounds nil)) (beside-at-point work))
+          (when (buffer-live-p buffer)
+            (set-marker (car bounds) (point-min))
+            (set-marker (cadr bounds) (point-max)))))
+    (beside-at-point work)))
+
+(defun beside-at-point (work)
+  "Do WORK, which enters hook functions, where they see point at an insertion of output."
+  (let ((place beside-point) (buffer (current-buffer)) (beside-point nil))
+    (when place (goto-char place))
+    (funcall work)
+    (when (and place (buffer-live-p buffer)) (set-marker place (point) buffer))))
 
 (defun beside-run-hooks (list kind args)
   "Enter the functions of a copy of LIST; one that ends by a fault empties it, and is the last."
@@ -880,6 +913,8 @@ change run, if any do, and those of functions before it are no part of them."
 (defun beside-after-change (from to length)
   (when beside-changed (funcall beside-changed))
   (setq beside-changed nil)
+  (when beside-still (funcall beside-still))
+  (setq beside-still nil)
   (when beside-after
     (beside-in-bounds (and (nth 2 beside-bounds) beside-bounds)
                       (lambda () (beside-run-hooks 'beside-after "after" (list from to length))))))
@@ -949,20 +984,21 @@ change run, if any do, and those of functions before it are no part of them."
          (was (copy-marker (point)))
          (bounds (unless (<= (point-min) at (point-max))
                    (list (copy-marker (point-min)) (copy-marker (point-max) t) t))))
-    (if bounds
-        (save-restriction
-          (widen)
-          (let ((beside-bounds bounds)) (beside-output-at mark at text)))
-      (beside-may-put-in-at at text)
-      (beside-output-at mark at text))
-    (when (eq (marker-buffer was) (current-buffer)) (goto-char was))
-    (set-marker was nil)))
+    (unwind-protect
+        (if bounds
+            (let ((beside-bounds bounds) (beside-kept (cons (car bounds) beside-kept)))
+              (widen)
+              (unwind-protect (beside-output-at mark at text was)
+                (when (eq (marker-buffer was) (current-buffer)) (narrow-to-region (car bounds) (cadr bounds)))))
+          (beside-may-put-in-at at text)
+          (beside-output-at mark at text was))
+      (when (eq (marker-buffer was) (current-buffer)) (goto-char was))
+      (set-marker was nil))))
 
-(defun beside-output-at (mark at text)
-  (let ((buffer (current-buffer)))
-    (goto-char at)
-    (beside-telling (lambda () (beside-insert-before (list text) #'insert-before-markers)))
-    (when (eq buffer (current-buffer)) (set-marker mark (point)))))
+(defun beside-output-at (mark at text was)
+  (goto-char at)
+  (let ((beside-point was))
+    (beside-telling (lambda () (beside-insert (list text) #'insert-before-markers mark)))))
 
 (defun beside-may-put-in-at (at text)
   (goto-char at)
@@ -1002,7 +1038,6 @@ change run, if any do, and those of functions before it are no part of them."
   (setf (beside-process-coding process) coding))
 
 (defun beside-start (name home program arguments)
-  (unless (beside-is-word program) (beside-refuse 2))
   (beside-short name)
   (when (stringp home) (beside-short home))
   (unless (executable-find program) (beside-refuse 12))
@@ -1114,7 +1149,7 @@ change run, if any do, and those of functions before it are no part of them."
       ((or 'insert 'insert-and-inherit) (beside-may-insert (length (apply #'concat args))) (beside-insert args word))
       ((or 'insert-before-markers 'insert-before-markers-and-inherit)
        (beside-may-insert (length (apply #'concat args)))
-       (beside-insert-before args word))
+       (beside-insert args word))
       ('insert-buffer-substring (beside-insert-part a b c))
       ('delete-region (beside-delete a b #'delete-region) nil)
       ('delete-and-extract-region (beside-delete a b #'delete-and-extract-region))

@@ -5,11 +5,12 @@
 
 Of COUNT random scripts (200), from the SEED (1) on, those that start no child are compared, and those that may start one
 with children that write once at most and end. Emacs does the forms by bench/beside_emacs.el, whose head says what is masked.
-Ends with status 1 where a script without functions before a change differs in more than records of properties.
+Ends with status 1 where a script differs.
 """
 import os
 import random
 import re
+import shutil
 import subprocess
 import sys
 import tempfile
@@ -22,7 +23,7 @@ from script_reader import ScriptFault, read_script
 from shrink import Shrinker
 
 BENCH = os.path.dirname(os.path.dirname(os.path.abspath(__file__)))
-EMACS = (os.environ.get("EMACS", "emacs"), "-Q", "--batch", "-l", os.path.join(BENCH, "beside_emacs.el"),
+EMACS = (shutil.which(os.environ.get("EMACS", "emacs")), "-Q", "--batch", "-l", os.path.join(BENCH, "beside_emacs.el"),
          "-f", "beside-emacs")
 SECONDS = 60
 MOST_SHOWN = 5
@@ -37,9 +38,6 @@ CHILDREN = {
     "exit 255": (b"", ("code", 255)),
     "kill -9 $$": (b"", ("signal",))}
 CHILD = re.compile(rb'"prog" "-x"')
-BEFORE = b"before-change-functions"
-VALUE = rb'(?:"(?:[^"\\]|\\.)*"|#\((?:[^()]|\([^()]*\))*\)|\([^()]*\)|[^ ()"]+)'
-RECORD = re.compile(rb"\(nil \S+ " + VALUE + rb" \d+ \. \d+\) ?")
 
 
 class ShellHost:
@@ -91,14 +89,16 @@ def second_machine(script):
 
 
 def emacs(script):
+    """The lines of Emacs, to which the shell is the only program that there is."""
     with tempfile.TemporaryDirectory() as folder:
         names = [os.path.join(folder, name) for name in ("script", "lines")]
+        os.symlink(shutil.which("sh"), os.path.join(folder, "sh"))
         with open(names[0], "wb") as file:
             file.write(script)
         try:
             # with its signals as here, Emacs isn't ended by that of a pipe that a child doesn't read
             done = subprocess.run([*EMACS, *names], capture_output=True, timeout=SECONDS, check=False,
-                                  restore_signals=False)
+                                  restore_signals=False, env={**os.environ, "PATH": folder})
         except subprocess.TimeoutExpired:
             return [b"(no end)"]
         if done.returncode:
@@ -107,26 +107,14 @@ def emacs(script):
             return file.read().split(b"\n")
 
 
-def without_records(lines):
-    """The lines without the records of properties in undo lists."""
-    return [RECORD.sub(b"", line).replace(b" )", b")") if b"= (" in line else line for line in lines]
-
-
 def compared(script):
-    """None where the bytes are no script, and else how the two part: `same`, `records`, `hooks` or `others`."""
+    """Whether the two give the same lines, or None where the bytes are no script."""
     ours = second_machine(script)
-    if ours is None:
-        return None
-    theirs = emacs(script)
-    if ours == theirs:
-        return "same"
-    if without_records(ours) == without_records(theirs):
-        return "records"
-    return "hooks" if BEFORE in script else "others"
+    return None if ours is None else ours == emacs(script)
 
 
 def show(seed, script):
-    script = Shrinker(lambda part: compared(part) == "others").shrink(script)
+    script = Shrinker(lambda part: compared(part) is False).shrink(script)
     ours, theirs = second_machine(script), emacs(script)
     length = min(len(ours), len(theirs))
     place = next((index for index in range(length) if ours[index] != theirs[index]), length)
@@ -141,17 +129,16 @@ def text(data):
 
 
 def main(count="200", seed="1"):
-    found = dict.fromkeys(("same", "records", "hooks", "others"), 0)
+    found = {True: 0, False: 0}
     for number in range(int(seed), int(seed) + int(count)):
         script = random_script(number)
-        kind = script and compared(script)
-        if kind:
-            found[kind] += 1
-        if kind == "others" and found["others"] <= MOST_SHOWN:
+        is_same = compared(script) if script else None
+        if is_same is not None:
+            found[is_same] += 1
+        if is_same is False and found[False] <= MOST_SHOWN:
             show(number, script)
-    print(f"{sum(found.values())} scripts: {found['same']} the same; {found['records']} differ in records of properties"
-          f" alone, {found['hooks']} others with functions before a change, {found['others']} others", flush=True)
-    return 1 if found["others"] else 0
+    print(f"{sum(found.values())} scripts: {found[True]} the same, {found[False]} differ", flush=True)
+    return 1 if found[False] else 0
 
 
 if __name__ == "__main__":

@@ -3,7 +3,7 @@
 use super::playing::Row;
 
 /// Runs, each with its lines and its exchanges.
-pub const ROWS: [Row; 12] = [
+pub const ROWS: [Row; 13] = [
     Row {
         shows: "a hook narrows before an undoing, which is tried once more",
         script: r#"(defhandler h (b e) (narrow-to-region 1 2))
@@ -35,6 +35,23 @@ text "abcd"
 = 2
 buffer *scratch* point 2 min 1 max 2 modified t current
 text "abcdx"
+"#,
+        exchanges: b"",
+    },
+    Row {
+        shows: "what a hook puts in at the end of the text stays behind erasing",
+        script: r#"(defhandler h (b e) (goto-char e) (insert "q"))
+(insert "abc")(add-hook 'before-change-functions 'h)(erase-buffer)"#,
+        children: &[],
+        lines: r#"= nil
+= (h)
+> before h 1 4
+  = 4
+  = nil
+< h
+= nil
+buffer *scratch* point 2 min 1 max 2 modified t current
+text "q"
 "#,
         exchanges: b"",
     },

@@ -90,6 +90,50 @@ process 0 #<process c> run 0
     );
 }
 
+/// The text is put in at the nearer bound, and point is put back by the mark's own number.
+#[test]
+fn the_shipped_filter_inserts_at_a_bound(rt: HostRuntime) {
+    let script = r#"(setq p (start-process "c" "out" "printf" "ab"))
+(set-process-filter p 'insert-filter)(setq m (process-mark p))
+(save-current-buffer (set-buffer "out")(insert "xyz")(goto-char 2)(narrow-to-region 3 4)(set-marker m 1))
+(accept-process-output p)"#;
+    let wrote = written(&rt, rt.alloc(), script);
+    comes_to(
+        &rt,
+        &wrote,
+        br#"= #<process c>
+= insert-filter
+= #<marker at 1 in out>
+= #<buffer out>
+= nil
+= 2
+= nil
+= #<marker at 1 in out>
+> filter insert-filter #<process c> "ab"
+  = #<buffer out>
+  = #<buffer out>
+  = 3
+  = #<marker at 1 in out>
+  = 1
+  = #<marker at 1 in out>
+  = nil
+  = 5
+  = #<marker at 5 in out>
+  = 7
+< insert-filter
+= t
+kill #<process c>
+buffer *scratch* point 1 min 1 max 1 modified nil current
+text ""
+buffer out point 6 min 3 max 6 modified t
+text "xyabz"
+marker 0 #<marker at 5 in out>
+process 0 #<process c> run 0
+"#
+            .as_slice(),
+    );
+}
+
 #[test]
 fn the_shipped_sentinel_notes_an_end(rt: HostRuntime) {
     let script = r#"(setq p (start-process "c" nil "true"))
