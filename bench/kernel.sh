@@ -3,7 +3,7 @@
 # with a child that writes 8 MiB. The child is heard once into the buffer, whose text ends at 4,194,304 characters, so
 # that what comes later is refused, and once with no buffer; and 4,194,303 bytes of it with no records of undo, which shows
 # what memory a text takes. Where `rustc` is installed, `plain_forms.rs` shows the least that forms and insertions take, and
-# `plain_output.rs` the least for a child's output. Where emacs is installed, `emacs -Q --batch` does the same
+# `plain_output.rs` what a plain loop takes for a child's output. Where emacs is installed, `emacs -Q --batch` does the same
 # work beside it: it evaluates the same forms and prints the same answers, or takes the same output into a buffer. The
 # ratio is that of the processor's seconds, which other work on the machine changes little.
 #

@@ -1,4 +1,4 @@
-//! The least that insertions by a hook function take: a plain loop that reads the scripts of `whole.py`, makes each form of the handler
+//! What insertions by a hook function take in a plain loop, which reads the scripts of `whole.py`, makes each form of the handler
 //! on characters with one gap, keeps markers in a `Vec` and a record of each insertion, and writes the lines that the kernel writes.
 //! It knows `(goto-char N)`, `(insert "TEXT")` and `(copy-marker N)` alone, and tests nothing.
 use std::io::{Read, Write};

@@ -1,5 +1,5 @@
-//! The least that a child's output takes: a plain loop that starts the same child, reads at most 4,096 bytes at a time, keeps them
-//! as a record of the run would, makes characters of them, and writes the lines that the kernel writes. With the word `kept` the
+//! What a child's output takes in a plain loop, which starts the same child, reads at most 4,096 bytes at a time, keeps
+//! them as a record of the run would, makes characters of them, and writes the lines that the kernel writes. With the word `kept` the
 //! characters stay in a `Vec` up to the limit of a text, with `unkept` they go, and with `loud` a filter's seven calls are told, too,
 //! which put the characters in and take them away again. It tests nothing, and has no properties, records of undo or handlers.
 use std::io::{Read, Write};

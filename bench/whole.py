@@ -5,7 +5,7 @@ pieces of a drill from a real child. Of each, the processor's seconds of the pro
 work, its peak of memory, and how many times as long Emacs takes; of a few runs, the least.
 
 Emacs evaluates the same forms, its handlers byte-compiled, and prints a line for each answer at each depth, as the kernel does.
-Where `rustc` is installed, `plain_edits.rs` and `plain_output.rs` show the least that some of this takes.
+Where `rustc` is installed, `plain_edits.rs` and `plain_output.rs` show what plain loops take for some of this.
 
     bench/whole.py [PROGRAM] [RUNS]     (what `rt run` leaves in crates/kernel_cli/out, and 3, if none is given)
 """
