@@ -8,7 +8,7 @@ use arrayvec::ArrayVec;
 use ek_types::{Sink, SinkFault, write_all};
 
 /// How many bytes are gathered on the way to the sink.
-const GATHERED: usize = 512;
+const GATHERED: usize = 128;
 
 /// Writes to a sink, and gathers what is short, so that a line takes few writes. After a failure it writes nothing more.
 /// What is gathered reaches the sink at `finish`.
