@@ -1,6 +1,6 @@
 //! Characters in a name, and between quotes.
-ghost use Rattle.std.specs.Prelude.{◌≡◌, ◌+◌, ◌<◌, ◌≤◌, List, length, map, take, drop, flat_map};
-ghost use Rattle.std.specs.Prelude.{slice_get, Some, true, ◌++◌};
+ghost use Rattle.std.specs.Prelude.{◌≡◌, ℕ, ◌+◌, ◌<◌, ◌≤◌, List, length, map, take, drop, flat_map};
+ghost use Rattle.std.specs.Prelude.{slice_get, slice_index, Some, true, ◌++◌, ◌∷◌, []};
 ghost use Rattle.text_model.specs.Characters.{Ch as Character, code};
 ghost use Rattle.plain_machine.specs.Lines.{shown_ch, shown_code, quoted};
 ghost use Rattle.ek_types.specs.Seen.{ch_of};
@@ -78,19 +78,33 @@ fn codes_from(chars: &Chars, i: usize) -> &[u32]
     chars.codes().split_at(i).1
 }
 
-/// Copies as many characters as are written at once to the front of `out`, and says whether all are shown as they are.
-fn copy_plain(codes: &[u32], out: &mut [u8; ROOM]) -> bool
+/// Whether as many characters as are written at once are shown as they are. Nothing is written meanwhile, so that a
+/// processor can look at several codes at once.
+fn are_plain(codes: &[u32]) -> bool
     requires { 16 ≤ length codes.now }
-    ensures { (chars : List Character) → codes.now ≡ map code chars → result ≡ true →
-        take 16 out.new ≡ flat_map shown_ch (take 16 chars) }
+    ensures shown { result ≡ true → (n : ℕ) → n < 16 →
+        slice_index codes.now n ∷ [] ≡ shown_code (slice_index codes.now n) }
+    ensures low { result ≡ true → (n : ℕ) → n < 16 → slice_index codes.now n ≤ 127 }
 {
     let mut all = true;
     for n in 0..AT_ONCE {
-        let code = codes[n];
-        all = all & is_plain(code);
-        out[n] = (code % 256) as u8;
+        all = all & is_plain(codes[n]);
     }
     all
+}
+
+/// Copies so many characters, which are shown as they are, to the front of `out`.
+fn copy_plain(codes: &[u32], out: &mut [u8; ROOM])
+    requires many { 16 ≤ length codes.now }
+    requires shown { (n : ℕ) → n < 16 →
+        slice_index codes.now n ∷ [] ≡ shown_code (slice_index codes.now n) }
+    requires low { (n : ℕ) → n < 16 → slice_index codes.now n ≤ 127 }
+    ensures { (chars : List Character) → codes.now ≡ map code chars →
+        take 16 out.new ≡ flat_map shown_ch (take 16 chars) }
+{
+    for n in 0..AT_ONCE {
+        out[n] = (codes[n] % 256) as u8;
+    }
 }
 
 /// Writes what stands for the character of a code to `out` from place `at` on, where it is one of ASCII that takes one
@@ -141,7 +155,8 @@ fn show_front(codes: &[u32], out: &mut [u8; ROOM]) -> (usize, usize)
     ensures fits { result.1 ≤ 32 }
     ensures range { result.0 ≤ length codes.now }
 {
-    if codes.len() >= AT_ONCE && copy_plain(codes, out) {
+    if codes.len() >= AT_ONCE && are_plain(codes) {
+        copy_plain(codes, out);
         return (AT_ONCE, AT_ONCE);
     }
     show_short(codes, out)
