@@ -13,8 +13,8 @@ pub mod NamesInTurn
 pub mod Stretches
 pub mod Reset
 pub mod SomeRecord
-pub mod Elsewhere
 pub mod Returning
 pub mod UndoLemmas
-pub mod Applying
+pub mod MarginLemmas
+pub mod KeptMargins
 pub mod Laws

@@ -83,7 +83,7 @@ value_given name (PropVal.Symbol s) h = refl
 value_given name (PropVal.Text t) h = refl
 
 -- IN TURN
-none_behind : {A : Type 0} (xs : List A) (i : ℕ) → slice_get xs i ≡ None → length xs ≤ i
+pub none_behind : {A : Type 0} (xs : List A) (i : ℕ) → slice_get xs i ≡ None → length xs ≤ i
 none_behind [] i h = omega arith
 none_behind (x ∷ xs) zero h = absurd (none-some x (sym h))
 none_behind (x ∷ xs) (suc i) h = let rest = none_behind xs i h in omega (arith, rest)
@@ -193,7 +193,7 @@ undone_stays id i es first s t h so_far step = λ only one before. go only one b
         let here : is_change e.what ≡ false = subst (λ (o : Option Entry). IfSome o (λ e. is_change e.what ≡ false)) k light in
         stays_then first s t (so_far only one (omega (arith, before))) (subst (StaysButForPoint s) (sym stepped) (stays_undone id e.what (moves_behind (drop (i + 1) es)) s here))
 
-on_err : {A E : Type 0} (r : Result A E) (P : Type 0) → P → OnErr r P
+pub on_err : {A E : Type 0} (r : Result A E) (P : Type 0) → P → OnErr r P
 on_err (Ok x) P h = tt
 on_err (Err x) P h = h
 

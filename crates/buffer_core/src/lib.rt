@@ -3,6 +3,7 @@
 #![tactic(auto)]
 
 mod buffer;
+mod margins;
 mod marks;
 mod moving_back;
 mod names;

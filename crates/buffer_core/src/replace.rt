@@ -70,6 +70,7 @@ impl Buffer {
             site_of pool.old self.old marks.old) }
         ensures marks { AreWithin id (length self.new.sets) marks.new }
         ensures blocks { ChangesBlocks self.old.text.blocks self.new.text.blocks pool.old pool.new }
+        ensures cells { length self.old.text.blocks ≤ length self.new.text.blocks }
     {
         let Some(n) = length_of(pieces) else {
             return Err(NoMemory);
@@ -151,6 +152,7 @@ impl Buffer {
             site_of pool.old self.old marks.old) }
         ensures marks { AreWithin id (length self.new.sets) marks.new }
         ensures blocks { ChangesBlocks self.old.text.blocks self.new.text.blocks pool.old pool.new }
+        ensures cells { length self.old.text.blocks ≤ length self.new.text.blocks }
     {
         let deletion = self.deletion(id, from, to, marks, pool)?;
         self.undo.reserve(deletion.before.len() + 2)?;

@@ -1,5 +1,6 @@
 //! Undoing.
-ghost use Rattle.std.specs.Prelude.{◌≡◌, ℕ, ◌+◌, ◌<◌, ◌≤◌, true, false, [], length, Ok, None, drop};
+ghost use Rattle.std.specs.Prelude.{◌≡◌, ℕ, ◌+◌, ◌-◌, ◌*◌, ◌<◌, ◌≤◌, true, false, length, Ok, None};
+ghost use Rattle.std.specs.Prelude.{◌++◌, take, drop};
 ghost use Rattle.std.specs.Prelude.{IfOk, OnOk, OnErr, slice_get, IfSome, All, option_map};
 ghost use Rattle.text_model.specs.Ordered.{IsValue};
 ghost use Rattle.machine_laws.specs.Boundaries.{KeepsBoundaries};
@@ -8,26 +9,28 @@ ghost use Rattle.text_model.specs.Undo.{lies_inside, passed, trial, Deleted};
 ghost use Rattle.text_model.specs.Commit.{undo_one, undo_each, undone_groups, moves_behind};
 ghost use Rattle.text_model.specs.Commit.{deleted, set_point, with_properties};
 ghost use Rattle.text_pool.specs.Pool.{Pooled};
-ghost use Rattle.gap_text.specs.Text.{LiesIn};
+ghost use Rattle.gap_text.specs.Text.{LiesIn, characters};
 ghost use Rattle.ek_types.specs.Property.{prop_of};
 ghost use Rattle.prop_intervals.specs.Edits.{edit_of};
 ghost use Rattle.undo_list.specs.Plans.{planned};
 ghost use Rattle.undo_list.specs.Records.{rec_of};
 ghost use Rattle.buffer_core.specs.Blocks.{ChangesBlocks};
-ghost use Rattle.buffer_core.specs.Meaning.{buffer_of, site_of, CanBeUndone};
+ghost use Rattle.buffer_core.specs.Margins.{AllBetween, SameMargins};
+ghost use Rattle.buffer_core.specs.Meaning.{buffer_of, site_of, letters, CanBeUndone};
 ghost use Rattle.buffer_core.specs.Standing.{AreWithin};
 ghost use Rattle.buffer_core.specs.Undoing.{value_back, is_change, ChangesOnlyAt, StaysButForPoint};
 ghost use Rattle.buffer_core.specs.Undoing.{with_pending};
 
 use crate::buffer::Buffer;
+use crate::margins::{Margins, untouched};
 use crate::marks::Marks;
 use crate::moving_back::{standing_moves, take_all_back};
-use ek_types::{Mem, Piece, PropSet, PropVal, Sym, SymList};
+use ek_types::{Chars, Mem, NoMemory, Piece, PropSet, PropVal, Sym, SymList};
 use machine_laws::undoing_keeps_boundaries;
 use narrow_region::Bounds;
-use prop_intervals::PropEdit;
+use prop_intervals::{PropEdit, Props};
 use std::alloc::Global;
-use std::{mem, slice};
+use std::slice;
 use text_pool::Pool;
 use undo_list::{Plan, Rec, Undo};
 
@@ -78,31 +81,19 @@ fn is_one_change(records: &Undo) -> bool
     next_change(records, only.saturating_add(1)) == records.len()
 }
 
-impl Buffer {
-    /// The same buffer again, over blocks of its own. A refusal leaves the pool but for spare room.
-    fn copy(&self, pool: &mut Pool) -> Mem<Buffer>
-        requires { LiesIn pool.old self.now.text }
-        ensures lies { IfOk result (λ copy. LiesIn pool.new copy.text) }
-        ensures buffer { IfOk result (λ copy. buffer_of pool.new copy ≡ buffer_of pool.old self.now) }
-        ensures sets { IfOk result (λ copy. copy.sets ≡ self.now.sets) }
-        ensures blocks { IfOk result (λ copy. ChangesBlocks [] copy.text.blocks pool.old pool.new) }
-        ensures source { LiesIn pool.new self.now.text }
-        ensures same { buffer_of pool.new self.now ≡ buffer_of pool.old self.now }
-        ensures refused { OnErr result (pool.new.slots ≡ pool.old.slots) }
-    {
-        let props = self.props.copy()?;
-        let undo = self.undo.copy()?;
-        let text = self.text.copy(pool)?;
-        Ok(Buffer {
-            text,
-            props,
-            bounds: self.bounds,
-            modified: self.modified,
-            undo,
-            alloc: self.alloc,
-        })
-    }
+/// What an undoing that is refused goes back to: all of a buffer, but for the margins of its text that the undoing
+/// leaves.
+#[derive(Drop)]
+struct Before {
+    margins: Margins,
+    text: Chars,
+    props: Props,
+    bounds: Bounds,
+    modified: bool,
+    undo: Undo,
+}
 
+impl Buffer {
     /// Point goes to a place of the accessible portion.
     fn set_point(&mut self, place: usize)
         requires low { self.old.begin ≤ place }
@@ -137,6 +128,7 @@ impl Buffer {
             (site_of pool.new self.new marks.new)) }
         ensures marks { AreWithin id (length self.new.sets) marks.new }
         ensures blocks { ChangesBlocks self.old.text.blocks self.new.text.blocks pool.old pool.new }
+        ensures cells { length self.old.text.blocks ≤ length self.new.text.blocks }
     {
         // Read for what it ensures: the accessible portion lies in the text.
         let _bounds = self.bounds();
@@ -169,6 +161,7 @@ impl Buffer {
             (site_of pool.new self.new marks.new)) }
         ensures marks { AreWithin id (length self.new.sets) marks.new }
         ensures blocks { ChangesBlocks self.old.text.blocks self.new.text.blocks pool.old pool.new }
+        ensures cells { length self.old.text.blocks ≤ length self.new.text.blocks }
     {
         let moves = standing_moves(self.alloc, records, i, &marks.markers, id, place)?;
         self.set_point(place);
@@ -224,6 +217,7 @@ impl Buffer {
             (λ e. is_change e.what ≡ true)) }
         ensures marks { AreWithin id (length self.new.sets) marks.new }
         ensures blocks { ChangesBlocks self.old.text.blocks self.new.text.blocks pool.old pool.new }
+        ensures cells { length self.old.text.blocks ≤ length self.new.text.blocks }
     {
         // Read for what it ensures: the records can be counted.
         let _count = records.len();
@@ -260,6 +254,12 @@ impl Buffer {
             (site_of pool.new self.new marks.new)) }
         ensures marks { AreWithin id (length self.new.sets) marks.new }
         ensures blocks { ChangesBlocks self.old.text.blocks self.new.text.blocks pool.old pool.new }
+        ensures cells { length self.old.text.blocks ≤ length self.new.text.blocks }
+        ensures margins { let text = letters (buffer_of pool.old self.old).text in
+            (front behind : ℕ) → front + behind ≤ length text →
+            AllBetween front behind (length text) records.now.state.entries →
+            OnErr result (SameMargins front behind text
+            (letters (buffer_of pool.new self.new).text)) }
     {
         for i in 0..records.len() {
             self.undo_one(id, records, i, marks, pool)?;
@@ -270,7 +270,8 @@ impl Buffer {
     /// Undoes the records of a plan that the undo records of this buffer give for its accessible portion: passes
     /// them, then undoes the newest first. A refusal leaves all as it was, but for spare room in the pool. Where at most
     /// one of the records is of a change of text or properties, as those of a command mostly are, only these records
-    /// are copied. Else it works on copies, and takes time in proportion to all records, the text and the marks.
+    /// are copied. Else all records and marks are, and of the text what lies between the places that the records take
+    /// characters out at or put them in.
     ///
     /// Undoing all that is newer than a boundary that still stands gives the same text as before.
     pub fn apply_plan(
@@ -329,7 +330,7 @@ impl Buffer {
         if is_one_change(&records) {
             self.undo_in_place(id, &records, plan, marks, pool)
         } else {
-            self.undo_on_copies(id, &records, plan, marks, pool)
+            self.undo_or_go_back(id, &records, plan, marks, pool)
         }
     }
 
@@ -389,8 +390,84 @@ impl Buffer {
         self.undo.make_pending(below);
     }
 
-    /// The same on copies, whatever the records are.
-    fn undo_on_copies(
+    /// What an undoing of some records goes back to where it is refused.
+    fn before(&self, records: &Undo, pool: &Pool) -> Mem<Before>
+        requires lies { LiesIn pool.now self.now.text }
+        requires inside { trial self.now.begin self.now.end records.now.state.entries ≡ None }
+        requires undoable { All (λ e. CanBeUndone e.what) records.now.state.entries }
+        ensures order { IfOk result (λ b.
+            b.margins.front + b.margins.behind ≤ length self.now.sets) }
+        ensures between { IfOk result (λ b. AllBetween b.margins.front b.margins.behind
+            (length self.now.sets) records.now.state.entries) }
+        ensures text { IfOk result (λ b. b.text.items ≡ drop b.margins.front
+            (take (length self.now.sets - b.margins.behind) (characters pool.now self.now.text))) }
+        ensures rest { IfOk result (λ b. self.now ≡ record {
+          text = self.now.text;
+          sets = b.props;
+          begin = b.bounds.start;
+          end = b.bounds.end;
+          point = b.bounds.point;
+          modified = b.modified;
+          undo = self.now.undo;
+        }) }
+        ensures undo { IfOk result (λ b. b.undo.state ≡ self.now.undo.state) }
+    {
+        // Read for what it ensures: the accessible portion lies in the text.
+        let _bounds = self.bounds();
+        let size = self.text.len();
+        let Some(margins) = untouched(records, size) else {
+            return Err(NoMemory);
+        };
+        let text = self
+            .text
+            .copy_out(pool, margins.front, size - margins.behind)?;
+        let props = self.props.copy()?;
+        let undo = self.undo.copy()?;
+        Ok(Before {
+            margins,
+            text,
+            props,
+            bounds: self.bounds,
+            modified: self.modified,
+            undo,
+        })
+    }
+
+    /// All is as it was before an undoing that left the margins of the text. It takes no memory.
+    fn go_back_to(&mut self, before: Before, pool: &mut Pool)
+        requires lies { LiesIn pool.old self.old.text }
+        requires order { before.margins.front + before.margins.behind ≤ length self.old.sets }
+        requires size { before.margins.front + (length before.text.items + before.margins.behind) ≡
+            length before.props }
+        requires cells { length before.props ≤ 256 * length self.old.text.blocks }
+        requires end { before.bounds.end ≤ length before.props }
+        requires undoable { All (λ e. CanBeUndone e.what) before.undo.state.entries }
+        ensures lies { LiesIn pool.new self.new.text }
+        ensures text { let text = characters pool.old self.old.text in
+            characters pool.new self.new.text ≡ take before.margins.front text ++
+            (before.text.items ++ drop (length text - before.margins.behind) text) }
+        ensures rest { self.new ≡ record {
+          text = self.new.text;
+          sets = before.props;
+          begin = before.bounds.start;
+          end = before.bounds.end;
+          point = before.bounds.point;
+          modified = before.modified;
+          undo = before.undo;
+        } }
+        ensures blocks { ChangesBlocks self.old.text.blocks self.new.text.blocks pool.old pool.new }
+    {
+        let end = self.text.len() - before.margins.behind;
+        self.text.delete(pool, before.margins.front, end);
+        self.text.insert(pool, before.margins.front, &before.text);
+        self.props = before.props;
+        self.bounds = before.bounds;
+        self.modified = before.modified;
+        self.undo = before.undo;
+    }
+
+    /// The same, whatever the records are: what they change is kept first, and goes back where the undoing is refused.
+    fn undo_or_go_back(
         &mut self,
         id: u32,
         records: &Undo,
@@ -412,40 +489,19 @@ impl Buffer {
         ensures blocks { ChangesBlocks self.old.text.blocks self.new.text.blocks pool.old pool.new }
     {
         let mut moved = marks.copy()?;
-        let copy = self.undone_copy(id, records, plan, &mut moved, pool)?;
-        let before = mem::replace(self, copy);
-        before.release(pool);
-        *marks = moved;
-        Ok(())
-    }
-
-    /// A copy that passes a plan, and in which its records are undone, together with the marks.
-    fn undone_copy(
-        &self,
-        id: u32,
-        records: &Undo,
-        plan: &Plan,
-        marks: &mut Marks,
-        pool: &mut Pool,
-    ) -> Mem<Buffer>
-        requires lies { LiesIn pool.old self.now.text }
-        requires inside { trial self.now.begin self.now.end records.now.state.entries ≡ None }
-        requires undoable { All (λ e. CanBeUndone e.what) records.now.state.entries }
-        requires marks { AreWithin id (length self.now.sets) marks.old }
-        ensures lies { IfOk result (λ copy. LiesIn pool.new copy.text) }
-        ensures ok { IfOk result (λ copy. site_of pool.new copy marks.new ≡
-            undo_each id records.now.state.entries
-            (with_pending plan.now.last (site_of pool.old self.now marks.old))) }
-        ensures marks { IfOk result (λ copy. AreWithin id (length copy.sets) marks.new) }
-        ensures blocks { IfOk result (λ copy. ChangesBlocks [] copy.text.blocks pool.old pool.new) }
-        ensures refused { OnErr result (ChangesBlocks [] [] pool.old pool.new) }
-    {
-        let mut copy = self.copy(pool)?;
-        copy.pass(plan);
-        match copy.undo_each(id, records, marks, pool) {
-            Ok(()) => Ok(copy),
+        let before = self.before(records, pool)?;
+        // Read for what it ensures: the accessible portion lies in the text.
+        let _bounds = self.bounds();
+        self.pass(plan);
+        match self.undo_each(id, records, &mut moved, pool) {
+            Ok(()) => {
+                *marks = moved;
+                Ok(())
+            }
             Err(refused) => {
-                copy.release(pool);
+                // Read for what it ensures: there is a property set for each character.
+                let _left = self.bounds();
+                self.go_back_to(before, pool);
                 Err(refused)
             }
         }

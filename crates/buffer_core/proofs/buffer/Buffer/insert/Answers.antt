@@ -12,7 +12,7 @@ use Rattle.buffer_core.specs.Standing.{AreWithin}
 use Rattle.buffer_core.proofs.Orders.{within_insert}
 use Rattle.buffer_core.proofs.Recorded.{Undoable, undoable-same, undoable-first, undoable-pushed}
 use Rattle.buffer_core.proofs.Sites.{inserted_site, first_pushed}
-use Rattle.buffer_core.proofs.Sizes.{text_size, sized, length-spliced, counted}
+use Rattle.buffer_core.proofs.Sizes.{text_size, sized, more_blocks, length-spliced, counted}
 use Rattle.buffer_core.proofs.StandingLemmas.{room_within, within_inserted}
 use Rattle.buffer_core.proofs.UndoLemmas.{holds_refused}
 use Rattle.buffer_core.proofs.buffer.Buffer.insert.Goals as goal
@@ -164,3 +164,24 @@ returns-in_err-reserve-2-clause-err c = holds_refused c.from_residual-in_err-res
 
 pub returns-in_err-splice-clause-err : goal.returns-in_err-splice-clause-err
 returns-in_err-splice-clause-err c = holds_refused c.from_residual-in_err-splice.result (rw (← c.self.view_is, c.in_ok-reserve.ensures.characters, c.in_ok-reserve-2.ensures.state, c.in_err-splice.ensures.err) refl)
+
+pub returns-in_err-reserve-2-clause-cells : goal.returns-in_err-reserve-2-clause-cells
+returns-in_err-reserve-2-clause-cells c =
+    let lies : LiesIn c.args.pool.now c.self.inside.text = subst (λ (b : Stored). LiesIn c.args.pool.now b.text) (sym c.self.view_is) c.requires.lies in
+    let more : length c.self.inside.text.blocks ≤ length c.reserve.new.self.blocks = more_blocks c.args.pool.now c.reserve.new.pool c.self.inside.text c.reserve.new.self lies c.in_ok-reserve.ensures.lies c.in_ok-reserve.ensures.characters c.in_ok-reserve.ensures.kept in
+    let here : length c.self.inside.text.blocks ≡ length c.args.self.now.text.blocks = ap (λ (b : Stored). length b.text.blocks) c.self.view_is in
+    omega (arith, more, here)
+
+pub returns-in_err-splice-clause-cells : goal.returns-in_err-splice-clause-cells
+returns-in_err-splice-clause-cells c =
+    let lies : LiesIn c.args.pool.now c.self.inside.text = subst (λ (b : Stored). LiesIn c.args.pool.now b.text) (sym c.self.view_is) c.requires.lies in
+    let more : length c.self.inside.text.blocks ≤ length c.reserve.new.self.blocks = more_blocks c.args.pool.now c.reserve.new.pool c.self.inside.text c.reserve.new.self lies c.in_ok-reserve.ensures.lies c.in_ok-reserve.ensures.characters c.in_ok-reserve.ensures.kept in
+    let here : length c.self.inside.text.blocks ≡ length c.args.self.now.text.blocks = ap (λ (b : Stored). length b.text.blocks) c.self.view_is in
+    omega (arith, more, here)
+
+pub returns-clause-cells : goal.returns-clause-cells
+returns-clause-cells c =
+    let lies : LiesIn c.args.pool.now c.self.inside.text = subst (λ (b : Stored). LiesIn c.args.pool.now b.text) (sym c.self.view_is) c.requires.lies in
+    let more : length c.self.inside.text.blocks ≤ length c.reserve.new.self.blocks = more_blocks c.args.pool.now c.reserve.new.pool c.self.inside.text c.reserve.new.self lies c.in_ok-reserve.ensures.lies c.in_ok-reserve.ensures.characters c.in_ok-reserve.ensures.kept in
+    let here : length c.self.inside.text.blocks ≡ length c.args.self.now.text.blocks = ap (λ (b : Stored). length b.text.blocks) c.self.view_is in
+    omega (arith, more, here, ap length c.put_characters.ensures.blocks)

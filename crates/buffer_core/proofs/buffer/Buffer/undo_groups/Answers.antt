@@ -44,8 +44,8 @@ returns-then-is_one_change-clause-ok c groups one is_plan =
     (ap (λ (es : List Entry). undo_each c.args.id es (with_pending below site)) records ∙ undone_plan c.args.id below c.args.pool.now old c.args.marks.now (passed groups c.self.inside.undo.state) (c.passed-first.ensures.pass groups start end one is_planned))
     undone)
 
-pub undo_on_copies-requires-clause-inside : goal.undo_on_copies-requires-clause-inside
-undo_on_copies-requires-clause-inside c =
+pub undo_or_go_back-requires-clause-inside : goal.undo_or_go_back-requires-clause-inside
+undo_or_go_back-requires-clause-inside c =
     let start = c.self.inside.bounds.start in
     let end = c.self.inside.bounds.end in
     let groups = c.requires.plan.0 in
@@ -55,8 +55,8 @@ undo_on_copies-requires-clause-inside c =
     ∙ ap (trial start end) (c.passed-first.ensures.records groups start end c.requires.plan.1 is_planned)
     ∙ c.passed-first.ensures.inside groups start end c.requires.plan.1 is_planned)
 
-pub undo_on_copies-requires-clause-undoable : goal.undo_on_copies-requires-clause-undoable
-undo_on_copies-requires-clause-undoable c =
+pub undo_or_go_back-requires-clause-undoable : goal.undo_or_go_back-requires-clause-undoable
+undo_or_go_back-requires-clause-undoable c =
     let all : Undoable c.self.inside.undo.state.entries = subst (λ (b : Stored). Undoable b.undo.state.entries) (sym c.self.view_is) c.requires.undoable in
     subst (λ (u : Undo). Undoable u.entries) (sym c.in_ok-records.ensures)
     (All-drop (λ (e : Entry). CanBeUndone e.what) c.passed-first.result.0 (take c.passed-first.result.1 c.self.inside.undo.state.entries) (All-take (λ (e : Entry). CanBeUndone e.what) c.passed-first.result.1 c.self.inside.undo.state.entries all))
@@ -70,10 +70,10 @@ returns-clause-ok c groups one is_plan =
     let old : Stored = record { text = c.self.inside.text; sets = c.self.inside.props; begin = start; end = end; point = c.self.inside.bounds.point; modified = c.self.inside.modified; undo = c.self.inside.undo } in
     let below = c.args.plan.now.last in
     let site = site_of c.args.pool.now old c.args.marks.now in
-    let new = site_of c.undo_on_copies.new.pool c.undo_on_copies.new.self c.undo_on_copies.new.marks in
-    let undone : OnOk c.undo_on_copies.result (new ≡ undo_each c.args.id c.in_ok-records.records.state.entries (with_pending below site)) =
-    subst (λ (b : Stored). OnOk c.undo_on_copies.result (new ≡ undo_each c.args.id c.in_ok-records.records.state.entries (with_pending below (site_of c.args.pool.now b c.args.marks.now)))) (sym c.self.view_is) c.undo_on_copies.ensures.ok in
-    subst (λ (b : Stored). OnOk c.undo_on_copies.result (new ≡ undone_groups c.args.id (passed groups b.undo.state) (site_of c.args.pool.now b c.args.marks.now))) c.self.view_is
-    (subst (λ (s : Site). OnOk c.undo_on_copies.result (new ≡ s))
+    let new = site_of c.undo_or_go_back.new.pool c.undo_or_go_back.new.self c.undo_or_go_back.new.marks in
+    let undone : OnOk c.undo_or_go_back.result (new ≡ undo_each c.args.id c.in_ok-records.records.state.entries (with_pending below site)) =
+    subst (λ (b : Stored). OnOk c.undo_or_go_back.result (new ≡ undo_each c.args.id c.in_ok-records.records.state.entries (with_pending below (site_of c.args.pool.now b c.args.marks.now)))) (sym c.self.view_is) c.undo_or_go_back.ensures.ok in
+    subst (λ (b : Stored). OnOk c.undo_or_go_back.result (new ≡ undone_groups c.args.id (passed groups b.undo.state) (site_of c.args.pool.now b c.args.marks.now))) c.self.view_is
+    (subst (λ (s : Site). OnOk c.undo_or_go_back.result (new ≡ s))
     (ap (λ (es : List Entry). undo_each c.args.id es (with_pending below site)) records ∙ undone_plan c.args.id below c.args.pool.now old c.args.marks.now (passed groups c.self.inside.undo.state) (c.passed-first.ensures.pass groups start end one is_planned))
     undone)

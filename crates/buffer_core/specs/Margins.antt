@@ -1,0 +1,45 @@
+-- What an undoing leaves of a text: the characters in front of, and behind, all that it takes out or puts in.
+use Rattle.std.specs.Prelude.{◌≡◌, ℕ, ◌+◌, ◌-◌, ◌≤◌, List, [], ◌∷◌, length, take, drop, min}
+use Rattle.text_model.specs.Characters.{Ch}
+use Rattle.text_model.specs.Undo.{Rec, Inserted, Deleted, Entry, max_after}
+
+-- how many stand in front and behind, as far as records have been looked at, and how many characters there are then
+pub record Left : Type 0 where
+  pub front : ℕ
+  pub behind : ℕ
+  pub size : ℕ
+
+abbrev pub left_by : Rec → Left → Left
+left_by (Inserted from to) l = record {
+  front = min l.front from;
+  behind = min l.behind (l.size - to);
+  size = l.size - (to - from);
+}
+left_by (Deleted piece place) l = record {
+  front = min l.front place;
+  behind = min l.behind (l.size - place);
+  size = l.size + length piece;
+}
+left_by _ l = l
+
+abbrev pub left_by_all : List Entry → Left → Left
+left_by_all [] l = l
+left_by_all (e ∷ entries) l = left_by_all entries (left_by e.what l)
+
+-- what a record takes out or puts in lies between these margins of a text of so many characters
+abbrev pub LiesBetween : (front behind size : ℕ) → Rec → Type 0
+LiesBetween front behind size (Inserted from to) = (front ≤ from) × (to + behind ≤ size)
+LiesBetween front behind size (Deleted piece place) = (front ≤ place) × (place + behind ≤ size)
+LiesBetween front behind size _ = Unit {0}
+
+-- the same of records that are undone one after the other
+abbrev pub AllBetween : (front behind size : ℕ) → List Entry → Type 0
+AllBetween front behind size [] = Unit {0}
+AllBetween front behind size (e ∷ entries) =
+    LiesBetween front behind size e.what × AllBetween front behind (max_after size e.what) entries
+
+-- so many first characters of two texts are the same, and so many last ones, of which the new one has enough
+pub record SameMargins (front behind : ℕ) (old new : List Ch) : Type 0 where
+  pub room : front + behind ≤ length new
+  pub first : take front new ≡ take front old
+  pub last : drop (length new - behind) new ≡ drop (length old - behind) old
