@@ -13,6 +13,7 @@ pub mod NamesInTurn
 pub mod Stretches
 pub mod Reset
 pub mod SomeRecord
+pub mod Elsewhere
 pub mod Returning
 pub mod UndoLemmas
 pub mod MarginLemmas
