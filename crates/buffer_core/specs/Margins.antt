@@ -1,30 +1,7 @@
 -- What an undoing leaves of a text: the characters in front of, and behind, all that it takes out or puts in.
-use Rattle.std.specs.Prelude.{◌≡◌, ℕ, ◌+◌, ◌-◌, ◌≤◌, List, [], ◌∷◌, length, take, drop, min}
+use Rattle.std.specs.Prelude.{◌≡◌, ℕ, ◌+◌, ◌-◌, ◌≤◌, List, [], ◌∷◌, length, take, drop}
 use Rattle.text_model.specs.Characters.{Ch}
 use Rattle.text_model.specs.Undo.{Rec, Inserted, Deleted, Entry, max_after}
-
--- how many stand in front and behind, as far as records have been looked at, and how many characters there are then
-pub record Left : Type 0 where
-  pub front : ℕ
-  pub behind : ℕ
-  pub size : ℕ
-
-abbrev pub left_by : Rec → Left → Left
-left_by (Inserted from to) l = record {
-  front = min l.front from;
-  behind = min l.behind (l.size - to);
-  size = l.size - (to - from);
-}
-left_by (Deleted piece place) l = record {
-  front = min l.front place;
-  behind = min l.behind (l.size - place);
-  size = l.size + length piece;
-}
-left_by _ l = l
-
-abbrev pub left_by_all : List Entry → Left → Left
-left_by_all [] l = l
-left_by_all (e ∷ entries) l = left_by_all entries (left_by e.what l)
 
 -- what a record takes out or puts in lies between these margins of a text of so many characters
 abbrev pub LiesBetween : (front behind size : ℕ) → Rec → Type 0

@@ -1,9 +1,8 @@
 //! What an undoing leaves of a text: the characters in front of, and behind, all that it takes out or puts in.
-ghost use Rattle.std.specs.Prelude.{◌≡◌, ℕ, ◌+◌, ◌≤◌, All, IfSome, None};
-ghost use Rattle.text_model.specs.Undo.{trial};
+ghost use Rattle.std.specs.Prelude.{◌≡◌, ℕ, ◌+◌, ◌≤◌, true, IfSome, None};
+ghost use Rattle.text_model.specs.Undo.{lies_inside, max_after, trial};
 ghost use Rattle.undo_list.specs.Records.{rec_of};
-ghost use Rattle.buffer_core.specs.Margins.{left_by, AllBetween};
-ghost use Rattle.buffer_core.specs.Meaning.{CanBeUndone};
+ghost use Rattle.buffer_core.specs.Margins.{AllBetween, LiesBetween};
 
 use undo_list::{Rec, Undo};
 
@@ -16,17 +15,15 @@ pub(crate) struct Margins {
     size: usize,
 }
 
-/// The margins that one more record leaves; none where the characters can't be counted then.
+/// The margins that one more record leaves, which lies in the text as it then is; none where the characters can't be
+/// counted then.
 fn left_by(left: Margins, rec: &Rec) -> Option<Margins>
-    ensures { IfSome result (λ m. record {
-      front = m.front;
-      behind = m.behind;
-      size = m.size;
-    } ≡ left_by (rec_of rec.now) (record {
-      front = left.front;
-      behind = left.behind;
-      size = left.size;
-    })) }
+    requires { lies_inside 0 left.size (rec_of rec.now) ≡ true }
+    ensures front { IfSome result (λ m. m.front ≤ left.front) }
+    ensures behind { IfSome result (λ m. m.behind ≤ left.behind) }
+    ensures between { IfSome result (λ m.
+        LiesBetween m.front m.behind left.size (rec_of rec.now)) }
+    ensures size { IfSome result (λ m. m.size ≡ max_after left.size (rec_of rec.now)) }
 {
     match rec {
         Rec::Inserted(from, to) => Some(Margins {
@@ -49,7 +46,6 @@ fn left_by(left: Margins, rec: &Rec) -> Option<Margins>
 /// The margins of a text of so many characters that the undoing of some records leaves; none where its characters can't
 /// be counted on the way.
 pub(crate) fn untouched(records: &Undo, size: usize) -> Option<Margins>
-    requires undoable { All (λ e. CanBeUndone e.what) records.now.state.entries }
     requires inside { (min : ℕ) × (max : ℕ) × (max ≤ size) ×
         (trial min max records.now.state.entries ≡ None) }
     ensures order { IfSome result (λ m. m.front + m.behind ≤ size) }

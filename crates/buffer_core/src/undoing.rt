@@ -270,8 +270,8 @@ impl Buffer {
     /// Undoes the records of a plan that the undo records of this buffer give for its accessible portion: passes
     /// them, then undoes the newest first. A refusal leaves all as it was, but for spare room in the pool. Where at most
     /// one of the records is of a change of text or properties, as those of a command mostly are, only these records
-    /// are copied. Else all records and marks are, and of the text what lies between the places that the records take
-    /// characters out at or put them in.
+    /// are copied. Else all records, marks and runs of properties are, and of the text what lies between the places that
+    /// the records take characters out at or put them in.
     ///
     /// Undoing all that is newer than a boundary that still stands gives the same text as before.
     pub fn apply_plan(

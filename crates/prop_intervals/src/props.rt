@@ -73,6 +73,7 @@ impl Props {
     pub fn run_end(&self, i: usize) -> usize
         requires { i < length self.now }
         ensures exact { result ≡ run_end i self.now }
+        ensures behind { i < result }
         ensures equal { (j : ℕ) → i ≤ j → j < result → slice_get self.now j ≡ slice_get self.now i }
         ensures other { slice_get self.now result ≢ slice_get self.now i }
     {

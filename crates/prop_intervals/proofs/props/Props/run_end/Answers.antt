@@ -9,6 +9,9 @@ find-requires c = omega (arith, length-sets_of c.self.inside.tree, ap length c.s
 pub returns-clause-exact : goal.returns-clause-exact
 returns-clause-exact c = subst (λ s. c.find.result.end ≡ run_end c.args.i s) c.self.view_is (run_end_found c.self.inside.tree c.args.i _ _ _ c.self.invariant c.find.ensures.exact)
 
+pub returns-clause-behind : goal.returns-clause-behind
+returns-clause-behind c = c.find.ensures.exact.ends
+
 pub returns-clause-equal : goal.returns-clause-equal
 returns-clause-equal c = λ j l m. rw (← c.self.view_is) (in_run c.self.inside.tree c.args.i j _ _ _ c.find.ensures.exact l m)
 
