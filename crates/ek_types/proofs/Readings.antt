@@ -4,6 +4,9 @@ use Rattle.std.proofs.lemmas.Bool.Decides.{nat_tests}
 use Rattle.std.proofs.lemmas.Option.{slice_get-get_or}
 use Rattle.std.proofs.lemmas.List.Elements.{filter_map-append}
 use Rattle.text_model.proofs.Lists.{take_one_more}
+use lib.Pointwise.{pointwise}
+use Rattle.std.specs.Prelude.{◌==◌}
+use Rattle.text_model.specs.Properties.{same_list, same_ch}
 use Rattle.std.specs.Char.{IsScalar}
 use Rattle.text_model.specs.Characters.{Ch, Scalar, Raw, IsCharacter, code, from_code, is_scalar_code, is_raw_code}
 use Rattle.ek_types.specs.Seen.{AreCharacters, AreCodes}
@@ -164,3 +167,16 @@ pub read_more : (xs : List ℕ) (i : ℕ) (c : Ch) → i < length xs → from_co
 read_more xs i c l e =
     let one : filter_map from_code (get_or xs i 0 ∷ []) ≡ c ∷ [] = rw e refl in
     rw (take_one_more xs i (get_or xs i 0) (slice_get-get_or xs i 0 l), filter_map-append from_code (take i xs) (get_or xs i 0 ∷ []), one) refl
+
+-- texts are the same just where their codes are
+same_code : (a b : Ch) → IsCharacter a → IsCharacter b → same_ch a b ≡ (code a == code b)
+same_code (Scalar a) (Scalar b) h k = refl
+same_code (Raw a) (Raw b) h k = grind (arith, nat_tests)
+same_code (Scalar a) (Raw b) h k = grind (arith, nat_tests)
+same_code (Raw a) (Scalar b) h k = grind (arith, nat_tests)
+
+pub same_codes : (xs ys : List Ch) → AreCharacters xs → AreCharacters ys → pointwise (λ a b. a == b) (map code xs) (map code ys) ≡ same_list same_ch xs ys
+same_codes [] [] h k = refl
+same_codes [] (y ∷ ys) h k = refl
+same_codes (x ∷ xs) [] h k = refl
+same_codes (x ∷ xs) (y ∷ ys) h k = rw (same_code x y h.0 k.0, same_codes xs ys h.1 k.1) refl

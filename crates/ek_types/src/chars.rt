@@ -63,6 +63,7 @@ impl Chars {
         ensures room { OnOk result (self.old.spare ≤ self.new.spare + 1) }
         ensures err { OnErr result (self.new.items ≡ self.old.items) }
         ensures kept { OnErr result (self.old.spare ≤ self.new.spare) }
+        ensures had { 0 < self.old.spare → IsOk result }
     {
         self.codes.push(c.code())?;
         Ok(())

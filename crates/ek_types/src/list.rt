@@ -36,6 +36,13 @@ impl<T> ListOf<T> {
         }
     }
 
+    /// The list of the items of a vector, the room of which it keeps.
+    pub fn of(items: Vec<T>) -> ListOf<T>
+        ensures { items_of result ≡ items.items }
+    {
+        ListOf { items }
+    }
+
     /// The empty list with a spare of at least `n`, for items whose number is known before.
     pub fn with_room(alloc: Global, n: usize) -> Mem<ListOf<T>>
         ensures items { IfOk result (λ list. items_of list ≡ []) }
@@ -117,6 +124,7 @@ impl<T: Drop> ListOf<T> {
         ensures room { OnOk result (spare_of self.old ≤ spare_of self.new + 1) }
         ensures err { OnErr result (items_of self.new ≡ items_of self.old) }
         ensures kept { OnErr result (spare_of self.old ≤ spare_of self.new) }
+        ensures had { 0 < spare_of self.old → IsOk result }
     {
         if self.items.len() == self.items.capacity() {
             self.items.reserve_exact(self.items.len().max(1))?;

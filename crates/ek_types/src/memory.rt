@@ -2,7 +2,7 @@
 
 use std::alloc::{AllocError, AllocFailed};
 
-/// Memory was wanting. A call that answers it has changed nothing but, perhaps, spare room.
+/// Memory was wanting. Each call says what it leaves then, mostly all as it was but for spare room.
 #[derive(Clone, Copy, Debug, PartialEq, Eq)]
 pub struct NoMemory;
 

@@ -29,15 +29,7 @@ impl Chars {
     pub fn same(&self, other: &Chars) -> bool
         ensures { result ≡ same_list same_ch self.now.items other.now.items }
     {
-        if self.len() != other.len() {
-            return false;
-        }
-        for i in 0..self.len() {
-            if !self.at(i).same(other.at(i)) {
-                return false;
-            }
-        }
-        true
+        self.codes() == other.codes()
     }
 }
 

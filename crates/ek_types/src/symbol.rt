@@ -36,6 +36,43 @@ const FIRST_NAMES: [&str; 17] = [
 #[derive(Clone, Copy, Debug, PartialEq, Eq)]
 pub struct Sym(pub u32);
 
+/// The symbols that have the same number in every script: the places of their names in `FIRST_NAMES`.
+impl Sym {
+    pub const FRONT_STICKY: Sym = Sym(0);
+
+    pub const REAR_NONSTICKY: Sym = Sym(1);
+
+    pub const EVAPORATE: Sym = Sym(2);
+
+    pub const PRIORITY: Sym = Sym(3);
+
+    pub const BEFORE_CHANGE_FUNCTIONS: Sym = Sym(4);
+
+    pub const AFTER_CHANGE_FUNCTIONS: Sym = Sym(5);
+
+    pub const RUN: Sym = Sym(6);
+
+    pub const EXIT: Sym = Sym(7);
+
+    pub const SIGNAL: Sym = Sym(8);
+
+    pub const FAILED: Sym = Sym(9);
+
+    pub const READ_ONLY: Sym = Sym(10);
+
+    pub const INVISIBLE: Sym = Sym(11);
+
+    pub const BEFORE_STRING: Sym = Sym(12);
+
+    pub const AFTER_STRING: Sym = Sym(13);
+
+    pub const UTF_8_UNIX: Sym = Sym(14);
+
+    pub const UTF_8_DOS: Sym = Sym(15);
+
+    pub const LATIN_1_UNIX: Sym = Sym(16);
+}
+
 /// Names, each with its number, which are counted from 0 in the order of first use and never change.
 #[derive(Drop)]
 pub struct Symbols {

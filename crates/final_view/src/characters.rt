@@ -4,9 +4,9 @@ ghost use Rattle.text_model.specs.Properties.{part};
 ghost use Rattle.final_view.specs.Showing.{Shows};
 ghost use Rattle.final_view.specs.Visible.{run_of, visible};
 
-use crate::strings::{INVISIBLE, character};
+use crate::strings::character;
 use buffer_table::BufferText;
-use ek_types::Sink;
+use ek_types::{Sink, Sym};
 use sink_printer::Printer;
 
 /// Writes a part of a text.
@@ -26,7 +26,7 @@ fn run<K: Sink>(out: &mut Printer<'_, K>, text: &BufferText<'_>, from: usize, to
     requires within { to ≤ length text.now.buffer.text }
     ensures { Shows K.state out.old out.new (run_of from to text.now.buffer.text) }
 {
-    if text.props(from).get(INVISIBLE).is_none() {
+    if text.props(from).get(Sym::INVISIBLE).is_none() {
         all(out, text, from, to);
     }
 }

@@ -13,8 +13,6 @@ use overlay_set::Overlays;
 use std::alloc::Global;
 use std::cmp::Ordering;
 
-const PRIORITY: Sym = Sym(3);
-
 /// An overlay of a buffer: its number, its two places, and its priority.
 #[derive(Clone, Copy)]
 pub(crate) struct Mark {
@@ -28,7 +26,7 @@ pub(crate) struct Mark {
 fn rank_of(props: &PropSet) -> i64
     ensures { result ≡ as_priority (get props.now priority) }
 {
-    match props.get(PRIORITY) {
+    match props.get(Sym::PRIORITY) {
         Some(PropVal::Int(rank)) => *rank,
         _ => 0,
     }

@@ -15,12 +15,6 @@ use ek_types::{Ch, Chars, PropVal, Sink, Sym};
 use overlay_set::Overlays;
 use sink_printer::Printer;
 
-pub(crate) const INVISIBLE: Sym = Sym(11);
-
-const BEFORE_STRING: Sym = Sym(12);
-
-const AFTER_STRING: Sym = Sym(13);
-
 /// Writes a character.
 pub(crate) fn character<K: Sink>(out: &mut Printer<'_, K>, c: Ch)
     ensures { Prints K.state out.old out.new (encoded (ch_of c)) }
@@ -61,7 +55,7 @@ fn close_one<K: Sink>(
         (flat_map (closed_of overlays.now) (filter (ends_here first at) (mark.now ∷ []))) }
 {
     if mark.end == at && mark.start < mark.end && first < at {
-        string(out, overlays.get(mark.number, AFTER_STRING));
+        string(out, overlays.get(mark.number, Sym::AFTER_STRING));
     }
 }
 
@@ -70,9 +64,9 @@ fn open_all<K: Sink>(out: &mut Printer<'_, K>, overlays: &Overlays, mark: &Mark)
     requires { IsMade overlays.now mark.now }
     ensures { Shows K.state out.old out.new (opened_of overlays.now mark.now) }
 {
-    string(out, overlays.get(mark.number, BEFORE_STRING));
+    string(out, overlays.get(mark.number, Sym::BEFORE_STRING));
     if mark.start == mark.end {
-        string(out, overlays.get(mark.number, AFTER_STRING));
+        string(out, overlays.get(mark.number, Sym::AFTER_STRING));
     }
 }
 
@@ -98,7 +92,7 @@ fn hidden_by(overlays: &Overlays, mark: &Mark, until: usize) -> usize
     requires { IsMade overlays.now mark.now }
     ensures { result ≡ hidden_until overlays.now until mark.now }
 {
-    if overlays.get(mark.number, INVISIBLE).is_some() {
+    if overlays.get(mark.number, Sym::INVISIBLE).is_some() {
         until.max(mark.end)
     } else {
         until

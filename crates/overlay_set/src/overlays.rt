@@ -203,15 +203,10 @@ impl Overlays {
         ensures { IfOk result (λ numbers. items_of numbers ≡
             numbers_of (overlays_where buffer (test_of question) self.now)) }
     {
-        let alloc = *self.slots.allocator();
-        let mut numbers = Vec::new(alloc);
+        let mut numbers = Vec::new(*self.slots.allocator());
         self.tree.found(buffer, question, &mut numbers)?;
         numbers.sort_unstable();
-        let mut rising = Numbers::new(alloc);
-        for &number in &numbers {
-            rising.push(number)?;
-        }
-        Ok(rising)
+        Ok(Numbers::of(numbers))
     }
 
     /// Of the overlays that cover place `i` of a buffer and have a property, the one that wins: by priority (0 where

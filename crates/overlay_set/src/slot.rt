@@ -12,12 +12,6 @@ ghost use Rattle.overlay_set.specs.Slots.{bare_of, with_span, moved_by, test_of,
 
 use ek_types::{Mem, PropSet, PropVal, Sym, place_after_delete, place_after_insert};
 
-/// The symbol `evaporate`.
-const EVAPORATE: Sym = Sym(2);
-
-/// The symbol `priority`.
-const PRIORITY: Sym = Sym(3);
-
 /// A buffer with two places in it.
 pub type Stretch = (u32, usize, usize);
 
@@ -113,7 +107,7 @@ impl Slot {
     fn rank(&self) -> i64
         ensures { result ≡ rank (bare_of self.now) }
     {
-        match self.props.get(PRIORITY) {
+        match self.props.get(Sym::PRIORITY) {
             Some(PropVal::Int(i)) => *i,
             _ => 0,
         }
@@ -136,7 +130,7 @@ impl Slot {
     fn evaporates(&self) -> bool
         ensures { result ≡ is_some (get self.now.props evaporate) }
     {
-        self.props.get(EVAPORATE).is_some()
+        self.props.get(Sym::EVAPORATE).is_some()
     }
 
     /// Where a stretch of the overlay goes at an insertion into its buffer.

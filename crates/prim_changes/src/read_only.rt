@@ -15,8 +15,6 @@ use prim_arguments::kinds::must;
 use prim_questions::properties::{first_place, set_at};
 use stickiness::inherits;
 
-const READ_ONLY: Sym = Sym(10);
-
 /// A change that is tested: neither its buffer nor its text is read-only.
 fn must_be_writable(buffer: bool, text: bool) -> Result<(), Fault>
     ensures { fault_in result ≡ calls.must_be_writable true buffer text }
@@ -41,7 +39,7 @@ fn takes_no_text(editor: &Editor, id: u32, at: usize) -> bool
     } else {
         set_at(editor, id, at - 1)
     };
-    inherits(before, set_at(editor, id, at), READ_ONLY)
+    inherits(before, set_at(editor, id, at), Sym::READ_ONLY)
 }
 
 /// So many characters may be put in at a place of a buffer, which may count as read-only or not.
@@ -87,7 +85,7 @@ fn has_read_only(editor: &Editor, from: usize, to: usize) -> bool
     requires range { to ≤ length (here (editor_of editor.now)).text }
     ensures { result ≡ calls.has_read_only (part from to (here (editor_of editor.now)).text) }
 {
-    first_place(editor, from, to, READ_ONLY, None, false).is_some()
+    first_place(editor, from, to, Sym::READ_ONLY, None, false).is_some()
 }
 
 /// A part of the current buffer may be changed, by whether something would change.

@@ -25,9 +25,6 @@ use prim_arguments::property_values::{must_be_property_value, property_value};
 use prim_arguments::values::{at_place, of_prop, of_set};
 use prim_arguments::{Failure, objects};
 
-/// The symbol `evaporate`.
-const EVAPORATE: Sym = Sym(2);
-
 /// How many overlays were made.
 pub(crate) fn overlay_count(editor: &Editor) -> u32
     ensures { result ≡ length (editor_of editor.now).marks.overlays }
@@ -184,7 +181,7 @@ fn vanishes(editor: &Editor, k: u32) -> bool
     ensures { result ≡ vanishes (overlay_of (editor_of editor.now) k) }
 {
     match span(editor, k) {
-        Some((_, start, end)) => start == end && overlay_value(editor, k, EVAPORATE).is_some(),
+        Some((_, start, end)) => start == end && overlay_value(editor, k, Sym::EVAPORATE).is_some(),
         None => false,
     }
 }

@@ -7,10 +7,6 @@ ghost use Rattle.stickiness.specs.Offers.{offers};
 
 use ek_types::{PropSet, PropVal, Sym};
 
-const FRONT_STICKY: Sym = Sym(0);
-
-const REAR_NONSTICKY: Sym = Sym(1);
-
 /// Where a neighbour stands: before or after the insertion.
 #[derive(Clone, Copy)]
 pub enum Side {
@@ -41,7 +37,7 @@ fn names(value: Option<&PropVal>, name: Sym) -> bool
 fn is_stickiness(name: Sym) -> bool
     ensures { result ≡ is_stickiness name.0 }
 {
-    name.0 == FRONT_STICKY.0 || name.0 == REAR_NONSTICKY.0
+    name.0 == Sym::FRONT_STICKY.0 || name.0 == Sym::REAR_NONSTICKY.0
 }
 
 impl Side {
@@ -53,8 +49,8 @@ impl Side {
             return false;
         }
         match self {
-            Side::Before => !names(set.get(REAR_NONSTICKY), name),
-            Side::After => names(set.get(FRONT_STICKY), name),
+            Side::Before => !names(set.get(Sym::REAR_NONSTICKY), name),
+            Side::After => names(set.get(Sym::FRONT_STICKY), name),
         }
     }
 }

@@ -1,5 +1,4 @@
-use Rattle.std.proofs.Common.{◌≡◌, ◌++◌, ◌≤◌, length, filter, ap, ◌∙◌, arith}
-use Rattle.std.proofs.lemmas.List.{take_all}
+use Rattle.std.proofs.Common.{◌≡◌, ◌++◌, filter, ap, ◌∙◌}
 use Rattle.std.proofs.lemmas.List.Sorted.{IsNonDecreasingBy-from_sort}
 use Rattle.overlay_set.specs.Entries.{numbers_in, passes}
 use Rattle.overlay_set.proofs.SeenLemmas.{held-view}
@@ -9,9 +8,6 @@ use Rattle.overlay_set.proofs.overlays.Overlays.found.Goals as goal
 pub returns : goal.returns
 returns c =
     let sorted = c.sort_unstable.new.self.items in
-    let items = c.deref-number-items.result.now in
     let rest = numbers_in (filter (passes c.args.buffer c.args.question) c.self.inside.tree) in
     let all : c.found.new.numbers.items ≡ rest = c.in_ok-found.ensures ∙ ap (λ xs. xs ++ rest) c.new-numbers.ensures.items in
-    let long : length items ≤ c.loop-number.number-index = omega (arith, c.loop-number-test.false) in
-    c.loop-number.invariant ∙ take_all c.loop-number.number-index items long ∙ c.deref-number-items.ensures.value
-    ∙ whole_found c.args.buffer c.args.question c.args.self.now c.self.inside.tree c.found.new.numbers.items sorted (held-view c.self.inside.tree c.self.inside.slots.items c.args.self.now c.self.view_is c.self.invariant.1) all c.sort_unstable.ensures.permutation (IsNonDecreasingBy-from_sort (λ x. x) sorted c.sort_unstable.ensures.sorted)
+    c.of.ensures ∙ whole_found c.args.buffer c.args.question c.args.self.now c.self.inside.tree c.found.new.numbers.items sorted (held-view c.self.inside.tree c.self.inside.slots.items c.args.self.now c.self.view_is c.self.invariant.1) all c.sort_unstable.ensures.permutation (IsNonDecreasingBy-from_sort (λ x. x) sorted c.sort_unstable.ensures.sorted)
