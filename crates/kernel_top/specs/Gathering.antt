@@ -50,7 +50,7 @@ pub record IsGathered (bytes written : List ℕ) (before now : SinkState) : Type
   pub is : written ≡ bytes
   pub roomy : length written ≤ before.room → now.faults ≡ before.faults
 
--- a front of the text was written, as the sink had no room for the whole
+-- a front of the text was written, and the sink had not promised room for the whole
 pub record IsGatheredFront (bytes written : List ℕ) (before : SinkState) : Type 0 where
   pub front : IsPrefixOf written bytes
   pub room : before.room < length bytes

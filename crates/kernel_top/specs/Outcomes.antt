@@ -154,7 +154,7 @@ WritesSummary program count written exchanges before now =
     SumsUp program count exchanges written ×
     (length written ≤ before.sink.room → now.sink.faults ≡ before.sink.faults)
 
--- a front of the summary was written, as the sink had no room for the whole
+-- a front of the summary was written, and the sink had not promised room for the whole
 pub record CutsSummary (program : Program) (count : ℕ) (written : List ℕ) (exchanges : List Exchange)
     (before : Seen) : Type 0 where
   pub line : List ℕ

@@ -24,7 +24,7 @@ pub record IsWritten (bytes written : List ℕ) (before now : SinkState) : Type 
   pub short : length bytes ≤ longest_session
   pub roomy : length written ≤ before.room → now.faults ≡ before.faults
 
--- a front of the session was written, as the sink had no room for the whole
+-- a front of the session was written, and the sink had not promised room for the whole
 pub record IsCut (bytes written : List ℕ) (before : SinkState) : Type 0 where
   pub front : IsPrefixOf written bytes
   pub short : length bytes ≤ longest_session

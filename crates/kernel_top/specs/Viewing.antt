@@ -29,7 +29,7 @@ pub record ShowsView (program : Program) (script : Script) (written : List ℕ)
   pub is : written ≡ view_of ran.last.state.editor
   pub roomy : length written ≤ before.room → now.faults ≡ before.faults
 
--- the same, but a front of the view was written, as the sink had no room for the whole
+-- the same, but a front of the view was written, and the sink had not promised room for the whole
 pub record CutsView (program : Program) (script : Script) (written : List ℕ) (exchanges : List Exchange)
     (before : SinkState) : Type 0 where
   pub lines : List ℕ

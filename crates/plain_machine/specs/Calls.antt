@@ -102,7 +102,7 @@ started s name b child =
 abbrev pub is_new_child : State → ℕ → Bool
 is_new_child s child = not (list_any (λ x. x.child == child) s.processes)
 
--- the first answer of a host for a child that it started before is none
+-- an answer that names a child which a process has already is no answer to a start
 abbrev pub spawned_child : (is_new : Bool) → State → Target → List Item → (name b : Value) →
     (child : ℕ) → Option Next
 spawned_child false s target rest name b child = None
