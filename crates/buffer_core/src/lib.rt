@@ -11,10 +11,8 @@ mod pieces;
 mod recording;
 mod replace;
 mod reprop;
-mod same;
 mod undoing;
 
 pub use buffer::Buffer;
 pub use marks::Marks;
 pub use pieces::are_empty;
-pub use same::same_text;

@@ -100,11 +100,7 @@ impl Buffer {
         requires high { place ≤ self.old.end }
         ensures { self.new ≡ record self.old { point = place } }
     {
-        self.bounds = Bounds {
-            start: self.bounds.start,
-            end: self.bounds.end,
-            point: place,
-        };
+        self.bounds.point = place;
     }
 
     /// Takes inserted text out again.
@@ -466,7 +462,8 @@ impl Buffer {
         self.undo = before.undo;
     }
 
-    /// The same, whatever the records are: what they change is kept first, and goes back where the undoing is refused.
+    /// Passes a plan and undoes its records, whatever these are: what they change is kept first, and goes back where the
+    /// undoing is refused.
     fn undo_or_go_back(
         &mut self,
         id: u32,

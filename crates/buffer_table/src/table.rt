@@ -7,7 +7,6 @@ ghost use Rattle.buffer_table.specs.Kept.{editor_of, has_name, named_at};
 
 use crate::editor::{Editor, Live};
 use crate::room::{BufferRoom, move_to};
-use buffer_core::same_text;
 use ek_types::{Chars, Mem};
 use std::alloc::Global;
 
@@ -28,7 +27,7 @@ fn is_named(entry: &Option<Live>, name: &Chars) -> bool
     ensures { result ≡ has_name name.now.items entry.now }
 {
     match entry {
-        Some(live) => same_text(&live.name, name),
+        Some(live) => live.name.same(name),
         None => false,
     }
 }

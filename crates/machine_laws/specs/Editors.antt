@@ -1,4 +1,4 @@
--- Editors: what holds of the editor in each state of each run. The code carries the same in its types.
+-- Editors: what holds of the editor in each state of each run.
 use Rattle.std.specs.Prelude.{◌≡◌, ℕ, true, false, List, [], ◌∷◌, Some}
 use Rattle.text_model.specs.Undo.{Entry, is_boundary}
 use Rattle.editor_model.specs.Editor.{Editor, Live, live, is_live}

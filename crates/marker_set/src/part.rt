@@ -132,6 +132,7 @@ impl Part {
         requires { cell < length self.now.cells }
         ensures { spot_of result ≡ spot_in self.now (cell_at self.now cell) }
     {
+        // Read so that the place is known to fit its type.
         let _most = self.most;
         match self.cells[cell] {
             Some(kept) => Some((self.buffer, self.offset + kept.place)),

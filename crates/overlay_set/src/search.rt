@@ -20,6 +20,7 @@ impl Tree {
         ensures found { IfSome result (λ s. Contains self.now (record { number = number; stretch = s })) }
         ensures none { result ≡ None → All (λ e. e.number ≡ number → ⊥) self.now }
     {
+        // Read so that the bounds of the nodes are known to hold.
         let _ = &self.root;
         let by_key = self.find(number, Some(key), 0);
         if by_key.is_some() {
@@ -62,6 +63,7 @@ impl Tree {
         ensures { OnOk result (numbers.new.items ≡ numbers.old.items ++
             numbers_in (filter (passes buffer question) self.now)) }
     {
+        // Read so that the bounds of the nodes are known to hold.
         let _ = &self.root;
         self.found_from(buffer, question, 0, numbers)
     }
@@ -98,6 +100,7 @@ impl Tree {
         ensures { result ≡ option_map (λ e. e.number)
             (strongest buffer i name.0 (map bare_of slots.now) None self.now) }
     {
+        // Read so that the bounds of the nodes are known to hold.
         let _ = &self.root;
         let mut best = None;
         self.winner_from(slots, buffer, i, name, 0, &mut best);
@@ -142,6 +145,7 @@ impl Tree {
         ensures { (last : ℕ) → next_or last result ≡
             least last (filter (λ x. nat_lt (i + 1) x) (flat_map (ends_at buffer) self.now)) }
     {
+        // Read so that the bounds of the nodes are known to hold.
         let _ = &self.root;
         self.next_from(buffer, i, None, 0)
     }
@@ -172,6 +176,7 @@ impl Tree {
         ensures { (first : ℕ) → previous_or first result ≡
             greatest first (filter (λ x. nat_lt x (i + 1)) (flat_map (ends_at buffer) self.now)) }
     {
+        // Read so that the bounds of the nodes are known to hold.
         let _ = &self.root;
         self.prev_from(buffer, i, None, 0)
     }

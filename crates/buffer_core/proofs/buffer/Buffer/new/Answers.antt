@@ -1,0 +1,4 @@
+use Rattle.buffer_core.proofs.buffer.Buffer.new.Goals as goal
+
+pub returns-clause-good : goal.returns-clause-good
+returns-clause-good c = λ pool. c.new_buffers_are_good.ensures

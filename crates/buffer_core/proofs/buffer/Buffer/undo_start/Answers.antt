@@ -1,0 +1,4 @@
+use Rattle.buffer_core.proofs.buffer.Buffer.undo_start.Goals as goal
+
+pub returns-clause-undo : goal.returns-clause-undo
+returns-clause-undo c = ?
