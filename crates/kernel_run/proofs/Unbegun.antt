@@ -3,8 +3,8 @@ use Rattle.std.proofs.Common.{◌≡◌, List, [], ◌∷◌, ◌++◌, refl}
 use Rattle.std.proofs.lemmas.List.Elements.{All-nil}
 use Rattle.editor_model.specs.Values.{Script}
 use Rattle.plain_machine.specs.State.{Program}
-use Rattle.plain_machine.specs.Items.{Said}
 use Rattle.plain_machine.specs.Run.{start, stays}
+use Rattle.machine_laws.specs.Entries.{SentinelsAfterOutput}
 use Rattle.machine_laws.specs.UndoneRuns.{UndoReturns}
 use Rattle.ek_types.specs.Io.{SinkState}
 use Rattle.kernel_steps.specs.Outside.{deepest}
@@ -12,12 +12,12 @@ use Rattle.kernel_steps.specs.Ending.{IsAnsweredKill}
 use Rattle.kernel_steps.specs.Outcomes.{StoppedScript}
 use Rattle.kernel_steps.specs.declared.stop.Stop.TheVariants as stop
 
-nothing_said : (before after : List Said) (x : Said) → [] ≡ before ++ x ∷ after → ⊥
-nothing_said [] after x e = cc
-nothing_said (y ∷ before) after x e = cc
+nothing_is_in : {T : Type 0} (before after : List T) (x : T) → [] ≡ before ++ x ∷ after → ⊥
+nothing_is_in [] after x e = cc
+nothing_is_in (y ∷ before) after x e = cc
 
-pub unbegun : (program : Program) (script : Script) (sink : SinkState) → UndoReturns program deepest (start script) → StoppedScript stop.NoMemory program script [] [] sink sink
-unbegun program script sink law = record {
+pub unbegun : (program : Program) (script : Script) (sink : SinkState) → SentinelsAfterOutput program deepest (start script) → UndoReturns program deepest (start script) → StoppedScript stop.NoMemory program script [] [] sink sink
+unbegun program script sink told undo = record {
   broken = record {
     made = [];
     kills = [];
@@ -32,7 +32,9 @@ unbegun program script sink law = record {
   answered = All-nil IsAnsweredKill;
   came = refl;
   entries = λ p child e. absurd (let never = e in cc);
-  sentinels = λ before after x p e entry. absurd (nothing_said before after x e);
-  undo = λ first second later _. law first second;
+  sentinels = λ before after x p e entry. absurd (nothing_is_in before after x e);
+  ends = λ before after x child e asked. absurd (nothing_is_in before after x e);
+  ends_told = λ before after said c p x e run found entry. (told before said c run p x found entry).1;
+  undo = λ first second later _. undo first second;
   roomy = λ few. refl;
 }

@@ -24,8 +24,9 @@ impl Kernel {
     ///
     /// Where it succeeds the lines are those of the plain machine's whole run, and the kernel stands for its last
     /// state. A run that was broken off says how far the machine came; each child that lived then was asked to be
-    /// killed, once. Filters are entered with just what was read, sentinels come last, and undoing back to a kept
-    /// boundary gives its text back. The exchanges are the calls on the host.
+    /// killed, once. Filters are entered with just what was read. Sentinels come last, and behind the end of the
+    /// output, unless the child was killed. Undoing back to a kept boundary gives its text back. The exchanges are
+    /// the calls on the host.
     pub fn run_script<K: Sink, H: Host, N: Natives>(
         &mut self,
         script: &Script,
@@ -46,7 +47,9 @@ impl Kernel {
         match RunProgram::new(self.state.alloc(), script, natives) {
             Ok(program) => run_script(&mut self.state, &program, script, host, sink),
             Err(_) => {
-                // A law of all runs of the machine, by which the contract speaks of undoing. It does nothing.
+                // Laws of all runs of the machine, by which the contract speaks of sentinels and undoing. They do
+                // nothing.
+                machine_laws::sentinels_come_after_output();
                 machine_laws::undo_returns();
                 Err(Stop::NoMemory)
             }

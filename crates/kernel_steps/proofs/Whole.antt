@@ -8,7 +8,7 @@ use Rattle.plain_machine.specs.Items.{Said, Config, Top}
 use Rattle.plain_machine.specs.Run.{Reaches, lines, start}
 use Rattle.plain_machine.specs.WholeRuns.{Ran, BrokenOff, AreKills}
 use Rattle.machine_laws.specs.Children.{KillsLeft}
-use Rattle.machine_laws.specs.Entries.{RanEntries, BrokenEntries, Sentinels}
+use Rattle.machine_laws.specs.Entries.{RanEntries, BrokenEntries, Sentinels, EndsAfterOutput, SentinelsAfterOutput}
 use Rattle.machine_laws.specs.UndoneRuns.{UndoReturns}
 use Rattle.host_link.specs.Hosts.{HostState}
 use Rattle.ek_types.specs.Io.{SinkState, HasCause}
@@ -17,7 +17,7 @@ use Rattle.kernel_steps.specs.Outside.{deepest}
 use Rattle.kernel_steps.specs.Worlds.{World, Hosted, IsReady}
 use Rattle.kernel_steps.specs.Work.{working, Comes, RunsTop, Stays, lifted}
 use Rattle.kernel_steps.specs.Ending.{CameSoFar, IsOver, origin}
-use Rattle.kernel_steps.specs.Outcomes.{SentinelsComeLast, EndsAs}
+use Rattle.kernel_steps.specs.Outcomes.{SentinelsComeLast, EndsComeAfterOutput, SentinelsComeAfterOutput, EndsAs}
 use Rattle.kernel_steps.specs.declared.stop.Stop.{Stop}
 use Rattle.kernel_steps.specs.declared.stop.Stop.TheVariants as stop
 use Rattle.kernel_steps.specs.declared.stop.Halt.TheVariants as halt
@@ -29,15 +29,24 @@ module _ (program : Program) (script : Script) where
   sentinels_last : Sentinels program deepest (start script) → (exchanges : List Exchange) (said : List Said) (last : Config) → Reaches program deepest (start script) exchanges said last → SentinelsComeLast said
   sentinels_last law exchanges said last run before after x p same entry = law exchanges before after x last p (subst (λ l. Reaches program deepest (start script) exchanges l last) same run) entry
 
+  -- the asks for ends among the exchanges
+  ends_after : EndsAfterOutput program deepest (start script) → (exchanges : List Exchange) (said : List Said) (last : Config) → Reaches program deepest (start script) exchanges said last → EndsComeAfterOutput exchanges
+  ends_after law exchanges said last run before after x child same asked = law before after x said last child (subst (λ l. Reaches program deepest (start script) l said last) same run) asked
+
+  -- the entries of sentinels, by what was read before
+  sentinels_after : SentinelsAfterOutput program deepest (start script) → (exchanges : List Exchange) → SentinelsComeAfterOutput program script exchanges
+  sentinels_after law exchanges before after said c p x same run found entry = (law before said c run p x found entry).1
+
   module _ {H : Type 0} (state : H → HostState) (made : H → H → Ask → ℕ → Answer → Type 0) (start_host : H) (old : SinkState) (now : H) (new : SinkState) (known : State) where
     abbrev b : World
     b = record { state = known; kills = (state now).kills; outside = record { sink = new; past = CallsSince state made start_host now } }
 
     -- how a run ended
-    pub ended : {T : Type 0} (r : Result T Stop) → KillsLeft program deepest (start script) → RanEntries program deepest script → BrokenEntries program deepest script → Sentinels program deepest (start script) → UndoReturns program deepest (start script) →
+    pub ended : {T : Type 0} (r : Result T Stop) → KillsLeft program deepest (start script) → RanEntries program deepest script → BrokenEntries program deepest script → Sentinels program deepest (start script) →
+        EndsAfterOutput program deepest (start script) → SentinelsAfterOutput program deepest (start script) → UndoReturns program deepest (start script) →
         IsOver r program (origin state made start_host old) b (start script) →
         (written : List ℕ) × (exchanges : List Exchange) × Appends old.held new.held written × CallsSince state made start_host now exchanges × EndsAs r program script exchanges written old new known
-    ended (Ok x) left hear hear_broken come undo h =
+    ended (Ok x) left hear hear_broken come ends told undo h =
         let (last, ended, stands, gone) = h.finishes in
         let run : Ran program deepest script gone.made (lines gone.said) = record { said = gone.said; last = last; run = gone.run; ended = ended; bytes = refl } in (
           lines gone.said,
@@ -49,13 +58,15 @@ module _ (program : Program) (script : Script) where
               ran = run;
               entries = hear gone.made (lines gone.said) run;
               sentinels = sentinels_last come gone.made gone.said last gone.run;
+              ends = ends_after ends gone.made gone.said last gone.run;
+              ends_told = sentinels_after told gone.made;
               undo = λ first second later _. undo first second;
               roomy = λ few. (gone.roomy few).faults;
             },
             stands,
           ),
         )
-    ended (Err why) left hear hear_broken come undo h =
+    ended (Err why) left hear hear_broken come ends told undo h =
         let k = h.finishes in
         let broken : BrokenOff program deepest script (k.made ++ k.kills) k.bytes = record {
           made = k.made;
@@ -78,6 +89,8 @@ module _ (program : Program) (script : Script) where
             came = k.came;
             entries = hear_broken (k.made ++ k.kills) k.bytes broken;
             sentinels = sentinels_last come k.made k.said k.last k.run;
+            ends = ends_after ends k.made k.said k.last k.run;
+            ends_told = sentinels_after told k.made;
             undo = λ first second later _. undo first second;
             roomy = k.roomy;
           },

@@ -1,13 +1,14 @@
 -- What the run of a script comes to: the bytes that it wrote, and the exchanges that it made.
-use Rattle.std.specs.Prelude.{◌≡◌, ℕ, ◌≤◌, true, false, All, List, ◌∷◌, ◌++◌, length, slice_get, Some}
-use Rattle.std.specs.Prelude.{Result, Ok, Err}
+use Rattle.std.specs.Prelude.{◌≡◌, ◌⊎◌, ℕ, ◌≤◌, true, false, All, List, ◌∷◌, ◌++◌, length, slice_get}
+use Rattle.std.specs.Prelude.{Some, Result, Ok, Err}
 use Rattle.editor_model.specs.Values.{Script}
-use Rattle.plain_machine.specs.Exchanges.{Exchange, children_started}
-use Rattle.plain_machine.specs.State.{State, Program}
-use Rattle.plain_machine.specs.Items.{Said}
-use Rattle.plain_machine.specs.Run.{lines, start}
+use Rattle.plain_machine.specs.Exchanges.{AskEnd, Exchange, children_started}
+use Rattle.plain_machine.specs.State.{State, Process, Program, process}
+use Rattle.plain_machine.specs.Items.{Said, Config}
+use Rattle.plain_machine.specs.Run.{Reaches, lines, start}
 use Rattle.plain_machine.specs.WholeRuns.{Ran, BrokenOff}
 use Rattle.machine_laws.specs.Entries.{entered, heard, coding_in, is_entry, has_entry}
+use Rattle.machine_laws.specs.Entries.{output_ended, killed}
 use Rattle.machine_laws.specs.UndoneRuns.{UndoReturnsBetween}
 use Rattle.ek_types.specs.Io.{SinkState}
 use Rattle.kernel_steps.specs.Outside.{deepest, CameTo}
@@ -27,6 +28,21 @@ SentinelsComeLast said =
     (before after : List Said) (x : Said) (p : ℕ) → said ≡ before ++ x ∷ after →
     is_entry true p x.event ≡ true → (has_entry true p after ≡ false) × (has_entry false p after ≡ false)
 
+-- the end of a child is asked after a read of it that was answered by its end
+abbrev pub EndsComeAfterOutput : List Exchange → Type 0
+EndsComeAfterOutput exchanges =
+    (before after : List Exchange) (x : Exchange) (child : ℕ) → exchanges ≡ before ++ x ∷ after →
+    x.ask ≡ AskEnd child → output_ended child before ≡ true
+
+-- At any moment of these exchanges: a process whose sentinel has been entered is one whose child was asked
+-- to be killed, or whose output has ended. So a sentinel that no kill caused comes after the output.
+abbrev pub SentinelsComeAfterOutput : Program → Script → List Exchange → Type 0
+SentinelsComeAfterOutput program script exchanges =
+    (before after : List Exchange) (said : List Said) (c : Config) (p : ℕ) (x : Process) →
+    exchanges ≡ before ++ after → Reaches program deepest (start script) before said c →
+    process c.state p ≡ Some x → has_entry true p said ≡ true →
+    (killed x.child before ≡ true) ⊎ (output_ended x.child before ≡ true)
+
 -- Between any two moments of these exchanges: undoing back to a boundary that is still kept gave the text
 -- of the moment at which it was pushed, with its properties.
 abbrev pub UndoGivesBack : Program → Script → List Exchange → Type 0
@@ -40,6 +56,8 @@ pub record RanScript (program : Program) (script : Script) (exchanges : List Exc
   pub ran : Ran program deepest script exchanges written
   pub entries : AreHeard ran.last.state exchanges ran.said
   pub sentinels : SentinelsComeLast ran.said
+  pub ends : EndsComeAfterOutput exchanges
+  pub ends_told : SentinelsComeAfterOutput program script exchanges
   pub undo : UndoGivesBack program script exchanges
   pub roomy : length written ≤ before.room → now.faults ≡ before.faults
 
@@ -54,6 +72,8 @@ pub record StoppedScript (why : Stop) (program : Program) (script : Script) (exc
   pub came : CameTo why program (start script) broken.made broken.said broken.last written
   pub entries : AreHeard broken.last.state broken.made broken.said
   pub sentinels : SentinelsComeLast broken.said
+  pub ends : EndsComeAfterOutput broken.made
+  pub ends_told : SentinelsComeAfterOutput program script broken.made
   pub undo : UndoGivesBack program script broken.made
   pub roomy : length (lines broken.said) ≤ before.room → now.faults ≡ before.faults
 

@@ -22,8 +22,9 @@ use host_link::Host;
 ///
 /// Where it succeeds the lines are those of the plain machine's whole run. A run that was broken
 /// off says how far the machine came; each child that lived then was asked to be killed, once.
-/// Filters are entered with just what was read, sentinels come last, and undoing back to a kept
-/// boundary gives its text back. The exchanges are the calls on the host.
+/// Filters are entered with just what was read. Sentinels come last, and behind the end of the
+/// output, unless the child was killed. Undoing back to a kept boundary gives its text back. The
+/// exchanges are the calls on the host.
 pub fn run_script<M: Kernel, P: Program, H: Host, K: Sink>(
     kernel: &mut M,
     program: &P,
@@ -47,6 +48,8 @@ pub fn run_script<M: Kernel, P: Program, H: Host, K: Sink>(
     machine_laws::whole_runs_hear_all();
     machine_laws::broken_runs_hear_all();
     machine_laws::sentinels_come_last();
+    machine_laws::ends_are_asked_after_output();
+    machine_laws::sentinels_come_after_output();
     machine_laws::undo_returns();
     let ran = run_top(kernel, program, host, sink, &script.forms);
     finish(ran, kernel, program, host, sink)

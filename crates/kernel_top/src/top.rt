@@ -138,9 +138,10 @@ fn run_drill<K: Sink, H: Host, N: Natives>(
 ///
 /// The status says what was read and written, as `outcome` has it: for `Done` the lines are those of the plain
 /// machine's whole run on the script, whose handlers are its own and the natives. Filters are entered with just what
-/// was read, sentinels come last, and undoing back to a kept boundary gives its text back. The exchanges of the run
-/// are the calls on the host, each with what the host says of itself that it did, and a read has room for 4,096
-/// bytes. A run whose write fails stops at that line; the children that live are asked to be killed then, each once.
+/// was read. Sentinels come last, and behind the end of the output, unless the child was killed. Undoing back to a
+/// kept boundary gives its text back. The exchanges of the run are the calls on the host, each with what the host says
+/// of itself that it did, and a read has room for 4,096 bytes. A run whose write fails stops at that line; the children
+/// that live are asked to be killed then, each once.
 ///
 /// What `view` writes is what is seen in that run's last state; where memory is wanting, it is nothing. The line of a
 /// drill is the summary of the plain machine's whole run on the drill's script, over just the exchanges made. Of a

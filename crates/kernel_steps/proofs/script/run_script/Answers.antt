@@ -15,7 +15,8 @@ returns-clause-outcome g c =
     let known = g.M.Kernel.state c.run_top-ran.new.kernel in
     let so_far = came c.run_top-ran.result program script.forms (origin g.H.Host.state g.H.Host.made begin sink) (world g.M.Kernel.state g.H.Host.state g.H.Host.made begin c.run_top-ran.new.kernel c.run_top-ran.new.host (g.K.Sink.state c.run_top-ran.new.sink)) refl (rw c.requires.new at (c.run_top-ran.ensures begin)) in
     ended program script g.H.Host.state g.H.Host.made begin sink c.finish.new.host (g.K.Sink.state c.finish.new.sink) known c.finish.result
-    (c.kills_are_left.ensures program 16 script) (c.whole_runs_hear_all.ensures program 16 script) (c.broken_runs_hear_all.ensures program 16 script) (c.sentinels_come_last.ensures program 16 script) (c.undo_returns.ensures program 16 script)
+    (c.kills_are_left.ensures program 16 script) (c.whole_runs_hear_all.ensures program 16 script) (c.broken_runs_hear_all.ensures program 16 script) (c.sentinels_come_last.ensures program 16 script)
+    (c.ends_are_asked_after_output.ensures program 16 script) (c.sentinels_come_after_output.ensures program 16 script) (c.undo_returns.ensures program 16 script)
     (c.finish.ensures sink begin (first script) so_far)
 
 pub returns-clause-cause : goal.returns-clause-cause

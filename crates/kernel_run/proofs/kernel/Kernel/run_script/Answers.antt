@@ -10,4 +10,4 @@ returns-in-Err-clause-outcome g c =
     let sink = g.K.Sink.state c.args.sink.now in
     let script = script_of c.args.script.now in
     let program = program_with g.N.Natives.names g.N.Natives.does script c.args.natives.now in
-    ([], [], Appends-nil sink.held, refl, unbegun program script sink (c.undo_returns.ensures program 16 script))
+    ([], [], Appends-nil sink.held, refl, unbegun program script sink (c.sentinels_come_after_output.ensures program 16 script) (c.undo_returns.ensures program 16 script))
