@@ -17,7 +17,7 @@ use Rattle.kernel_steps.specs.Outside.{deepest}
 use Rattle.kernel_steps.specs.Worlds.{World, Hosted, IsReady}
 use Rattle.kernel_steps.specs.Work.{working, Comes, RunsTop, Stays, lifted}
 use Rattle.kernel_steps.specs.Ending.{CameSoFar, IsOver, origin}
-use Rattle.kernel_steps.specs.Outcomes.{SentinelsComeLast, EndsComeAfterOutput, SentinelsComeAfterOutput, EndsAs}
+use Rattle.kernel_steps.specs.Outcomes.{SentinelsComeAfterOutput, EndsAs}
 use Rattle.kernel_steps.specs.declared.stop.Stop.{Stop}
 use Rattle.kernel_steps.specs.declared.stop.Stop.TheVariants as stop
 use Rattle.kernel_steps.specs.declared.stop.Halt.TheVariants as halt
@@ -25,14 +25,6 @@ use Rattle.kernel_steps.proofs.HostCalls.{all_calls}
 use Rattle.kernel_steps.proofs.Tops.{top_before}
 
 module _ (program : Program) (script : Script) where
-  -- the entries of sentinels among what was said
-  sentinels_last : Sentinels program deepest (start script) → (exchanges : List Exchange) (said : List Said) (last : Config) → Reaches program deepest (start script) exchanges said last → SentinelsComeLast said
-  sentinels_last law exchanges said last run before after x p same entry = law exchanges before after x last p (subst (λ l. Reaches program deepest (start script) exchanges l last) same run) entry
-
-  -- the asks for ends among the exchanges
-  ends_after : EndsAfterOutput program deepest (start script) → (exchanges : List Exchange) (said : List Said) (last : Config) → Reaches program deepest (start script) exchanges said last → EndsComeAfterOutput exchanges
-  ends_after law exchanges said last run before after x child same asked = law before after x said last child (subst (λ l. Reaches program deepest (start script) l said last) same run) asked
-
   -- the entries of sentinels, by what was read before
   sentinels_after : SentinelsAfterOutput program deepest (start script) → (exchanges : List Exchange) → SentinelsComeAfterOutput program script exchanges
   sentinels_after law exchanges before after said c p x same run found entry = (law before said c run p x found entry).1
@@ -57,8 +49,8 @@ module _ (program : Program) (script : Script) where
             record {
               ran = run;
               entries = hear gone.made (lines gone.said) run;
-              sentinels = sentinels_last come gone.made gone.said last gone.run;
-              ends = ends_after ends gone.made gone.said last gone.run;
+              sentinels = come gone.made gone.said last gone.run;
+              ends = ends gone.made gone.said last gone.run;
               ends_told = sentinels_after told gone.made;
               undo = λ first second later _. undo first second;
               roomy = λ few. (gone.roomy few).faults;
@@ -88,8 +80,8 @@ module _ (program : Program) (script : Script) where
             answered = k.answered;
             came = k.came;
             entries = hear_broken (k.made ++ k.kills) k.bytes broken;
-            sentinels = sentinels_last come k.made k.said k.last k.run;
-            ends = ends_after ends k.made k.said k.last k.run;
+            sentinels = come k.made k.said k.last k.run;
+            ends = ends k.made k.said k.last k.run;
             ends_told = sentinels_after told k.made;
             undo = λ first second later _. undo first second;
             roomy = k.roomy;

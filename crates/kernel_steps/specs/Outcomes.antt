@@ -1,38 +1,19 @@
 -- What the run of a script comes to: the bytes that it wrote, and the exchanges that it made.
-use Rattle.std.specs.Prelude.{◌≡◌, ◌⊎◌, ℕ, ◌≤◌, true, false, All, List, ◌∷◌, ◌++◌, length, slice_get}
-use Rattle.std.specs.Prelude.{Some, Result, Ok, Err}
+use Rattle.std.specs.Prelude.{◌≡◌, ◌⊎◌, ℕ, ◌≤◌, true, All, List, ◌++◌, length, Some, Result, Ok, Err}
 use Rattle.editor_model.specs.Values.{Script}
-use Rattle.plain_machine.specs.Exchanges.{AskEnd, Exchange, children_started}
+use Rattle.plain_machine.specs.Exchanges.{Exchange}
 use Rattle.plain_machine.specs.State.{State, Process, Program, process}
 use Rattle.plain_machine.specs.Items.{Said, Config}
 use Rattle.plain_machine.specs.Run.{Reaches, lines, start}
 use Rattle.plain_machine.specs.WholeRuns.{Ran, BrokenOff}
-use Rattle.machine_laws.specs.Entries.{entered, heard, coding_in, is_entry, has_entry}
-use Rattle.machine_laws.specs.Entries.{output_ended, killed}
+use Rattle.machine_laws.specs.Entries.{AreHeard, SentinelsComeLast, EndsComeAfterOutput}
+use Rattle.machine_laws.specs.Entries.{has_entry, output_ended, killed}
 use Rattle.machine_laws.specs.UndoneRuns.{UndoReturnsBetween}
 use Rattle.ek_types.specs.Io.{SinkState}
 use Rattle.kernel_steps.specs.Outside.{deepest, CameTo}
 use Rattle.kernel_steps.specs.Worlds.{Stands}
 use Rattle.kernel_steps.specs.Ending.{IsAnsweredKill}
 use Rattle.kernel_steps.specs.declared.stop.Stop.{Stop}
-
--- The filter of each process was entered with just what was read from its child, decoded as this state
--- says. Process p is the one whose child was started as number p, counted from 0.
-abbrev pub AreHeard : State → List Exchange → List Said → Type 0
-AreHeard s exchanges said = (p child : ℕ) → slice_get (children_started exchanges) p ≡ Some child →
-    entered p said ≡ heard (coding_in s p) child exchanges
-
--- each process has at most one sentinel entry, and no filter entry behind it
-abbrev pub SentinelsComeLast : List Said → Type 0
-SentinelsComeLast said =
-    (before after : List Said) (x : Said) (p : ℕ) → said ≡ before ++ x ∷ after →
-    is_entry true p x.event ≡ true → (has_entry true p after ≡ false) × (has_entry false p after ≡ false)
-
--- the end of a child is asked after a read of it that was answered by its end
-abbrev pub EndsComeAfterOutput : List Exchange → Type 0
-EndsComeAfterOutput exchanges =
-    (before after : List Exchange) (x : Exchange) (child : ℕ) → exchanges ≡ before ++ x ∷ after →
-    x.ask ≡ AskEnd child → output_ended child before ≡ true
 
 -- At any moment of these exchanges: a process whose sentinel has been entered is one whose child was asked
 -- to be killed, or whose output has ended. So a sentinel that no kill caused comes after the output.

@@ -69,5 +69,5 @@ sentinels_after_output program bound script xs said c r p x g h =
     by_way : (killed x.child xs ≡ true) ⊎ AskedIn x.child xs → (killed x.child xs ≡ true) ⊎ (output_ended x.child xs ≡ true)
     by_way (inl k) = inl k
     by_way (inr k) =
-        let before : output_ended x.child k.before ≡ true = ends_after_output program bound script k.before k.after k.exchange said c x.child (rw k.all at r) k.asks in
+        let before : output_ended x.child k.before ≡ true = ends_after_output program bound script xs said c r k.before k.after k.exchange x.child k.all k.asks in
         inr (ap (output_ended x.child) k.all ∙ ended-append x.child k.before (k.exchange ∷ k.after) before)

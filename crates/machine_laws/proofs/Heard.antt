@@ -1,5 +1,5 @@
 -- The laws of entries and of sentinels, of every run.
-use Rattle.std.proofs.Common.{◌≡◌, ℕ, true, false, List, [], ◌∷◌, ◌++◌, refl, ap, sym, ◌∙◌, append_assoc}
+use Rattle.std.proofs.Common.{◌≡◌, ℕ, true, false, List, [], ◌∷◌, ◌++◌, refl, ap, sym, ◌∙◌, append_assoc, subst}
 use Rattle.std.proofs.lemmas.List.{append-nil}
 use Rattle.std.specs.Prelude.{Option, Some, if◌then◌else◌}
 use Rattle.text_model.specs.Codings.{decoded, all_decoded}
@@ -77,15 +77,15 @@ ordered_at p [] after x o h = o.0 h
 ordered_at p (y ∷ before) after x o h = ordered_at p before after x o.1 h
 
 pub sentinels : (program : Program) (bound : ℕ) (script : Script) → Sentinels program bound (start script)
-sentinels program bound script xs before after x c p r h =
-    let i : Carried xs (before ++ x ∷ after) c = carried program bound script xs (before ++ x ∷ after) c r in
-    ordered_at p before after x (i.0.ordered p) h
+sentinels program bound script xs said c r before after x p split h =
+    let i : Carried xs said c = carried program bound script xs said c r in
+    ordered_at p before after x (subst (Ordered p) split (i.0.ordered p)) h
 
 ends_at : (seen before after : List Exchange) (x : Exchange) (child : ℕ) → EndsAfter seen (before ++ x ∷ after) → x.ask ≡ AskEnd child → output_ended child (seen ++ before) ≡ true
 ends_at seen [] after x child o h = rw append-nil (o.0 child h)
 ends_at seen (y ∷ before) after x child o h = rw append_assoc at (ends_at (seen ++ y ∷ []) before after x child o.1 h)
 
 pub ends_after_output : (program : Program) (bound : ℕ) (script : Script) → EndsAfterOutput program bound (start script)
-ends_after_output program bound script before after x said c child r h =
-    let i : Carried (before ++ x ∷ after) said c = carried program bound script (before ++ x ∷ after) said c r in
-    ends_at [] before after x child i.0.ends h
+ends_after_output program bound script xs said c r before after x child split h =
+    let i : Carried xs said c = carried program bound script xs said c r in
+    ends_at [] before after x child (subst (EndsAfter []) split i.0.ends) h

@@ -60,6 +60,25 @@ is_entry sentinel p _ = false
 abbrev pub has_entry : (sentinel : Bool) → (p : ℕ) → List Said → Bool
 has_entry sentinel p said = list_any (λ x. is_entry sentinel p x.event) said
 
+-- OF ALL PROCESSES
+-- The filter of each process was entered with just what was read from its child, decoded as this state
+-- says. Process p is the one whose child was started as number p, counted from 0.
+abbrev pub AreHeard : State → List Exchange → List Said → Type 0
+AreHeard s exchanges said = (p child : ℕ) → slice_get (children_started exchanges) p ≡ Some child →
+    entered p said ≡ heard (coding_in s p) child exchanges
+
+-- each process has at most one sentinel entry, and no filter entry behind it
+abbrev pub SentinelsComeLast : List Said → Type 0
+SentinelsComeLast said =
+    (before after : List Said) (x : Said) (p : ℕ) → said ≡ before ++ x ∷ after →
+    is_entry true p x.event ≡ true → (has_entry true p after ≡ false) × (has_entry false p after ≡ false)
+
+-- the end of a child is asked after a read of it that was answered by its end
+abbrev pub EndsComeAfterOutput : List Exchange → Type 0
+EndsComeAfterOutput exchanges =
+    (before after : List Exchange) (x : Exchange) (child : ℕ) → exchanges ≡ before ++ x ∷ after →
+    x.ask ≡ AskEnd child → output_ended child before ≡ true
+
 -- THE LAWS, of a run from some start over these exchanges
 -- what the filters were entered with is the decoding of what was read
 abbrev pub Entries : Program → ℕ → Config → Type 0
@@ -68,13 +87,11 @@ Entries program bound from =
     Reaches program bound from exchanges said c → IsBetweenEntries c →
     (p : ℕ) (x : Process) → process c.state p ≡ Some x → entered p said ≡ heard x.coding x.child exchanges
 
--- the same by the exchanges and the lines: process p is the one whose child was started as number p
+-- the same by the exchanges and the lines
 abbrev pub EntriesOfChildren : Program → ℕ → Config → Type 0
 EntriesOfChildren program bound from =
     (exchanges : List Exchange) (said : List Said) (c : Config) →
-    Reaches program bound from exchanges said c → IsBetweenEntries c →
-    (p child : ℕ) → slice_get (children_started exchanges) p ≡ Some child →
-    entered p said ≡ heard (coding_in c.state p) child exchanges
+    Reaches program bound from exchanges said c → IsBetweenEntries c → AreHeard c.state exchanges said
 
 -- once bytes were read of a process its coding stays
 abbrev pub CodingsStay : Program → ℕ → Config → Type 0
@@ -84,19 +101,15 @@ CodingsStay program bound from =
     (p : ℕ) (x : Process) → process c.state p ≡ Some x → (read x.child before ≡ [] → ⊥) →
     (y : Process) × (process d.state p ≡ Some y) × (y.coding ≡ x.coding)
 
--- at most one sentinel entry, and no filter entry of the process after it
 abbrev pub Sentinels : Program → ℕ → Config → Type 0
 Sentinels program bound from =
-    (exchanges : List Exchange) (before after : List Said) (x : Said) (c : Config) (p : ℕ) →
-    Reaches program bound from exchanges (before ++ x ∷ after) c →
-    is_entry true p x.event ≡ true → (has_entry true p after ≡ false) × (has_entry false p after ≡ false)
+    (exchanges : List Exchange) (said : List Said) (c : Config) →
+    Reaches program bound from exchanges said c → SentinelsComeLast said
 
--- the end of a child is asked after a read of it that was answered by its end
 abbrev pub EndsAfterOutput : Program → ℕ → Config → Type 0
 EndsAfterOutput program bound from =
-    (before after : List Exchange) (x : Exchange) (said : List Said) (c : Config) (child : ℕ) →
-    Reaches program bound from (before ++ x ∷ after) said c → x.ask ≡ AskEnd child →
-    output_ended child before ≡ true
+    (exchanges : List Exchange) (said : List Said) (c : Config) →
+    Reaches program bound from exchanges said c → EndsComeAfterOutput exchanges
 
 -- whether the child was asked to be killed
 abbrev pub asks_kill : (child : ℕ) → Ask → Bool
@@ -118,13 +131,10 @@ SentinelsAfterOutput program bound from =
 -- Of a whole run, and of one that was broken off: what the filters were entered with is what was read, decoded.
 abbrev pub RanEntries : Program → ℕ → Script → Type 0
 RanEntries program bound script =
-    (exchanges : List Exchange) (written : List ℕ) (r : Ran program bound script exchanges written)
-    (p child : ℕ) → slice_get (children_started exchanges) p ≡ Some child →
-    entered p r.said ≡ heard (coding_in r.last.state p) child exchanges
+    (exchanges : List Exchange) (written : List ℕ)
+    (r : Ran program bound script exchanges written) → AreHeard r.last.state exchanges r.said
 
 abbrev pub BrokenEntries : Program → ℕ → Script → Type 0
 BrokenEntries program bound script =
     (exchanges : List Exchange) (written : List ℕ)
-    (r : BrokenOff program bound script exchanges written) (p child : ℕ) →
-    slice_get (children_started r.made) p ≡ Some child →
-    entered p r.said ≡ heard (coding_in r.last.state p) child r.made
+    (r : BrokenOff program bound script exchanges written) → AreHeard r.last.state r.made r.said
