@@ -16,7 +16,7 @@ use Rattle.plain_machine.specs.Lines.{OfFilter}
 use Rattle.plain_machine.specs.Items.{Item, Finish, WriteDump, Said, Config, Next, Goes, Asks, Enter, Ended}
 use Rattle.plain_machine.specs.Step.{step}
 use Rattle.plain_machine.specs.Run.{start}
-use Rattle.machine_laws.specs.Entries.{entered, heard, coding_in, EntriesOfChildren, RanEntries, BrokenEntries}
+use Rattle.machine_laws.specs.Entries.{heard, coding_in, EntriesOfChildren, RanEntries, BrokenEntries}
 use Rattle.machine_laws.specs.Children.{to_kill, KillsLeft}
 use Rattle.plain_machine.specs.WholeRuns.{IsBetweenEntries}
 use Rattle.plain_machine.proofs.Composed.{over_runs}

@@ -14,7 +14,7 @@ use Rattle.machine_laws.proofs.OneBuffer.{passes_self, passes_same, boundary_pas
 use Rattle.machine_laws.proofs.Fitting.{markers_set, marker_fits, clip_fits, evaporated_fits}
 use Rattle.machine_laws.proofs.Sites.{same_step}
 use Rattle.editor_model.specs.Values.{Value, Nil, Int, Str, TheBuffer, TheMarker, Fault, Prim, SetBuffer, GetBufferCreate, GenerateNewBuffer, RenameBuffer, SetBufferModifiedP, SetBufferReadOnly, GotoChar, NarrowToRegion, Widen, MakeMarker, PointMarker, CopyMarker, SetMarker, SetMarkerInsertionType, MakeOverlay, OverlayPut, MoveOverlay, DeleteOverlay, UndoBoundary, UndoStart, BufferDisableUndo, BufferEnableUndo}
-use Rattle.editor_model.specs.Editor.{Editor, Name, Live, live, buffer_at, here, empty_buffer, find, change_buffer, with_buffer, renamed, protected, with_marker, change_marker, marker_of, with_overlay, change_overlay, overlay_of, free_name, others}
+use Rattle.editor_model.specs.Editor.{Editor, Name, Live, live, buffer_at, here, empty_buffer, find, change_buffer, with_buffer, renamed, protected, with_marker, change_marker, marker_of, change_overlay, overlay_of, free_name, others}
 use Rattle.editor_model.specs.Answers.{Test, first_fault, applied, applied_of}
 use Rattle.editor_model.specs.Arguments.{arg, flag, name_of, buffer_of, marker_number, overlay_number, symbol_of, value_of, number, position, place, from_of, to_of, lies_in, must_be_position, must_lie_in}
 use Rattle.editor_model.specs.BufferCalls.{found_or_made, get_buffer_create}

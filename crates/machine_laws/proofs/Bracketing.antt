@@ -1,24 +1,23 @@
 -- Runs stay above what they began on; so at the top level nothing is left over, and calls and handlers give back what they raised.
-use Rattle.std.proofs.Common.{◌≡◌, ◌⊎◌, inl, inr, ℕ, zero, suc, Bool, true, false, List, [], ◌∷◌, ◌++◌, length, map, refl, ap, sym, ◌∙◌, subst}
-use Rattle.std.specs.Prelude.{Option, Some, None}
+use Rattle.std.proofs.Common.{◌≡◌, ℕ, Bool, true, false, List, [], ◌∷◌, ◌++◌, length, refl, ap, sym, ◌∙◌, subst}
+use Rattle.std.specs.Prelude.{Option, Some}
 use Rattle.text_model.specs.Marks.{Saved}
-use Rattle.editor_model.specs.Values.{Value, Reply, Answered, Prim, Script}
+use Rattle.editor_model.specs.Values.{Reply, Answered, Prim, Script}
 use Rattle.plain_machine.specs.Exchanges.{Exchange, Ask, Answer}
-use Rattle.plain_machine.specs.State.{State, Scope, Program, new_state}
+use Rattle.plain_machine.specs.State.{State, Scope, Program}
 use Rattle.plain_machine.specs.Lines.{Kind, OfBefore, OfAfter, OfFilter, OfSentinel}
-use Rattle.plain_machine.specs.Items.{Item, Top, MakeCall, Enter, Exit, Finish, WriteDump, Target, Nowhere, Said, Config, Next, Step, Goes, Asks, Ended}
+use Rattle.plain_machine.specs.Items.{Item, Top, MakeCall, Enter, Finish, WriteDump, Nowhere, Said, Config, Next, Goes, Asks, Ended}
 use Rattle.plain_machine.specs.Hooks.{before_change_functions, after_change_functions, set_hook_list}
-use Rattle.plain_machine.specs.Forms.{if_live}
 use Rattle.plain_machine.specs.Handling.{unlisted, ended_handler}
 use Rattle.plain_machine.specs.Step.{step, item_step}
-use Rattle.plain_machine.specs.Run.{Reaches, stays, goes, asks, start, given, Calls, Handles}
-use Rattle.machine_laws.specs.Brackets.{Levels, levels, shape, shapes, IsTop, NothingLeft, TopIsClear, CallsBracket, HandlersBracket}
+use Rattle.plain_machine.specs.Run.{Reaches, stays, goes, asks, start, given}
+use Rattle.machine_laws.specs.Brackets.{Levels, levels, shapes, IsTop, NothingLeft, TopIsClear, CallsBracket, HandlersBracket}
 use Rattle.machine_laws.proofs.Currents.{current_born, call_current, handler_current}
 use Rattle.machine_laws.proofs.GoodEditor.{GoodEditor}
 use Rattle.machine_laws.proofs.GoodConfig.{GoodConfig}
 use Rattle.machine_laws.proofs.Returning.{goes_good, asks_good, start_good, reaches_good}
 use Rattle.machine_laws.proofs.LevelStates.{live_levels, change_levels}
-use Rattle.machine_laws.proofs.Levels.{unwound, Floor, ground, below, Built, Above, above, AnswerStays, StepStays, step_stays}
+use Rattle.machine_laws.proofs.Levels.{unwound, ground, Above, above, AnswerStays, StepStays, step_stays}
 
 module _ (program : Program) (bound : ℕ) (base : Levels) where
   -- ABOVE THE GROUND

@@ -1,5 +1,5 @@
 -- Runs of refused calls: what is left so far, whether a handler runs in the call or not.
-use Rattle.std.proofs.Common.{◌≡◌, ◌⊎◌, inl, inr, ℕ, zero, suc, ◌+◌, ◌-◌, ◌≤◌, Bool, true, false, List, [], ◌∷◌, ◌++◌, length, drop, refl, ap, sym, ◌∙◌, subst, arith}
+use Rattle.std.proofs.Common.{◌≡◌, ℕ, suc, ◌+◌, ◌-◌, ◌≤◌, Bool, true, false, List, [], ◌∷◌, ◌++◌, drop, refl, ap, sym, ◌∙◌, subst, arith}
 use Rattle.std.specs.Prelude.{Option, Some, None, ◌&&◌}
 use Rattle.std.specs.List.{list_all}
 use Rattle.std.proofs.lemmas.List.{append-nil}
@@ -12,22 +12,21 @@ use Rattle.text_model.specs.Properties.{Cell}
 use Rattle.plain_machine.specs.Exchanges.{Exchange, Ask, Answer}
 use Rattle.plain_machine.specs.State.{State, Program}
 use Rattle.plain_machine.specs.Lines.{Kind, OfBefore, OfAfter, OfFilter, OfSentinel}
-use Rattle.plain_machine.specs.Items.{Item, Top, Body, MakeCall, Leave, Finish, WriteDump, Kept, KeptExcursion, KeptRestriction, KeptBuffer, KeptInhibition, KeptLifting, Refuse, MakeChange, Hooks, Calm, CommitChange, Enter, Native, Exit, Wait, Delete, Target, Said, Config, Next, Step, Goes, Asks, Ended}
+use Rattle.plain_machine.specs.Items.{Item, Top, Body, MakeCall, Leave, Finish, WriteDump, Kept, KeptExcursion, KeptRestriction, KeptBuffer, KeptInhibition, KeptLifting, Refuse, MakeChange, Hooks, Calm, CommitChange, Enter, Native, Exit, Wait, Delete, Said, Config, Next, Step, Goes, Asks}
 use Rattle.plain_machine.specs.Arguments.{handler_def}
 use Rattle.plain_machine.specs.Hooks.{before_change_functions, after_change_functions, set_hook_list}
 use Rattle.plain_machine.specs.Forms.{if_live, current}
-use Rattle.plain_machine.specs.Handling.{enter, exit, bound_params, body_of, named_body, default_handler, output_in, put_in, process_buffer_of, mark_of_process, plain_text, second, sentinel_words, left_state, ended_handler, without_hooks_item, unlisted}
-use Rattle.plain_machine.specs.Step.{step, item_step}
+use Rattle.plain_machine.specs.Handling.{enter, exit, body_of, named_body, default_handler, output_in, put_in, process_buffer_of, mark_of_process, plain_text, second, sentinel_words, left_state, ended_handler, without_hooks_item, unlisted}
+use Rattle.plain_machine.specs.Step.{step}
 use Rattle.plain_machine.specs.Run.{Reaches, stays, goes, asks, start}
 use Rattle.plain_machine.proofs.Composed.{over_runs}
 use Rattle.machine_laws.specs.Brackets.{Levels, levels}
-use Rattle.machine_laws.specs.Refusals.{Leaves}
-use Rattle.machine_laws.specs.RefusedCalls.{Handled, Ends, without_change, LeftByCall, nothing, exchanged, ended, handled, hooked, is_within, RefusedCallsLeave}
+use Rattle.machine_laws.specs.RefusedCalls.{Handled, without_change, LeftByCall, nothing, exchanged, ended, handled, hooked, is_within, RefusedCallsLeave}
 use Rattle.machine_laws.proofs.GoodConfig.{GoodConfig}
 use Rattle.machine_laws.proofs.Returning.{goes_good, asks_good, start_good, reaches_good}
 use Rattle.machine_laws.proofs.LevelStates.{behind_handler, behind_place, behind_block, live_levels, change_levels, left_levels}
 use Rattle.machine_laws.proofs.Working.{change_editor}
-use Rattle.machine_laws.proofs.Levels.{unwound, Floor, exit_of, below, Above, above, AnswerStays, StepStays, step_stays}
+use Rattle.machine_laws.proofs.Levels.{unwound, Floor, exit_of, Above, above, AnswerStays, StepStays, step_stays}
 use Rattle.machine_laws.proofs.RefusedCalls.{Answering, Calming, Standing, Resumes, based, based_depth, Own, own, Comes, stands, enters, answers, replies, Behind, leaves, ends_one, to_answer, AnswerOwn, StepOwn, own_step, Follows, goes_on, enters_one, has_replied, AnswerFollows, StepFollows, follows_step}
 
 -- LEVELS

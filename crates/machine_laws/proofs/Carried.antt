@@ -1,21 +1,20 @@
 -- What each change of an editor keeps holds of the editor in each state of a run.
-use Rattle.std.proofs.Common.{◌≡◌, ℕ, zero, suc, ◌+◌, ◌-◌, Bool, true, false, List, [], ◌∷◌, ◌++◌, length, map, drop, refl, ap, sym, ◌∙◌, subst}
-use Rattle.std.specs.Prelude.{pos, Option, Some, None, is_some, nat_lt, codes}
-use Rattle.text_model.specs.Characters.{Ch}
+use Rattle.std.proofs.Common.{◌≡◌, ℕ, zero, suc, ◌+◌, ◌-◌, Bool, true, false, List, [], ◌∷◌, ◌++◌, length, map, drop, refl, ap, sym, subst}
+use Rattle.std.specs.Prelude.{Option, Some, None, is_some, nat_lt, codes}
 use Rattle.text_model.specs.Places.{clip}
 use Rattle.text_model.specs.Properties.{Cell}
 use Rattle.text_model.specs.Marks.{Marker, Saved, Excursion, Restriction, Pending}
 use Rattle.text_model.specs.Commit.{Buffer}
 use Rattle.text_model.proofs.Cases.{by_test}
-use Rattle.editor_model.specs.Values.{Value, Nil, T, Fault, Reply, Answered, Prim, AddHook, RemoveHook, KillBuffer, StartProcess, SetProcessFilter, SetProcessSentinel, SetProcessBuffer, SetProcessCodingSystem, ProcessSendString, ProcessSendEof, DeleteProcess, AcceptProcessOutput, Form, Forms, NoForms, Then, Do, Setq, In, WhenEq, Block, SaveExcursion, SaveRestriction, SaveCurrentBuffer, InhibitHooks, HandlerDef, equal, Script, InhibitReadOnly}
-use Rattle.editor_model.specs.Editor.{Editor, Live, live, is_live, here, killed, register, with_register, with_buffer, with_marker, change_buffer, new_editor}
-use Rattle.editor_model.specs.Arguments.{arg, string_of, buffer_of, name_of, must_be_fewer, must_be_short}
+use Rattle.editor_model.specs.Values.{Value, T, Fault, Reply, Answered, Prim, AddHook, RemoveHook, KillBuffer, StartProcess, SetProcessFilter, SetProcessSentinel, SetProcessBuffer, SetProcessCodingSystem, ProcessSendString, ProcessSendEof, DeleteProcess, AcceptProcessOutput, Form, Forms, NoForms, Then, Do, Setq, In, WhenEq, Block, SaveExcursion, SaveRestriction, SaveCurrentBuffer, InhibitHooks, HandlerDef, equal, Script, InhibitReadOnly}
+use Rattle.editor_model.specs.Editor.{Editor, Live, live, is_live, killed, register, with_register, with_buffer, with_marker, change_buffer, new_editor}
+use Rattle.editor_model.specs.Arguments.{arg, string_of, name_of, must_be_fewer, must_be_short}
 use Rattle.editor_model.specs.Limits.{most_buffers, most_markers}
 use Rattle.editor_model.specs.Answers.{Test, first_fault, Change}
 use Rattle.editor_model.specs.TextCalls.{prepare_output}
 use Rattle.editor_model.specs.Table.{Commit, Committed, query, apply, prepare, Prepared, Changes, Quiet, Nothing, Barred, Done, Failed, commit}
 use Rattle.editor_model.specs.Prims.{OnlyAsks, SetsState, ChangesText, ConcernsHandlers, manner_of}
-use Rattle.plain_machine.specs.Exchanges.{Exchange, Ask, Answer, Started, Sent, Broken, Closed, Killed, Bytes, End, Code, Signal, Running}
+use Rattle.plain_machine.specs.Exchanges.{Exchange, Answer, Started, Sent, Broken, Closed, Killed, Bytes, End, Code, Signal, Running}
 use Rattle.plain_machine.specs.State.{State, Program, Process, Status, Runs, Exited, Signalled, Lost, process, change_process, read_so_far}
 use Rattle.plain_machine.specs.Lines.{Kind, KilledLast, OfBefore, OfAfter, OfFilter, OfSentinel}
 use Rattle.plain_machine.specs.Items.{Item, Top, Body, DoForm, MakeCall, Leave, GiveAnswer, Refuse, MakeChange, Hooks, Calm, CommitChange, Enter, Native, Called, Exit, Wait, Delete, Finish, WriteDump, Target, Nowhere, ToName, ToNative, Kept, KeptExcursion, KeptRestriction, KeptBuffer, KeptInhibition, Waiting, Said, Config, Next, Step, Goes, Asks, Ended, KeptLifting}
@@ -23,9 +22,9 @@ use Rattle.plain_machine.specs.Calls.{on, answered, unless, call, process_effect
 use Rattle.plain_machine.specs.Refusals.{process_tests, may_ask, must_ask, must_be_replaceable, must_be_word, must_live_or_be_named, only_where, most_processes}
 use Rattle.plain_machine.specs.Arguments.{process_of, filter_of, sentinel_of, child_of, is_closed, encoded, handler_def, is_new_name, coding_of}
 use Rattle.plain_machine.specs.Hooks.{before_change_functions, after_change_functions, set_hook_list}
-use Rattle.plain_machine.specs.Forms.{with_saved, saved_of, if_live, current, in_buffer, put_back, pop, popped, dropped, restored, evaluate, do_form, block, assigned, scope_of, give, make_change, commit_change, at_kept, says, after_commit, call_with, when_eq}
-use Rattle.plain_machine.specs.Handling.{mark_of_process, second, sentinel_words, plain_text, unlisted, body_of, default_handler, put_in, output_in, process_buffer_of, native, left_state, ended_handler, without_hooks_item, named_body, native_next}
-use Rattle.plain_machine.specs.Waits.{ask_process, asked_more, read_answer, end_answer, drain, is_room, exit_text, target_is_eligible, from_eligible, eligible, delete, kill_answer, ends, kill_at_end, finish, wait, ask_if, ask_next, delete_one, delete_running, hear, kill_live, wait_case, finish_one, finish_running}
+use Rattle.plain_machine.specs.Forms.{with_saved, saved_of, if_live, current, in_buffer, put_back, pop, popped, dropped, restored, evaluate, do_form, block, assigned, scope_of, give, commit_change, at_kept, says, after_commit, call_with, when_eq}
+use Rattle.plain_machine.specs.Handling.{mark_of_process, second, sentinel_words, plain_text, unlisted, body_of, default_handler, put_in, output_in, process_buffer_of, native, left_state, ended_handler, named_body, native_next}
+use Rattle.plain_machine.specs.Waits.{ask_process, asked_more, read_answer, end_answer, drain, is_room, target_is_eligible, from_eligible, eligible, delete, kill_answer, ends, kill_at_end, finish, wait, ask_if, ask_next, delete_one, delete_running, hear, kill_live, wait_case, finish_one, finish_running}
 use Rattle.plain_machine.specs.Step.{step, item_step}
 use Rattle.plain_machine.specs.Run.{Reaches, start}
 use Rattle.plain_machine.proofs.Composed.{over_runs}

@@ -1,6 +1,6 @@
 -- Two longest fronts of the same bytes are one, so their line feeds are as many.
-use Rattle.std.proofs.Common.{◌≡◌, ◌⊎◌, inl, inr, ℕ, zero, suc, ◌+◌, ◌<◌, ◌≤◌, List, [], ◌∷◌, ◌++◌, length, refl, ap, sym, ◌∙◌, arith}
-use Rattle.plain_machine.specs.Grammar.{IsLongestFront, IsFaultLine, line_feeds, longest_script}
+use Rattle.std.proofs.Common.{◌≡◌, inl, inr, ℕ, ◌+◌, ◌<◌, ◌≤◌, List, [], ◌∷◌, ◌++◌, length, refl, ap, sym, ◌∙◌, arith}
+use Rattle.plain_machine.specs.Grammar.{IsLongestFront, line_feeds, longest_script}
 use Rattle.machine_laws.specs.FaultLines.{OneFaultLine}
 
 first_same : (x y : ℕ) (xs ys : List ℕ) → (x ∷ xs) ≡ (y ∷ ys) → x ≡ y

@@ -5,12 +5,12 @@ use Rattle.std.specs.Prelude.{Option, Some, if◌then◌else◌}
 use Rattle.text_model.specs.Codings.{decoded, all_decoded}
 use Rattle.editor_model.specs.Values.{Script}
 use Rattle.plain_machine.specs.Exchanges.{Ask, AskEnd, Answer, Exchange}
-use Rattle.plain_machine.specs.State.{Program, Process, read_so_far}
+use Rattle.plain_machine.specs.State.{Program}
 use Rattle.plain_machine.specs.Lines.{OfFilter, OfSentinel, OfBefore, OfAfter}
 use Rattle.plain_machine.specs.Items.{Item, Enter, Said, Config, Next, Goes, Asks}
 use Rattle.plain_machine.specs.Step.{step}
 use Rattle.plain_machine.specs.Run.{Reaches, start}
-use Rattle.machine_laws.specs.Entries.{entered, heard, read, output_ended, is_entry, has_entry, Entries, Sentinels, EndsAfterOutput}
+use Rattle.machine_laws.specs.Entries.{entered, output_ended, is_entry, has_entry, Entries, Sentinels, EndsAfterOutput}
 use Rattle.plain_machine.specs.WholeRuns.{IsBetweenEntries}
 use Rattle.plain_machine.proofs.Composed.{over_runs}
 use Rattle.machine_laws.proofs.Keeping.{core, cores, fixed}

@@ -1,6 +1,6 @@
 -- Levels of states: what each change of a state does to them.
-use Rattle.std.proofs.Common.{◌≡◌, ℕ, zero, suc, ◌+◌, ◌-◌, Bool, true, false, List, [], ◌∷◌, length, drop, refl, ap, sym, ◌∙◌, arith}
-use Rattle.std.specs.Prelude.{Option, Some, None, slice_set, if◌then◌else◌}
+use Rattle.std.proofs.Common.{◌≡◌, ℕ, suc, ◌+◌, ◌-◌, Bool, true, false, List, [], ◌∷◌, length, drop, refl, ap, sym, ◌∙◌, arith}
+use Rattle.std.specs.Prelude.{Option, Some, None, slice_set}
 use Rattle.text_model.specs.Marks.{Saved, Excursion, Restriction, Pending}
 use Rattle.text_model.specs.Commit.{Buffer}
 use Rattle.text_model.proofs.Cases.{by_test}
@@ -8,10 +8,10 @@ use Rattle.editor_model.specs.Values.{Value}
 use Rattle.editor_model.specs.Editor.{Editor, is_live, register, with_register, with_buffer}
 use Rattle.editor_model.specs.Arguments.{name_of}
 use Rattle.plain_machine.specs.State.{State, Scope, Process, process, change_process}
-use Rattle.plain_machine.specs.Items.{Item, Leave, Kept, KeptExcursion, KeptRestriction, KeptBuffer, KeptInhibition, KeptLifting}
+use Rattle.plain_machine.specs.Items.{Kept, KeptExcursion, KeptRestriction, KeptBuffer, KeptInhibition, KeptLifting}
 use Rattle.plain_machine.specs.Arguments.{is_new_name}
-use Rattle.plain_machine.specs.Calls.{with_editor, with_process_buffer, started}
-use Rattle.plain_machine.specs.Forms.{with_saved, saved_of, if_live, current, in_buffer, put_back, pop, popped, restored, assigned, scope_of}
+use Rattle.plain_machine.specs.Calls.{with_editor, started}
+use Rattle.plain_machine.specs.Forms.{with_saved, if_live, current, in_buffer, put_back, pop, popped, restored, assigned}
 use Rattle.plain_machine.specs.Handling.{left_state}
 use Rattle.machine_laws.specs.Brackets.{Levels, levels, shapes}
 use Rattle.machine_laws.proofs.Advancing.{site_shapes}

@@ -1,11 +1,11 @@
 -- Levels: each step gives back what it raised, behind the items that it puts in front, and leaves what stands below.
-use Rattle.std.proofs.Common.{◌≡◌, ℕ, zero, suc, ◌+◌, ◌-◌, Bool, true, false, List, [], ◌∷◌, ◌++◌, length, map, drop, refl, ap, sym, ◌∙◌, subst, arith}
-use Rattle.std.specs.Prelude.{pos, Option, Some, None, nat_lt, codes, unwrap_or}
+use Rattle.std.proofs.Common.{◌≡◌, ℕ, zero, suc, ◌+◌, Bool, true, false, List, [], ◌∷◌, ◌++◌, length, map, refl, ap, sym, ◌∙◌, subst}
+use Rattle.std.specs.Prelude.{Option, Some, None, nat_lt, codes}
 use Rattle.text_model.specs.Characters.{Ch}
 use Rattle.text_model.specs.Marks.{Pending}
 use Rattle.text_model.specs.Properties.{Cell}
-use Rattle.editor_model.specs.Values.{Value, Nil, T, Int, ExchangesSpent, VoidVariable, WrongType, at_place, Reply, Answered, Fault, Prim, AddHook, RemoveHook, KillBuffer, StartProcess, SetProcessFilter, SetProcessSentinel, SetProcessBuffer, SetProcessCodingSystem, ProcessSendString, ProcessSendEof, DeleteProcess, AcceptProcessOutput, Form, Forms, NoForms, Then, Do, Setq, In, WhenEq, Block, SaveExcursion, SaveRestriction, SaveCurrentBuffer, InhibitHooks, HandlerDef, equal, InhibitReadOnly}
-use Rattle.editor_model.specs.Editor.{Editor, is_live, killed}
+use Rattle.editor_model.specs.Values.{Value, Nil, T, ExchangesSpent, VoidVariable, WrongType, at_place, Reply, Answered, Fault, Prim, AddHook, RemoveHook, KillBuffer, StartProcess, SetProcessFilter, SetProcessSentinel, SetProcessBuffer, SetProcessCodingSystem, ProcessSendString, ProcessSendEof, DeleteProcess, AcceptProcessOutput, Form, Forms, NoForms, Then, Do, Setq, In, WhenEq, Block, SaveExcursion, SaveRestriction, SaveCurrentBuffer, InhibitHooks, HandlerDef, equal, InhibitReadOnly}
+use Rattle.editor_model.specs.Editor.{is_live, killed}
 use Rattle.editor_model.specs.Arguments.{arg, string_of, buffer_of}
 use Rattle.editor_model.specs.Answers.{Test, first_fault}
 use Rattle.editor_model.specs.TextCalls.{prepare_output}
@@ -17,12 +17,12 @@ use Rattle.plain_machine.specs.Lines.{Kind, KilledLast, OfBefore, OfAfter, OfFil
 use Rattle.plain_machine.specs.Items.{Item, Top, Body, DoForm, MakeCall, Leave, GiveAnswer, Refuse, MakeChange, Hooks, Calm, CommitChange, Enter, Native, Called, Exit, Wait, Delete, Finish, WriteDump, Target, Nowhere, ToName, ToNative, KeptExcursion, KeptRestriction, KeptBuffer, KeptInhibition, Waiting, Config, Next, Step, Goes, Asks, Ended, KeptLifting}
 use Rattle.plain_machine.specs.Calls.{on, answered, unless, call, process_effect, spawned, spawned_child, is_new_child, started, sent_answer, closed_answer, with_input_closed, with_filter, with_sentinel, of_buffer, process_buffer, send, send_eof, change_call, with_editor, call_by, unless_fault, with_coding}
 use Rattle.plain_machine.specs.Refusals.{process_tests, may_ask, must_be_replaceable}
-use Rattle.plain_machine.specs.Arguments.{process_of, filter_of, sentinel_of, child_of, is_closed, encoded, handler_def, native_from, running_in, coding_of}
+use Rattle.plain_machine.specs.Arguments.{process_of, filter_of, sentinel_of, child_of, is_closed, encoded, handler_def, running_in, coding_of}
 use Rattle.plain_machine.specs.Hooks.{before_change_functions, after_change_functions, set_hook_list}
 use Rattle.plain_machine.specs.Natives.{is_callable, normal}
-use Rattle.plain_machine.specs.Forms.{with_saved, saved_of, dropped, restored, evaluate, do_form, block, assigned, kept_reply, give, make_change, commit_change, at_kept, popped, bracket, current, says, after_commit, call_with, when_eq, opened, kept_of}
+use Rattle.plain_machine.specs.Forms.{with_saved, saved_of, dropped, restored, evaluate, do_form, block, kept_reply, give, make_change, commit_change, at_kept, popped, bracket, current, says, after_commit, call_with, when_eq}
 use Rattle.plain_machine.specs.Handling.{mark_of_process, second, sentinel_words, plain_text, bound_params, unlisted, body_of, default_handler, put_in, output_in, process_buffer_of, native, left_state, ended_handler, without_hooks_item, named_body, native_next}
-use Rattle.plain_machine.specs.Waits.{ask_process, asked_more, read_answer, end_answer, drain, is_room, entry_of, counts, more_characters, exit_text, target_is_eligible, from_eligible, eligible, delete, kill_answer, ends, kill_at_end, finish, wait, ask_if, ask_next, delete_one, delete_running, hear, kill_live, wait_case, finish_one, finish_running}
+use Rattle.plain_machine.specs.Waits.{ask_process, asked_more, read_answer, end_answer, drain, is_room, entry_of, exit_text, target_is_eligible, from_eligible, eligible, delete, kill_answer, ends, kill_at_end, finish, wait, ask_if, ask_next, delete_one, delete_running, hear, kill_live, wait_case, finish_one, finish_running}
 use Rattle.plain_machine.specs.Step.{step, item_step}
 use Rattle.machine_laws.specs.Brackets.{Levels, levels, shapes}
 use Rattle.machine_laws.proofs.GoodEditor.{GoodEditor, FineWhat}

@@ -1,5 +1,5 @@
 -- Whether the tests for what is read-only are lifted: no change of an editor by calls and commits says anything of that.
-use Rattle.std.proofs.Common.{◌≡◌, ℕ, ◌+◌, false, List, [], ◌∷◌, length, refl, ◌∙◌}
+use Rattle.std.proofs.Common.{◌≡◌, ℕ, ◌+◌, List, [], ◌∷◌, length, refl, ◌∙◌}
 use Rattle.std.specs.Prelude.{◌==◌, Bool, if◌then◌else◌, Option, Some, None, slice_set}
 use Rattle.text_model.specs.Marks.{leave_buffer}
 use Rattle.text_model.specs.Undo.{passed, with_boundary, started, disabled, enabled}

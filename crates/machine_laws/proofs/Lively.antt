@@ -1,23 +1,21 @@
 -- The current buffer lives, and what holds of each live buffer, from one change of the editor to the next.
-use Rattle.std.proofs.Common.{◌≡◌, ◌⊎◌, inl, inr, ℕ, zero, suc, ◌+◌, ◌<◌, Bool, true, false, ℤ, List, [], ◌∷◌, ◌++◌, length, refl, ap, sym, ◌∙◌, subst, arith}
+use Rattle.std.proofs.Common.{◌≡◌, ◌⊎◌, inl, inr, ℕ, zero, suc, ◌+◌, Bool, true, false, List, [], ◌∷◌, length, refl, ap, sym, ◌∙◌, subst, arith}
 use Rattle.std.specs.Prelude.{◌==◌, if◌then◌else◌, Option, Some, None, is_some, unwrap_or, slice_get, slice_set, map}
 use Rattle.std.proofs.lemmas.Bool.{cases_eq, false≢true}
 use Rattle.std.proofs.lemmas.Option.{same_Some, none-some}
-use Rattle.text_model.specs.Properties.{Cell}
 use Rattle.text_model.specs.Marks.{leave_buffer}
 use Rattle.text_model.specs.Undo.{passed, with_boundary, started, disabled, enabled}
 use Rattle.text_model.specs.Commit.{Buffer, Site, reset, undone_groups}
-use Rattle.text_model.proofs.Cases.{by_test}
 use Rattle.editor_model.specs.Values.{Value, Nil, Int, Str, TheBuffer, TheMarker, Fault, NoSuchBuffer, BufferKilled, Prim, SetBuffer, GetBufferCreate, GenerateNewBuffer, RenameBuffer, SetBufferModifiedP, SetBufferReadOnly, GotoChar, NarrowToRegion, Widen, MakeMarker, PointMarker, CopyMarker, SetMarker, SetMarkerInsertionType, MakeOverlay, OverlayPut, MoveOverlay, DeleteOverlay, UndoBoundary, UndoStart, BufferDisableUndo, BufferEnableUndo}
-use Rattle.editor_model.specs.Editor.{Editor, Name, Live, live, is_live, find, find_from, live_from, same_name, scratch, with_buffer, new_live, renamed, protected, named_as, change_site, change_buffer, killed, free_name, empty_buffer, others, buffer_at}
-use Rattle.editor_model.specs.Answers.{Test, first_fault, applied_of, What, Put, Props, UndoGroups, Change}
+use Rattle.editor_model.specs.Editor.{Editor, Name, Live, live, is_live, find, find_from, live_from, same_name, scratch, with_buffer, new_live, renamed, protected, named_as, change_site, change_buffer, killed, free_name, others, buffer_at}
+use Rattle.editor_model.specs.Answers.{first_fault, applied_of, What, Put, Props, UndoGroups, Change}
 use Rattle.editor_model.specs.Arguments.{arg, flag, name_of, buffer_of, buffer_there, must_be_buffer, place, from_of, to_of}
 use Rattle.editor_model.specs.BufferCalls.{found_or_made, get_buffer_create, set_buffer}
 use Rattle.editor_model.specs.MarkerCalls.{copy_marker}
 use Rattle.editor_model.specs.Commits.{mark_to, put_site, changed, commit_of, commit_tests}
 use Rattle.editor_model.specs.TextCalls.{point_at, narrowed, widened}
 use Rattle.editor_model.specs.Table.{apply, commit}
-use Rattle.machine_laws.proofs.Advancing.{live_below, live_within, live_set_same, live_set_other, with_buffer_old, with_buffer_new, site_live}
+use Rattle.machine_laws.proofs.Advancing.{live_below, live_within, live_set_same, live_set_other, with_buffer_old, with_buffer_new}
 use Rattle.machine_laws.proofs.Tests.{refuse_ok, no_fault}
 use Rattle.machine_laws.proofs.Committing.{some_of}
 

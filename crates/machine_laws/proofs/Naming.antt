@@ -1,7 +1,7 @@
 -- Names of live buffers differ, and there are few buffers: each change of the editor keeps this.
-use Rattle.std.proofs.Common.{◌≡◌, ◌⊎◌, inl, inr, ℕ, zero, suc, ◌+◌, ◌<◌, ◌≤◌, Bool, true, false, List, [], ◌∷◌, ◌++◌, length, refl, ap, sym, ◌∙◌, subst, arith}
-use Rattle.std.specs.Prelude.{◌==◌, if◌then◌else◌, nat_lt, slice_get, slice_set, Option, Some, None, is_some, unwrap_or}
-use Rattle.std.proofs.lemmas.Bool.{cases_eq, cases_order, eqb-true, ltb-true}
+use Rattle.std.proofs.Common.{◌≡◌, ◌⊎◌, inl, inr, ℕ, zero, suc, ◌+◌, ◌<◌, ◌≤◌, Bool, true, false, List, [], ◌∷◌, length, refl, ap, sym, ◌∙◌, subst, arith}
+use Rattle.std.specs.Prelude.{◌==◌, if◌then◌else◌, nat_lt, slice_get, slice_set, Option, Some, None, unwrap_or}
+use Rattle.std.proofs.lemmas.Bool.{cases_eq, cases_order, ltb-true}
 use Rattle.std.proofs.lemmas.Option.{same_Some, none-some}
 use Rattle.text_model.specs.Undo.{passed, with_boundary, started, disabled, enabled}
 use Rattle.text_model.specs.Marks.{leave_buffer}
@@ -9,7 +9,7 @@ use Rattle.text_model.specs.Commit.{Buffer, Site, reset, undone_groups}
 use Rattle.text_model.proofs.Cases.{by_test}
 use Rattle.text_model.proofs.Lists.{set_other}
 use Rattle.editor_model.specs.Values.{Value, Nil, Int, Str, TheBuffer, TheMarker, Fault, TooMany, Prim, SetBuffer, GetBufferCreate, GenerateNewBuffer, RenameBuffer, SetBufferModifiedP, SetBufferReadOnly, GotoChar, NarrowToRegion, Widen, MakeMarker, PointMarker, CopyMarker, SetMarker, SetMarkerInsertionType, MakeOverlay, OverlayPut, MoveOverlay, DeleteOverlay, UndoBoundary, UndoStart, BufferDisableUndo, BufferEnableUndo}
-use Rattle.editor_model.specs.Editor.{Editor, Name, Live, live, is_live, find, find_from, live_from, scratch, with_buffer, new_live, renamed, protected, named_as, change_site, change_buffer, killed, free_name, empty_buffer, others, buffer_at}
+use Rattle.editor_model.specs.Editor.{Editor, Name, Live, live, is_live, find, find_from, live_from, scratch, with_buffer, new_live, renamed, protected, named_as, change_site, change_buffer, killed, free_name, others, buffer_at}
 use Rattle.editor_model.specs.Answers.{Test, first_fault, applied, applied_of, What, Put, Props, UndoGroups, Change}
 use Rattle.editor_model.specs.Arguments.{arg, flag, name_of, place, from_of, to_of, must_be_name, must_be_short, must_be_fewer}
 use Rattle.editor_model.specs.BufferCalls.{found_or_made, get_buffer_create}
@@ -19,7 +19,7 @@ use Rattle.editor_model.specs.Commits.{mark_to, put_site, changed, commit_of, co
 use Rattle.editor_model.specs.TextCalls.{point_at, narrowed, widened}
 use Rattle.editor_model.specs.Table.{apply, commit}
 use Rattle.plain_machine.specs.Refusals.{is_last, must_be_replaceable, only_where}
-use Rattle.machine_laws.proofs.Advancing.{live_below, live_within, live_past, live_set_same, live_set_other, with_buffer_old, with_buffer_new, with_buffer_longer}
+use Rattle.machine_laws.proofs.Advancing.{live_within, live_past, live_set_same, live_set_other, with_buffer_old, with_buffer_new, with_buffer_longer}
 use Rattle.machine_laws.proofs.Basics.{set_length}
 use Rattle.machine_laws.proofs.Committing.{some_of}
 use Rattle.machine_laws.proofs.FreeNames.{not_found, name_is_free}

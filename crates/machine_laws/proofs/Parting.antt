@@ -1,16 +1,16 @@
 -- A list of undo records doesn't end in a boundary: each change keeps it so, for no two boundaries stand next to each other.
-use Rattle.std.proofs.Common.{◌≡◌, ◌⊎◌, inl, inr, ℕ, zero, suc, ◌+◌, ◌<◌, ◌≤◌, Bool, true, false, List, [], ◌∷◌, ◌++◌, length, refl, ap, sym, ◌∙◌, subst, arith}
-use Rattle.std.specs.Prelude.{◌==◌, ◌&&◌, not, nat_le, ℤ, pos, ◌-ℤ◌, if◌then◌else◌, Option, Some, None, unwrap_or, slice_get, slice_set}
+use Rattle.std.proofs.Common.{◌≡◌, ◌⊎◌, inl, inr, ℕ, zero, suc, ◌+◌, ◌<◌, Bool, true, false, List, [], ◌∷◌, ◌++◌, length, refl, ap, sym, ◌∙◌, subst, arith}
+use Rattle.std.specs.Prelude.{◌==◌, ◌&&◌, not, ℤ, if◌then◌else◌, Option, Some, None, unwrap_or, slice_get, slice_set}
 use Rattle.std.specs.List.{filter_map, enumerate_from}
 use Rattle.std.proofs.lemmas.Bool.{cases_eq, cases_order, false≢true}
 use Rattle.std.proofs.lemmas.Option.{same_Some, none-some}
 use Rattle.text_model.specs.Properties.{Cell, PropEdit, Add, Remove, part, with_sets, edited}
 use Rattle.text_model.specs.Undo.{Rec, Boundary, Point, Inserted, Deleted, Prop, First, Moved, Entry, Undo, is_boundary, has_boundary, without_oldest_group, fits, cut, in_front, pushed, pushed_all, with_boundary, started, disabled, enabled, extends, passed, without_pending}
 use Rattle.text_model.specs.Commit.{Buffer, Site, recorded, inserted, deleted, deletion_records, adjustment, fresh_group, with_properties, property_records, no_pending, replaced, reset, set_point, undo_one, undo_each, undone_groups, moves_behind}
-use Rattle.text_model.specs.Marks.{Marks, leave_buffer}
+use Rattle.text_model.specs.Marks.{leave_buffer}
 use Rattle.text_model.proofs.Cases.{by_test}
 use Rattle.editor_model.specs.Values.{Value, Nil, Int, Str, TheBuffer, TheMarker, Fault, Prim, SetBuffer, GetBufferCreate, GenerateNewBuffer, RenameBuffer, SetBufferModifiedP, SetBufferReadOnly, GotoChar, NarrowToRegion, Widen, MakeMarker, PointMarker, CopyMarker, SetMarker, SetMarkerInsertionType, MakeOverlay, OverlayPut, MoveOverlay, DeleteOverlay, UndoBoundary, UndoStart, BufferDisableUndo, BufferEnableUndo}
-use Rattle.editor_model.specs.Editor.{Editor, Name, Live, live, find, live_from, scratch, with_buffer, new_live, renamed, protected, named_as, change_site, change_buffer, killed, free_name, empty_buffer, others, buffer_at}
+use Rattle.editor_model.specs.Editor.{Editor, Name, Live, live, find, live_from, scratch, with_buffer, new_live, renamed, protected, named_as, change_site, change_buffer, killed, free_name, others, buffer_at}
 use Rattle.editor_model.specs.Answers.{first_fault, applied_of, What, Put, Props, UndoGroups, Change}
 use Rattle.editor_model.specs.Arguments.{arg, flag, name_of, place, from_of, to_of}
 use Rattle.editor_model.specs.BufferCalls.{found_or_made, get_buffer_create}
@@ -20,7 +20,7 @@ use Rattle.editor_model.specs.TextCalls.{point_at, narrowed, widened}
 use Rattle.editor_model.specs.Table.{apply, commit}
 use Rattle.machine_laws.proofs.Stretches.{AreProps, props-records}
 use Rattle.machine_laws.proofs.Changes.{AreMoves, moves-append, marker_moves}
-use Rattle.machine_laws.proofs.Advancing.{live_below, live_within, live_past, live_set_same, live_set_other, with_buffer_old, with_buffer_new, with_buffer_longer}
+use Rattle.machine_laws.proofs.Advancing.{live_within, live_past, live_set_same, live_set_other, with_buffer_old, with_buffer_new, with_buffer_longer}
 
 -- LISTS
 abbrev pub Parted : List Entry → Type 0

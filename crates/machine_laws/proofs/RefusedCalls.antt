@@ -1,27 +1,26 @@
 -- Refused calls, with whatever handlers between: where a call stands while handlers run in it, and what is left of it so far.
-use Rattle.std.proofs.Common.{◌≡◌, ◌⊎◌, inl, inr, ℕ, zero, suc, ◌+◌, ◌-◌, ◌≤◌, Bool, true, false, List, [], ◌∷◌, ◌++◌, length, map, drop, refl, ap, sym, ◌∙◌, subst, arith}
-use Rattle.std.specs.Prelude.{Option, Some, None, nat_lt, ◌&&◌, codes}
-use Rattle.std.specs.List.{list_all}
+use Rattle.std.proofs.Common.{◌≡◌, ℕ, zero, suc, ◌+◌, Bool, true, false, List, [], ◌∷◌, ◌++◌, length, map, drop, refl, ap, sym, ◌∙◌, subst, arith}
+use Rattle.std.specs.Prelude.{Option, Some, None, nat_lt, codes}
 use Rattle.text_model.specs.Characters.{Ch}
 use Rattle.text_model.specs.Marks.{Pending}
-use Rattle.editor_model.specs.Values.{Value, Nil, T, Int, Fault, ExchangesSpent, BrokenPipe, SpawnFailed, at_place, Reply, Answered, Prim, StartProcess, KillBuffer, DeleteProcess, ProcessSendString, ProcessSendEof, AcceptProcessOutput, AddHook, RemoveHook, SetProcessFilter, SetProcessSentinel, SetProcessBuffer, SetProcessCodingSystem, Script}
+use Rattle.editor_model.specs.Values.{Value, T, Fault, ExchangesSpent, BrokenPipe, SpawnFailed, at_place, Reply, Answered, Prim, StartProcess, KillBuffer, ProcessSendString, ProcessSendEof, AcceptProcessOutput, SetProcessFilter, SetProcessSentinel, SetProcessBuffer, SetProcessCodingSystem}
 use Rattle.editor_model.specs.Editor.{Editor, is_live, killed}
 use Rattle.editor_model.specs.Arguments.{arg, string_of, buffer_of}
 use Rattle.editor_model.specs.Answers.{first_fault}
 use Rattle.editor_model.specs.Prims.{Manner, OnlyAsks, SetsState, ChangesText, ConcernsHandlers, manner_of}
 use Rattle.editor_model.specs.Table.{Change, Commit, Committed, Done, Failed, Prepared, Changes, Quiet, Nothing, Barred, query, apply, prepare, commit}
-use Rattle.plain_machine.specs.Exchanges.{Exchange, Ask, Spawn, Read, AskEnd, Send, Close, Kill, Answer, Started, Bytes, Code, End, Signal, Running, Sent, Broken, Closed, Killed}
+use Rattle.plain_machine.specs.Exchanges.{Ask, Spawn, Read, AskEnd, Send, Close, Kill, Answer, Started, Bytes, Code, End, Signal, Running, Sent, Broken, Closed, Killed}
 use Rattle.plain_machine.specs.State.{State, Process, Status, Runs, Exited, Signalled, Lost, Program, hooks_of, process, change_process, read_so_far}
-use Rattle.plain_machine.specs.Lines.{Kind, OfBefore, OfAfter, OfFilter, OfSentinel}
-use Rattle.plain_machine.specs.Items.{Item, MakeCall, GiveAnswer, Refuse, MakeChange, Hooks, Calm, CommitChange, Enter, Exit, Wait, Delete, Target, Nowhere, ToName, ToNative, Waiting, Said, Config, Next, Step, Goes, Asks, Ended}
-use Rattle.plain_machine.specs.Calls.{silent, on, answered, unless_fault, with_editor, change_call, call, call_by, process_effect, spawned, spawned_child, started, is_new_child, send, sent_answer, send_eof, closed_answer, with_input_closed, waiting, with_filter, with_sentinel, of_buffer, process_buffer, with_coding}
+use Rattle.plain_machine.specs.Lines.{Kind, OfBefore, OfFilter, OfSentinel}
+use Rattle.plain_machine.specs.Items.{Item, MakeCall, GiveAnswer, Refuse, MakeChange, Hooks, Calm, CommitChange, Enter, Wait, Delete, Target, Nowhere, ToName, ToNative, Waiting, Said, Config, Next, Step, Goes, Asks, Ended}
+use Rattle.plain_machine.specs.Calls.{silent, on, answered, unless_fault, with_editor, change_call, call, call_by, process_effect, spawned, spawned_child, is_new_child, send, sent_answer, send_eof, closed_answer, with_input_closed, waiting, with_filter, with_sentinel, of_buffer, process_buffer, with_coding}
 use Rattle.plain_machine.specs.Refusals.{process_tests, may_ask, must_be_replaceable}
 use Rattle.plain_machine.specs.Arguments.{process_of, filter_of, sentinel_of, child_of, is_closed, encoded, running_in, coding_of}
 use Rattle.plain_machine.specs.Forms.{at_kept, saved_of, popped, after_commit, bracket, with_saved, make_change, give, commit_change}
 use Rattle.plain_machine.specs.Waits.{wait, wait_case, ask_process, ask_if, ask_next, read_answer, hear, drain, end_answer, exit_text, ends, entry_of, asked_more, is_room, from_eligible, eligible, target_is_eligible, delete, delete_one, delete_running, kill_answer, kill_at_end, kill_live}
 use Rattle.plain_machine.specs.Step.{step, item_step}
 use Rattle.machine_laws.specs.Refusals.{Noted, Leaves}
-use Rattle.machine_laws.specs.RefusedCalls.{EndedAs, Ends, without_change, is_within}
+use Rattle.machine_laws.specs.RefusedCalls.{Ends, without_change, is_within}
 use Rattle.machine_laws.proofs.Steps.{first_fit}
 use Rattle.machine_laws.proofs.LevelStates.{change_levels}
 use Rattle.machine_laws.proofs.Refusing.{apply_leaves, same_change}

@@ -1,17 +1,15 @@
 -- Editors are sound in each state of each run.
-use Rattle.std.proofs.Common.{◌≡◌, ℕ, zero, suc, Bool, true, false, List, [], ◌∷◌, refl, ap, sym, subst, arith}
+use Rattle.std.proofs.Common.{◌≡◌, ℕ, zero, suc, true, List, [], ◌∷◌, refl, sym, subst, arith}
 use Rattle.std.specs.Prelude.{Option, Some, None, is_some, not}
 use Rattle.std.proofs.lemmas.Bool.{false≢true}
 use Rattle.std.proofs.lemmas.Option.{same_Some, none-some}
-use Rattle.text_model.specs.Undo.{Entry, is_boundary}
+use Rattle.text_model.specs.Undo.{Entry}
 use Rattle.editor_model.specs.Values.{Value, Str, Script}
 use Rattle.editor_model.specs.Editor.{Editor, Live, live, find, new_editor, with_marker}
 use Rattle.editor_model.specs.Arguments.{name_of}
-use Rattle.plain_machine.specs.Exchanges.{Exchange}
 use Rattle.plain_machine.specs.State.{Program}
-use Rattle.plain_machine.specs.Items.{Said, Config}
-use Rattle.plain_machine.specs.Run.{Reaches, start}
-use Rattle.machine_laws.specs.Editors.{EndsInRecord, Sound, EditorsAreSound}
+use Rattle.plain_machine.specs.Run.{start}
+use Rattle.machine_laws.specs.Editors.{EndsInRecord, EditorsAreSound}
 use Rattle.machine_laws.proofs.Carried.{KeptBy, run_carries}
 use Rattle.machine_laws.proofs.Returning.{reaches_good, start_good}
 use Rattle.machine_laws.proofs.Lively.{Here, applies_here, commits_here, kills_here, buffer_here, starts_here}

@@ -2,13 +2,13 @@
 -- behind it.
 use Rattle.std.specs.Prelude.{◌≡◌, ℕ, Bool, true, false, List, [], ◌∷◌, length, map, Option}
 use Rattle.text_model.specs.Marks.{Saved, Excursion, Restriction, Pending}
-use Rattle.editor_model.specs.Values.{Value, Reply, Prim, SetBuffer, Script}
+use Rattle.editor_model.specs.Values.{Value, Reply, Prim, SetBuffer}
 use Rattle.editor_model.specs.Editor.{is_live}
 use Rattle.plain_machine.specs.Exchanges.{Exchange}
 use Rattle.plain_machine.specs.State.{State, Program}
 use Rattle.plain_machine.specs.Lines.{Kind}
 use Rattle.plain_machine.specs.Items.{Item, Top, MakeCall, Enter, Finish, WriteDump, Target, Said, Config}
-use Rattle.plain_machine.specs.Run.{Reaches, start, Calls, Handles}
+use Rattle.plain_machine.specs.Run.{Reaches, Calls, Handles}
 
 -- LEVELS
 -- a kept place by its kind and its buffer; where in the text it stands moves with the text
