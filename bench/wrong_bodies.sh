@@ -1,6 +1,6 @@
 #!/bin/sh
 # Tries the wrong bodies that the gate leaves out: the prover must refuse each, as it must those in crates/CRATE/must-fail/.
-# The gate tries those of 18 crates that tell most (docs/PROMISES.md); what the edits of a crate begin with costs its proof once more.
+# The gate tries those of 19 crates that tell most (docs/PROMISES.md); what the edits of a crate begin with costs its proof once more.
 #
 #     bench/wrong_bodies.sh [CRATE ..]        (all crates that have some here if none is named)
 #

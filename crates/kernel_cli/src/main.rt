@@ -1,5 +1,5 @@
-//! Runs, records, replays or views what stands on standard input, or runs a drill or a line session, and writes what
-//! comes of it to standard output.
+//! Runs, records, replays, checks or views what stands on standard input, or runs a drill or a line session, and writes
+//! what comes of it to standard output.
 #![tactic(auto)]
 
 ghost use Rattle.std.specs.Prelude.{◌≡◌, ◌^◌, ◌≤◌, [], Some, length};

@@ -19,7 +19,7 @@ use Rattle.kernel_top.specs.Reading.{IsAll, IsGivenUp}
 use Rattle.kernel_top.specs.Scripts.{IsNoScript}
 use Rattle.kernel_top.specs.Sessions.{longest_session}
 use Rattle.kernel_top.specs.Unseen.{IsWhole}
-use Rattle.kernel_top.specs.Replaying.{Followed, IsUnread, ReplayedOn, Replayed, SourceSettled, HasNoSession}
+use Rattle.kernel_top.specs.Replaying.{Followed, IsUnreadSession, ReplayedOn, Replayed, SourceSettled, HasNoSession}
 use Rattle.kernel_top.specs.Outcomes.{status_of}
 use Rattle.kernel_top.specs.declared.reading.Refused.{Refused}
 use Rattle.kernel_top.specs.declared.reading.Refused.TheVariants as refused
@@ -128,11 +128,11 @@ module _ (So : Status → (read written : List ℕ) → (before now : SinkState)
   }
 
 -- why they weren't had, as a status
-pub no_session : (answer : Status) (why : Refused) (source source' : SourceState) → IsGivenUp longest_session why source source' → ((bytes : List ℕ) → (why ≡ refused.TooLong → longest_session < length bytes) → IsUnread answer bytes) → HasNoSession answer source source'
+pub no_session : (answer : Status) (why : Refused) (source source' : SourceState) → IsGivenUp longest_session why source source' → ((bytes : List ℕ) → (why ≡ refused.TooLong → longest_session < length bytes) → IsUnreadSession answer bytes) → HasNoSession answer source source'
 no_session answer why source source' given_up row = record { read = given_up.bytes; taken = given_up.taken; few = given_up.few; unread = row given_up.bytes given_up.long }
 
-pub unread_no_fault : (answer : Status) (read : List ℕ) → IsUnread answer read → answer ≡ status.WriteFault → ⊥
-unread_no_fault answer read so e = by (subst (λ a. IsUnread a read) e so)
+pub unread_no_fault : (answer : Status) (read : List ℕ) → IsUnreadSession answer read → answer ≡ status.WriteFault → ⊥
+unread_no_fault answer read so e = by (subst (λ a. IsUnreadSession a read) e so)
   where
-    by : IsUnread status.WriteFault read → ⊥
+    by : IsUnreadSession status.WriteFault read → ⊥
     by never = never

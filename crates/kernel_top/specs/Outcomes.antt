@@ -34,7 +34,7 @@ status_of (Ok x) = status.Done
 status_of (Err stop.WriteFault) = status.WriteFault
 status_of (Err stop.NoMemory) = status.NoMemory
 
--- the status of a summary, by whether it was written
+-- the status of what is written last, by whether it was
 abbrev pub written_status : {T E : Type 0} → Result T E → Status
 written_status (Ok x) = status.Done
 written_status (Err e) = status.WriteFault

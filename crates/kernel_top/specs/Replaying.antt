@@ -95,11 +95,11 @@ ReplayedOn program _ script journal written before now = ⊥
 
 -- the source wasn't read to its end: it failed, memory was wanting, or it has more bytes than a session may
 -- have
-abbrev pub IsUnread : Status → (read : List ℕ) → Type 0
-IsUnread status.ReadFault read = Unit {0}
-IsUnread status.NoMemory read = Unit {0}
-IsUnread (status.Journal line) read = (line ≡ 0) × (longest_session < length read)
-IsUnread _ read = ⊥
+abbrev pub IsUnreadSession : Status → (read : List ℕ) → Type 0
+IsUnreadSession status.ReadFault read = Unit {0}
+IsUnreadSession status.NoMemory read = Unit {0}
+IsUnreadSession (status.Journal line) read = (line ≡ 0) × (longest_session < length read)
+IsUnreadSession _ read = ⊥
 
 -- SOURCES
 -- what became of the bytes read from a source, which has ended or was given up: this is so of them, or they
@@ -109,7 +109,7 @@ abbrev pub ReadAnd :
     Status → (read written : List ℕ) → (Ended : Type 0) → (before now : SinkState) → Type 0
 ReadAnd So answer read written Ended before now =
     (Ended × (length read ≤ longest_session) × So answer read written before now) ⊎
-    (IsUnwritten written before now × IsUnread answer read)
+    (IsUnwritten written before now × IsUnreadSession answer read)
 
 -- what the session or the transcript that a source holds came to
 pub record SourceSettled (So : Status → (read written : List ℕ) → (before now : SinkState) → Type 0)
@@ -126,7 +126,7 @@ pub record HasNoSession (answer : Status) (source source' : SourceState) : Type 
   pub read : List ℕ
   pub taken : Consumes source.left source'.left read
   pub few : length read ≤ longest_session + 1
-  pub unread : IsUnread answer read
+  pub unread : IsUnreadSession answer read
 
 -- how the first run over a journal ended, whose lines are thrown away
 abbrev pub Followed : Result (Unit {0}) Status → Program → Script → (journal : List Exchange) → Type 0

@@ -30,8 +30,8 @@ pub enum Status {
     Journal(u32),
     /// The session of the run is longer than 268,435,456 bytes. Nothing was written.
     JournalFull,
-    /// The run of the session's script doesn't end with all exchanges of its journal used up. The number is the
-    /// greatest of first exchanges that it goes through. Nothing was written.
+    /// The run of the session's script doesn't end with all exchanges of its journal used up. The number is how many of
+    /// the journal's first exchanges it goes through, at most. Nothing was written.
     Strayed(u32),
     /// The claimed lines aren't those of the run. The line is that of the first difference, from 1. Nothing was
     /// written.
@@ -52,7 +52,7 @@ pub(crate) fn status_of(ended: Result<(), Stop>) -> Status
     }
 }
 
-/// The status of a drill whose script was run, by whether the summary was written.
+/// The status of what is written last, by whether it was.
 pub(crate) fn written_status(written: Result<(), SinkFault>) -> Status
     ensures { result ≡ written_status written }
 {

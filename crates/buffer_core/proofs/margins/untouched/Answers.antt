@@ -1,4 +1,4 @@
-use Rattle.std.proofs.Common.{◌≡◌, ◌≤◌, length, ap, subst, sym, ◌∙◌, arith}
+use Rattle.std.proofs.Common.{◌≡◌, ◌+◌, ◌≤◌, length, drop, ap, subst, sym, ◌∙◌, arith}
 use Rattle.std.proofs.lemmas.List.{drop_all}
 use Rattle.text_model.specs.Undo.{trial}
 use Rattle.buffer_core.specs.Margins.{AllBetween}
@@ -25,7 +25,7 @@ loop-i-preserved c =
     let one = c.in_ok-left.ensures in
     let rest = tried_from es c.loop-i.i _ c.loop-i.left.size c.at.ensures c.loop-i.invariant.1 in (
       omega (arith, one.front, c.loop-i.invariant.0),
-      ap (λ n. trial 0 n _) one.size ∙ rest.1,
+      ap (λ n. trial 0 n (drop (c.loop-i.i + 1) es)) one.size ∙ rest.1,
       λ front behind f b between.
           c.loop-i.invariant.2 front behind (omega (arith, f, one.front)) (omega (arith, b, one.behind))
           (all_from es c.loop-i.i _ front behind c.loop-i.left.size _ c.at.ensures one.size (lies_between _ _ front behind c.loop-i.left.size _ f b one.between) between),

@@ -3,7 +3,7 @@ use Rattle.std.proofs.KnownBytes.{Appends-nil}
 use Rattle.kernel_state.specs.Whole.{program_with}
 use Rattle.kernel_top.specs.Reading.{IsAll}
 use Rattle.kernel_top.specs.Sessions.{longest_session}
-use Rattle.kernel_top.specs.Replaying.{IsUnread}
+use Rattle.kernel_top.specs.Replaying.{IsUnreadSession}
 use Rattle.kernel_top.specs.Checking.{Told}
 use Rattle.kernel_top.proofs.Replays.{source_settled, source_unread}
 use Rattle.kernel_top.proofs.Checks.{told_no_fault}
@@ -37,7 +37,7 @@ pub returns-in-Err-clause-read_fault : goal.returns-in-Err-clause-read_fault
 returns-in-Err-clause-read_fault g c = record { later = c.in-Err.ensures.cause.later; rose = λ e. c.in-Err.ensures.cause.rose (ap Err e) }
 
 pub returns-in-Err-clause-write_fault : goal.returns-in-Err-clause-write_fault
-returns-in-Err-clause-write_fault g c = record { later = omega arith; rose = λ e. absurd (subst (λ a. IsUnread a c.in-Err.ensures.none.read) e c.in-Err.ensures.none.unread) }
+returns-in-Err-clause-write_fault g c = record { later = omega arith; rose = λ e. absurd (subst (λ a. IsUnreadSession a c.in-Err.ensures.none.read) e c.in-Err.ensures.none.unread) }
 
 pub returns-in-Err-clause-unfailing : goal.returns-in-Err-clause-unfailing
 returns-in-Err-clause-unfailing g c = c.read_session.ensures.unfailing

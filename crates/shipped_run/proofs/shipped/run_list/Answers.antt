@@ -8,8 +8,8 @@ use Rattle.kernel_top.specs.Outcomes.{Came}
 use Rattle.shipped_run.proofs.Boxes.{are_done}
 use Rattle.shipped_run.proofs.shipped.run_list.Goals as goal
 
-pub returns : goal.returns
-returns g c =
+pub returns-clause-outcome : goal.returns-clause-outcome
+returns-clause-outcome g c =
     let names : List (List ℕ) = map (λ h. (goal.Handler-dyn g (h.vtable, h.value)).called h.value) c.new-natives.result.list.items in
     let does : Doing = λ i args past. done_by (λ h. (goal.Handler-dyn g (h.vtable, h.value)).does h.value args past) (slice_get c.new-natives.result.list.items i) in
     let so : Came g.H.Host.state g.H.Host.made (λ script. program_of script names does) (command_of (map string_bytes c.args.words.now)) c.run.result c.args.host.now c.run.new.host
