@@ -5,7 +5,7 @@ use Rattle.ek_types.specs.Io.{next_count}
 use Rattle.plain_machine.specs.Exchanges.{Ask, Answer, Exchange, Spawn, Started, Refused}
 use Rattle.host_link.specs.declared.host.Spawned.{Spawned}
 use Rattle.host_link.specs.declared.host.Spawned.TheVariants as spawned
-use Rattle.host_link.specs.Hosts.{is_fault, after_spawn, spawned_answer}
+use Rattle.host_link.specs.Hosts.{faults_after, after_spawn, spawned_answer}
 use Rattle.host_link.specs.Played.{PlayState, MemoryHostState, after_exchange, kills_after}
 
 -- an answer by the play of one child, as seen through the list of all plays
@@ -17,7 +17,7 @@ answer_as f fault left k d rest fails now e at = rw (e, at)
 pub host_after : (o s : MemoryHostState) (plays : List PlayState) (kills : List Bool) (ask : Ask) (answer reply : Answer)
     (p : List PlayState) (k : List Bool) (calls faults : ℕ) (before told : List Exchange)
     → o ≡ s → answer ≡ reply → p ≡ plays → k ≡ kills → calls ≡ next_count o.calls
-    → faults ≡ (if is_fault answer then next_count o.faults else o.faults) → before ≡ o.told → told ≡ before ++ record { ask = ask; answer = answer } ∷ []
+    → faults ≡ faults_after answer o.faults → before ≡ o.told → told ≡ before ++ record { ask = ask; answer = answer } ∷ []
     → (let h : MemoryHostState = record { plays = p; kills = k; fails = o.fails; calls = calls; faults = faults; told = told } in h) ≡ after_exchange s plays kills ask reply
 host_after o s plays kills ask answer reply p k calls faults before told same as_reply as_plays as_kills as_calls as_faults as_before as_told =
     rw (← same, ← as_reply, as_plays, as_kills, as_calls, as_faults, as_told, as_before)

@@ -1,8 +1,8 @@
 -- What a host means, and what one call does to it.
 use Rattle.std.specs.Prelude.{◌≡◌, ℕ, ◌≤◌, Bool, true, false, IsTrue, List, [], ◌∷◌, ◌++◌, take, Option}
-use Rattle.std.specs.Prelude.{Result, MatchResult}
+use Rattle.std.specs.Prelude.{Result, MatchResult, if◌then◌else◌}
 use Rattle.std.specs.Option.{option_map}
-use Rattle.ek_types.specs.Io.{HasCause}
+use Rattle.ek_types.specs.Io.{HasCause, next_count}
 use Rattle.plain_machine.specs.Exchanges as model
 use Rattle.plain_machine.specs.Exchanges.{Exchange}
 use Rattle.host_link.specs.declared.host.Spawned.{Spawned}
@@ -55,6 +55,10 @@ is_fault model.Refused = true
 is_fault model.Broken = true
 is_fault model.Failed = true
 is_fault _ = false
+
+-- the count of faults behind an answer: one that is a fault counts once
+abbrev pub faults_after : model.Answer → ℕ → ℕ
+faults_after answer faults = if is_fault answer then next_count faults else faults
 
 -- the children after a spawn
 abbrev pub after_spawn : List Bool → Spawned → List Bool

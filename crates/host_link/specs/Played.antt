@@ -6,7 +6,7 @@ use Rattle.ek_types.specs.MemoryIo.{fails_at}
 use Rattle.plain_machine.specs.Exchanges.{Ask, Answer, Exchange, Spawn, Read, AskEnd, Send, Close, Kill}
 use Rattle.plain_machine.specs.Exchanges.{Started, Refused, Bytes, Nothing, End, Code, Signal, Running}
 use Rattle.plain_machine.specs.Exchanges.{Sent, Broken, Closed, Killed, Failed}
-use Rattle.host_link.specs.Hosts.{HostState, is_fault}
+use Rattle.host_link.specs.Hosts.{HostState, faults_after}
 
 -- what a child still answers to reads, and to the question how it ended
 pub record PlayState : Type 0 where
@@ -107,7 +107,7 @@ after_exchange s plays kills ask answer = record {
   kills = kills;
   fails = s.fails;
   calls = next_count s.calls;
-  faults = if is_fault answer then next_count s.faults else s.faults;
+  faults = faults_after answer s.faults;
   told = s.told ++ record { ask = ask; answer = answer } ∷ [];
 }
 

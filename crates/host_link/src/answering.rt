@@ -1,9 +1,8 @@
 //! Answers as exchanges tell them.
-ghost use Rattle.std.specs.Prelude.{◌≡◌, ◌≤◌, [], length, if◌then◌else◌};
-ghost use Rattle.ek_types.specs.Io.{next_count};
+ghost use Rattle.std.specs.Prelude.{◌≡◌, ◌≤◌, [], length};
 ghost use Rattle.ek_types.specs.Listing.{items_of, spare_of};
 ghost use Rattle.host_link.specs.Meaning.{answer_of};
-ghost use Rattle.host_link.specs.Hosts.{Fits, is_fault, spawned_answer, got_answer, ended_answer};
+ghost use Rattle.host_link.specs.Hosts.{Fits, faults_after, spawned_answer, got_answer, ended_answer};
 ghost use Rattle.host_link.specs.Hosts.{send_answer, kill_answer};
 
 use crate::asking::{Answer, ByteList, list_of};
@@ -86,7 +85,7 @@ pub fn answer_to_kill(killed: KillAnswer) -> Answer
 
 /// The count of faults after an answer.
 pub fn faults_after(faults: u64, answer: &Answer) -> u64
-    ensures { result ≡ (if is_fault (answer_of answer.now) then next_count faults else faults) }
+    ensures { result ≡ faults_after (answer_of answer.now) faults }
 {
     match answer {
         Answer::Refused | Answer::Broken | Answer::Failed => faults.saturating_add(1),

@@ -64,6 +64,7 @@ impl Log {
         ensures told { self.new.told ≡ self.old.told }
         ensures due { self.new.due ≡ self.old.due }
         ensures room { OnOk result (n ≤ self.new.places) }
+        ensures kept { self.old.places ≤ self.new.places }
     {
         let places = self.due.checked_add(n).ok_or(NoMemory)?;
         self.list.reserve(places)
@@ -90,6 +91,7 @@ impl Log {
           answer = answer_of answer;
         } ∷ [] }
         ensures due { self.new.due ≡ self.old.due + due_by spawned }
+        ensures places { self.new.places + (1 + due_by spawned) ≡ self.old.places }
     {
         self.put(ask, answer);
         self.owe(spawned);
@@ -100,6 +102,7 @@ impl Log {
         requires { 0 < self.old.places }
         ensures told { self.new.told ≡ self.old.told }
         ensures due { self.new.due ≡ self.old.due + due_by spawned }
+        ensures places { self.new.places + due_by spawned ≡ self.old.places }
     {
         match spawned {
             Spawned::Started(_) => self.due += 1,
@@ -115,6 +118,7 @@ impl Log {
           answer = answer_of answer;
         } ∷ [] }
         ensures due { self.new.due + 1 ≡ self.old.due }
+        ensures places { self.new.places ≡ self.old.places }
     {
         self.due -= 1;
         self.put(ask, answer);

@@ -7,7 +7,7 @@ use Rattle.std.proofs.lemmas.Option.{slice_get_within}
 use Rattle.plain_machine.specs.Exchanges.{Ask, Answer, Exchange, Spawn, Read, AskEnd, Send, Close, Kill, Started, Refused, Bytes, Nothing, End, Code, Signal, Running, Sent, Broken, Closed, Killed, Failed, children_started, started_by}
 use Rattle.host_link.specs.declared.host.Spawned.{Spawned}
 use Rattle.host_link.specs.declared.host.Spawned.TheVariants as spawned
-use Rattle.host_link.specs.Hosts.{spawned_answer, is_fault, IsNumbered, Exchanged}
+use Rattle.host_link.specs.Hosts.{spawned_answer, is_fault, faults_after, IsNumbered, Exchanged}
 use Rattle.host_link.specs.Played.{kills_after}
 use Rattle.host_link.specs.Logged.{due_by}
 use Rattle.journal_text.specs.Allowed.{IsAnswerTo, IsSpawned, AreAnswered, next_after}
@@ -112,7 +112,7 @@ numbered spawned.Refused answer next n e h k = tt
 -- the host after an exchange, by its parts; `o` is what it was
 pub replay_after : (o s : ReplayState) (follows : Bool) (ask : Ask) (answer reply : Answer) (asked : Ask) (matched : ℕ) (strayed : Bool) (kills : List Bool) (faults : ℕ) (told : List Exchange)
     → o ≡ s → ask ≡ asked → answer ≡ reply → matched ≡ (if follows then o.matched + 1 else o.matched) → strayed ≡ not follows → kills ≡ kills_after o.kills asked reply
-    → faults ≡ (if is_fault answer then next_count o.faults else o.faults) → told ≡ o.told ++ record { ask = ask; answer = answer } ∷ []
+    → faults ≡ faults_after answer o.faults → told ≡ o.told ++ record { ask = ask; answer = answer } ∷ []
     → (let r : ReplayState = record { list = o.list; matched = matched; strayed = strayed; kills = kills; faults = faults; told = told } in r) ≡ after_exchange s follows asked reply
 replay_after o s follows ask answer reply asked matched strayed kills faults told same as_ask as_reply as_matched as_strayed as_kills as_faults as_told =
     rw (← same, ← as_ask, ← as_reply, as_matched, as_strayed, as_faults, as_told) (rw (as_kills, as_ask, as_reply) refl)

@@ -1,11 +1,10 @@
 -- A host that answers as a list of exchanges has it: what it means, and what a call does to it.
 use Rattle.std.specs.Prelude.{◌≡◌, ℕ, ◌+◌, ◌≤◌, Bool, true, false, not, if◌then◌else◌, List, [], ◌∷◌}
 use Rattle.std.specs.Prelude.{◌++◌, length, take, slice_get, Some}
-use Rattle.ek_types.specs.Io.{next_count}
 use Rattle.plain_machine.specs.Exchanges.{Ask, Answer, Exchange, Spawn, Read, AskEnd, Send, Close, Kill}
 use Rattle.plain_machine.specs.Exchanges.{Refused, Bytes, Broken, Closed, Failed, children_started}
 use Rattle.plain_machine.specs.Exchanges.{started_by}
-use Rattle.host_link.specs.Hosts.{HostState, is_fault}
+use Rattle.host_link.specs.Hosts.{HostState, faults_after}
 use Rattle.host_link.specs.Played.{kills_after}
 use Rattle.journal_text.specs.Allowed.{IsAnswerTo}
 
@@ -78,7 +77,7 @@ after_exchange s follows ask answer = record {
   matched = if follows then s.matched + 1 else s.matched;
   strayed = not follows;
   kills = kills_after s.kills ask answer;
-  faults = if is_fault answer then next_count s.faults else s.faults;
+  faults = faults_after answer s.faults;
   told = s.told ++ record { ask = ask; answer = answer } ∷ [];
 }
 

@@ -1,9 +1,7 @@
 //! How far a replay has come.
 ghost use Rattle.std.specs.Prelude.{◌≡◌, ◌+◌, ◌<◌, ◌≤◌, ◌^◌, [], ◌∷◌, ◌++◌, length, false, not, IfOk, OnOk};
-ghost use Rattle.std.specs.Prelude.{if◌then◌else◌};
-ghost use Rattle.ek_types.specs.Io.{next_count};
 ghost use Rattle.host_link.specs.Meaning.{ask_of, answer_of, exchanges_of};
-ghost use Rattle.host_link.specs.Hosts.{is_fault};
+ghost use Rattle.host_link.specs.Hosts.{faults_after};
 ghost use Rattle.journal_text.specs.Allowed.{AreAnswered};
 ghost use Rattle.journal_text.specs.Replayed.{Replied};
 
@@ -62,8 +60,7 @@ impl Course {
         ensures counted { self.old.faults < 2 ^ 64 }
         ensures matched { self.new.matched ≡ reply.matched }
         ensures strayed { self.new.strayed ≡ not reply.follows }
-        ensures faults { self.new.faults ≡
-            (if is_fault (answer_of reply.answer) then next_count self.old.faults else self.old.faults) }
+        ensures faults { self.new.faults ≡ faults_after (answer_of reply.answer) self.old.faults }
         ensures told { self.new.told.told ≡ self.old.told.told ++ record {
           ask = ask_of ask;
           answer = answer_of reply.answer;

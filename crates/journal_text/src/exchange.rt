@@ -20,10 +20,7 @@ fn child(bytes: &[u8]) -> Option<(u32, &[u8])>
     ensures { option_map (λ r. (r.0, r.1.now)) result ≡ child_at bytes.now }
 {
     let (child, rest) = number(bytes)?;
-    match behind(b" -> ", rest) {
-        Some(rest) => Some((child, rest)),
-        None => None,
-    }
+    Some((child, behind(b" -> ", rest)?))
 }
 
 /// A blank and some bytes.
@@ -112,20 +109,14 @@ fn fixed<'a>(answer: Answer, text: &[u8], bytes: &'a [u8]) -> Option<(Answer, &'
     ensures { option_map (λ r. (answer_of r.0, r.1.now)) result ≡
         fixed_at (answer_of answer) text.now bytes.now }
 {
-    match behind(text, bytes) {
-        Some(rest) => Some((answer, rest)),
-        None => None,
-    }
+    Some((answer, behind(text, bytes)?))
 }
 
 /// An answer of which all but the line's end was read.
 fn with_end(answer: Answer, bytes: &[u8]) -> Option<(Answer, &[u8])>
     ensures { option_map (λ r. (answer_of r.0, r.1.now)) result ≡ then_end (answer_of answer, bytes.now) }
 {
-    match behind(b"\n", bytes) {
-        Some(rest) => Some((answer, rest)),
-        None => None,
-    }
+    fixed(answer, b"\n", bytes)
 }
 
 /// The answer to a spawn, where the next child has this number.

@@ -77,10 +77,7 @@ fn has_no_zero(bytes: &[u8]) -> bool
 fn is_utf8(bytes: &[u8]) -> bool
     ensures { result ≡ is_utf8 bytes.now }
 {
-    match std::str::from_utf8(bytes) {
-        Ok(_) => true,
-        Err(_) => false,
-    }
+    std::str::from_utf8(bytes).is_ok()
 }
 
 /// Whether bytes are UTF-8 without the character 0.

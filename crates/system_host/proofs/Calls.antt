@@ -3,8 +3,8 @@ use Rattle.std.proofs.Common.{◌≡◌, ◌≢◌, ◌<◌, ℕ, zero, suc, Boo
 use Rattle.std.specs.declared.vec.Vec.{Vec}
 use Rattle.ek_types.specs.Io.{HasCause}
 use Rattle.plain_machine.specs.Exchanges.{Answer}
-use Rattle.host_link.specs.Hosts.{is_fault}
-use Rattle.system_host.specs.Answers.{faults_after, OthersStay}
+use Rattle.host_link.specs.Hosts.{is_fault, faults_after}
+use Rattle.system_host.specs.Answers.{OthersStay}
 
 pub slice_get-slice_set_same : {C : Type 0} (children : List C) (child : ℕ) (c : C) → child < length children → slice_get (slice_set children child c) child ≡ Some c
 slice_get-slice_set_same [] child c there = absurd (omega arith)

@@ -1,6 +1,6 @@
 -- What real children answer, and what each call did to them.
 use Rattle.std.specs.Prelude.{◌≡◌, ◌≢◌, ◌≤◌, ℕ, List, [], ◌∷◌, ◌++◌, length, slice_get, Bool, Option}
-use Rattle.std.specs.Prelude.{Some, None, IsSome, IfSome, if◌then◌else◌}
+use Rattle.std.specs.Prelude.{Some, None, IsSome, IfSome}
 use Rattle.std.specs.Option.{option_and_then}
 use Rattle.std.specs.Io.KnownBytes.{Appends, Consumes, Keeps, IsAtEnd}
 use Rattle.std.specs.Process.{child_status, exit_code}
@@ -9,8 +9,7 @@ use Rattle.std.specs.declared.process.status.ExitStatus.{ExitStatus}
 use Rattle.plain_machine.specs.Exchanges.{Ask, Answer, Spawn, Read, AskEnd, Send, Close, Kill, Started}
 use Rattle.plain_machine.specs.Exchanges.{Refused, Bytes, End, Code, Signal, Sent, Broken, Closed}
 use Rattle.plain_machine.specs.Exchanges.{Killed, Failed}
-use Rattle.ek_types.specs.Io.{next_count}
-use Rattle.host_link.specs.Hosts.{HostState, is_fault}
+use Rattle.host_link.specs.Hosts.{HostState, faults_after}
 
 -- THE HOST
 -- the children that were started, by number; for each whether it was asked Kill; and how many calls failed
@@ -22,10 +21,6 @@ pub record Children (C : Type 0) : Type 0 where
 -- a host of real children tells no exchanges
 abbrev pub untold : {C : Type 0} → Children C → HostState
 untold h = record { told = None; faults = h.faults; kills = h.kills }
-
--- the count of faults behind an exchange: each answer that is a fault counts once
-abbrev pub faults_after : (answer : Answer) → ℕ → ℕ
-faults_after answer faults = if is_fault answer then next_count faults else faults
 
 -- A CHILD BY ITS NUMBER
 -- a part of a child, if it was started and has that part

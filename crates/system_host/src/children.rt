@@ -4,8 +4,9 @@
 //! `Nothing` or `Running`. It tells no exchanges. A child that is killed, or that has ended when it is asked, is
 //! reaped.
 //!
-//! The lines so far are handed on before each call but a kill. Where that fails no child is asked, and the answer is a
-//! fault; only an input is closed all the same. The next line can't be written then, which ends the run.
+//! The lines so far are handed on before each call that starts or asks a child, but a kill. A read of an output that is
+//! closed, and a send to an input that is, ask nothing. Where the lines can't be handed on no child is asked, and the
+//! answer is a fault; only an input is closed all the same. The next line can't be written then, which ends the run.
 ghost use Rattle.std.specs.Prelude.{◌≡◌, ◌<◌, ◌-◌, ◌^◌, ℕ, List, [], map, length, None, Some, false, true};
 ghost use Rattle.std.specs.Prelude.{vec_len, vec_capacity, slice_get, slice_set, string_bytes, IsSome, IsTrue, IfSome, IfOk, OnOk, OnErr};
 ghost use Rattle.std.specs.Io.KnownBytes.{Keeps};
