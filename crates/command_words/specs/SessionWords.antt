@@ -6,7 +6,7 @@ use Rattle.text_model.specs.Names.{same_word}
 use Rattle.plain_machine.specs.Words.{is_digit, digits_value}
 
 -- what the words want
-pub record Wanted : Type 0 where
+pub record SessionWords : Type 0 where
   pub limit : ℕ
   pub program : List ℕ
   pub args : List (List ℕ)
@@ -29,12 +29,12 @@ abbrev pub are_session_words : (word number program : List ℕ) → (args : List
 are_session_words word number program args =
     same_word word (codes "session") && (is_limit number && is_command program args)
 
-abbrev pub session_of : List (List ℕ) → Option Wanted
+abbrev pub session_of : List (List ℕ) → Option SessionWords
 session_of (word ∷ number ∷ program ∷ args) =
     if are_session_words word number program args
     then Some (record { limit = digits_value 0 number; program = program; args = args }) else None
 session_of _ = None
 
 -- the words are those of this session
-abbrev pub IsSession : List (List ℕ) → Wanted → Type 0
+abbrev pub IsSession : List (List ℕ) → SessionWords → Type 0
 IsSession words wanted = session_of words ≡ Some wanted

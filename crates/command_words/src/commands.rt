@@ -2,7 +2,7 @@
 ghost use Rattle.std.specs.Prelude.{◌≡◌, map, string_bytes};
 ghost use Rattle.command_words.specs.Commands.{command_alone, command_of};
 
-use crate::session_words::{Wanted, session_of};
+use crate::session_words::{SessionWords, session_of};
 use crate::words::drill_of;
 
 /// What the words behind the program's name ask for.
@@ -21,7 +21,7 @@ pub enum Command<'a> {
     /// `drill` and a number of one to four digits, which is this one.
     Drill(u32),
     /// `session` with a number of restarts, a program and its words, that want this.
-    Session(Wanted<'a>),
+    Session(SessionWords<'a>),
 }
 
 /// What the words behind the program's name ask for, where the program knows them. It takes no memory.

@@ -6,5 +6,5 @@ mod session_words;
 mod words;
 
 pub use commands::{Command, command_of};
-pub use session_words::Wanted;
+pub use session_words::SessionWords;
 pub use words::drill_of;

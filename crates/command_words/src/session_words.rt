@@ -9,7 +9,7 @@ use std::marker::Model;
 /// What the words of a session want. Those of a command line want at most 255 restarts, a program that isn't empty, and
 /// at most 61 words for it, none of which has a code 0.
 #[derive(Drop)]
-pub struct Wanted<'a> {
+pub struct SessionWords<'a> {
     /// How often the program may be restarted.
     pub limit: u32,
     /// The program, by its name.
@@ -18,11 +18,11 @@ pub struct Wanted<'a> {
     pub args: &'a [String],
 }
 
-impl<'a> Model for Wanted<'a> {
+impl<'a> Model for SessionWords<'a> {
     ghost use Rattle.std.specs.Prelude.{map, string_bytes};
     ghost use Rattle.command_words.specs.SessionWords as meaning;
 
-    ghost Value = { meaning.Wanted };
+    ghost Value = { meaning.SessionWords };
 
     ghost view = { λ w. record {
       limit = w.limit;
@@ -32,7 +32,7 @@ impl<'a> Model for Wanted<'a> {
 }
 
 /// What the words behind the program's name want, where they are those of a session.
-pub(crate) fn session_of(words: &[String]) -> Option<Wanted<'_>>
+pub(crate) fn session_of(words: &[String]) -> Option<SessionWords<'_>>
     ensures { result ≡ session_of (map string_bytes words.now) }
 {
     match words {
@@ -52,12 +52,12 @@ fn in_parts<'a>(
     number: &str,
     program: &'a str,
     args: &'a [String],
-) -> Option<Wanted<'a>>
+) -> Option<SessionWords<'a>>
     ensures { result ≡
         session_of (word.now ∷ number.now ∷ program.now ∷ map string_bytes args.now) }
 {
     if word == "session" && is_limit(number.as_bytes()) && is_command(program.as_bytes(), args) {
-        Some(Wanted {
+        Some(SessionWords {
             limit: value(number.as_bytes()),
             program,
             args,

@@ -23,30 +23,21 @@ pub(crate) enum Wanted {
 fn is_buffer(value: &Value) -> bool
     ensures { result ≡ is_wanted ABuffer (view value.now) }
 {
-    match value {
-        Value::Buffer(_) => true,
-        _ => false,
-    }
+    matches!(value, Value::Buffer(_))
 }
 
 /// Whether a value is a marker.
 fn is_marker(value: &Value) -> bool
     ensures { result ≡ is_wanted AMarker (view value.now) }
 {
-    match value {
-        Value::Marker(_) => true,
-        _ => false,
-    }
+    matches!(value, Value::Marker(_))
 }
 
 /// Whether a value is a number.
 fn is_number(value: &Value) -> bool
     ensures { result ≡ is_wanted ANumber (view value.now) }
 {
-    match value {
-        Value::Int(_) => true,
-        _ => false,
-    }
+    matches!(value, Value::Int(_))
 }
 
 /// Whether a reply is an answer of the kind that is wanted.
@@ -111,11 +102,8 @@ pub(crate) fn answer(past: &Replies, i: usize) -> Option<&Value>
 pub(crate) fn number(value: Option<&Value>) -> i64
     ensures { result ≡ number_of (unwrap_or (option_map (λ v. view v.now) value.entry) Nil) }
 {
-    let Some(value) = value else {
-        return 0;
-    };
     match value {
-        Value::Int(i) => *i,
+        Some(Value::Int(i)) => *i,
         _ => 0,
     }
 }

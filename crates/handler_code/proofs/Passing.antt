@@ -1,5 +1,5 @@
 -- A test of each item of a list, as a loop makes it.
-use Rattle.std.proofs.Common.{◌≡◌, ◌≤◌, ℕ, ◌+◌, Bool, true, false, ◌&&◌, List, [], ◌∷◌, length, drop, map, refl, ap, ◌∙◌, slice_get, Some}
+use Rattle.std.proofs.Common.{◌≡◌, ◌≤◌, ◌<◌, ℕ, zero, suc, ◌+◌, ◌-◌, arith, Bool, true, false, ◌&&◌, List, [], ◌∷◌, length, drop, map, refl, ap, ◌∙◌, slice_get, Some}
 use Rattle.std.specs.Prelude.{option_map, Option, None}
 use Rattle.std.specs.List.{list_all}
 use Rattle.std.proofs.lemmas.List.{drop_all}
@@ -32,3 +32,17 @@ part_at {A = A} {B = B} xs i b is = go (slice_get xs i) is
     go : (o : Option (A × B)) → option_map (λ x. x.1) o ≡ Some b → (a : A) × (o ≡ Some (a, b))
     go None e = cc
     go (Some x) e = (x.0, ap (λ y. Some (x.0, y)) (same_Some x.1 b e))
+
+-- a stretch of pairs whose second part is one that passes
+pub all_alike : {A B : Type 0} (p : B → Bool) (xs : List (A × B)) (b : B) (i end : ℕ) → i ≤ end → ((j : ℕ) → i ≤ j → j < end → option_map (λ x. x.1) (slice_get xs j) ≡ Some b) → p b ≡ true →
+    list_all (λ x. p x.1) xs ≡ list_all (λ x. p x.1) (drop i xs) → list_all (λ x. p x.1) xs ≡ list_all (λ x. p x.1) (drop end xs)
+all_alike {A = A} {B = B} p xs b i end order same passes so_far = go (end - i) (omega (arith, order)) ∙ from (omega (arith, order))
+  where
+    from : {j k : ℕ} → j ≡ k → list_all (λ (x : A × B). p x.1) (drop j xs) ≡ list_all (λ (x : A × B). p x.1) (drop k xs)
+    from e = ap (λ n. list_all (λ (x : A × B). p x.1) (drop n xs)) e
+
+    go : (n : ℕ) → i + n ≤ end → list_all (λ (x : A × B). p x.1) xs ≡ list_all (λ (x : A × B). p x.1) (drop (i + n) xs)
+    go zero h = so_far ∙ from (omega arith)
+    go (suc n) h =
+        let at = part_at xs (i + n) b (same (i + n) (omega arith) (omega (arith, h))) in
+        all_more (λ (x : A × B). p x.1) xs (i + n) (at.0, b) at.1 (go n (omega (arith, h))) passes ∙ from (omega arith)

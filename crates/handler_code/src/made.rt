@@ -67,10 +67,12 @@ impl Made {
     fn has_text(&self, text: &Piece) -> bool
         ensures { result ≡ list_all (λ c. set_was_made (program_with self.now) c.1) text.now }
     {
-        for i in 0..text.len() {
-            if !self.has_properties(text.props(i)) {
+        let mut at = 0;
+        while at < text.len() {
+            if !self.has_properties(text.props(at)) {
                 return false;
             }
+            at = text.run_end(at);
         }
         true
     }

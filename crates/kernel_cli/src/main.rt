@@ -5,7 +5,7 @@
 ghost use Rattle.std.specs.Prelude.{◌≡◌, ◌^◌, ◌≤◌, [], Some, length};
 
 use host_link::{Host, Recorder};
-use kernel_top::{drill, drill_of};
+use kernel_top::{drill_of, host_of_drill};
 use shipped_run::{Failure, result_of, run_shipped};
 use std::env;
 use std::io::{self, ErrorKind, Write};
@@ -55,7 +55,7 @@ fn work(rt: &HostRuntime) -> Result<(), Failure> {
     let output = Output::new(rt.alloc(), io::writer(rt)).map_err(|_| Failure::Memory)?;
     match drill_of(words.as_slice()) {
         Some(lines) => {
-            let (_, host) = drill(rt.alloc(), lines).map_err(|_| Failure::Memory)?;
+            let host = host_of_drill(rt.alloc(), lines).map_err(|_| Failure::Memory)?;
             work_over(rt, words.as_slice(), &output, host)
         }
         None => {

@@ -15,7 +15,7 @@ use Rattle.host_link.specs.Hosts.{HostState}
 use Rattle.kernel_steps.specs.Outcomes.{EndsAs}
 use Rattle.kernel_steps.specs.declared.stop.Stop.{Stop}
 use Rattle.kernel_steps.specs.declared.stop.Stop.TheVariants as stop
-use Rattle.command_words.specs.SessionWords.{Wanted}
+use Rattle.command_words.specs.SessionWords.{SessionWords}
 use Rattle.kernel_top.specs.Reading.{HasEnded, IsAll}
 use Rattle.kernel_top.specs.Scripts.{HasNoScript, IsNoScript, IsUnreadScript, IsLeftUnread}
 use Rattle.kernel_top.specs.Drills.{SumsUp}
@@ -221,7 +221,7 @@ drill_reads_nothing hosted made program count answer start now sink sink' source
     subst (λ a. OnDrill program count a of.written of.exchanges (seen source sink (hosted start)) (seen source sink' (hosted now))) e (of.so source source)
 
 -- nor does a line session
-pub session_reads_nothing : {H : Type 0} (hosted : H → HostState) (made : H → H → Ask → ℕ → Answer → Type 0) (wanted : Wanted) (answer : Status) (start now : H) (sink sink' : SinkState) (source : SourceState) →
+pub session_reads_nothing : {H : Type 0} (hosted : H → HostState) (made : H → H → Ask → ℕ → Answer → Type 0) (wanted : SessionWords) (answer : Status) (start now : H) (sink sink' : SinkState) (source : SourceState) →
     CameSo hosted made start now sink sink' (OnSession wanted answer) → answer ≡ status.ReadFault → ⊥
 session_reads_nothing hosted made wanted answer start now sink sink' source of e =
     let row : OnSession wanted status.ReadFault of.written of.exchanges (seen source sink (hosted start)) (seen source sink' (hosted now)) =
@@ -340,7 +340,7 @@ module _ (program : Script → Program) (read written : List ℕ) (exchanges : L
   drill_row n (status.Differs line) o w = λ unwritten. o
   drill_row n status.SessionFull o w = λ unwritten. o
 
-  session_row : (n : Wanted) (result : Status) → OnSession n result written exchanges before now → (result ≡ status.WriteFault → Rose sink.faults sink'.faults) → (Rose sink.faults sink'.faults → ⊥) → EndsOrFills result
+  session_row : (n : SessionWords) (result : Status) → OnSession n result written exchanges before now → (result ≡ status.WriteFault → Rose sink.faults sink'.faults) → (Rose sink.faults sink'.faults → ⊥) → EndsOrFills result
   session_row n status.Done o w = λ unwritten. tt
   session_row n status.NoMemory o w = λ unwritten. tt
   session_row n status.Usage o w = λ unwritten. o.gathered.text

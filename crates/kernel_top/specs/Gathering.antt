@@ -13,21 +13,21 @@ use Rattle.ek_types.specs.Io.{SinkState, IsPrefixOf}
 use Rattle.line_session.specs.Handlers.{session_names, session_does}
 use Rattle.line_session.specs.Script.{command_of, session_script}
 use Rattle.session_laws.specs.Sessions.{characters_gathered, is_full, TextBy}
-use Rattle.command_words.specs.SessionWords.{Wanted}
+use Rattle.command_words.specs.SessionWords.{SessionWords}
 use Rattle.kernel_top.specs.Unseen.{IsWhole}
 use Rattle.kernel_top.specs.declared.status.Status.{Status}
 use Rattle.kernel_top.specs.declared.status.Status.TheVariants as status
 
 -- THE RUN
 -- the arguments of each start of the child
-abbrev pub command_wanted : Wanted → List Value
+abbrev pub command_wanted : SessionWords → List Value
 command_wanted wanted = command_of wanted.program wanted.args
 
-abbrev pub script_wanted : Wanted → Script
+abbrev pub script_wanted : SessionWords → Script
 script_wanted wanted = session_script (command_wanted wanted)
 
 -- the script's run has the two natives of the session as handlers, and no others
-abbrev pub program_wanted : Wanted → Program
+abbrev pub program_wanted : SessionWords → Program
 program_wanted wanted =
     program_of (script_wanted wanted) session_names (session_does wanted.limit (command_wanted wanted))
 

@@ -14,7 +14,7 @@ use Rattle.kernel_steps.specs.HostCalls.{CallsSince, Tells}
 use Rattle.kernel_steps.specs.Outcomes.{RanScript, StoppedScript}
 use Rattle.kernel_steps.specs.declared.stop.Stop.{Stop}
 use Rattle.kernel_steps.specs.declared.stop.Stop.TheVariants as stop
-use Rattle.command_words.specs.SessionWords.{Wanted}
+use Rattle.command_words.specs.SessionWords.{SessionWords}
 use Rattle.kernel_top.specs.Reading.{HasEnded}
 use Rattle.kernel_top.specs.Scripts.{HasNoScript}
 use Rattle.kernel_top.specs.Drills.{SumsUp, BreaksOff}
@@ -187,8 +187,8 @@ OnGathering program script answer written exchanges before now =
 -- The words `session`, a number, a program and its words: besides, what is written are the lines of the
 -- exchanges, and the child was started again at most so often, each time behind an end otherwise than by
 -- code 0.
-pub record OnSession (wanted : Wanted) (answer : Status) (written : List ℕ) (exchanges : List Exchange)
-    (before now : Seen) : Type 0 where
+pub record OnSession (wanted : SessionWords) (answer : Status) (written : List ℕ)
+    (exchanges : List Exchange) (before now : Seen) : Type 0 where
   pub gathered : OnGathering (program_wanted wanted) (script_wanted wanted) answer written exchanges before now
   pub lined : Lined answer written exchanges
   pub starts : StartsInTurn wanted.limit exchanges

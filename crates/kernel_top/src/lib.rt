@@ -16,6 +16,6 @@ mod viewing;
 
 pub use command_words::drill_of;
 pub use laws::a_recorded_run_is_replayed;
-pub use line_drill::drill;
+pub use line_drill::{drill, host_of_drill};
 pub use status::Status;
 pub use top::run;

@@ -11,7 +11,7 @@ ghost use Rattle.kernel_top.specs.Outcomes.{CameSo, OnGathering, OnSession};
 use crate::gathered::{buffer_name, write_gathered};
 use crate::status::Status;
 use crate::unseen::run_unseen_on;
-use command_words::Wanted;
+use command_words::SessionWords;
 use ek_call::Script;
 use ek_types::{Chars, Sink};
 use handler_code::Natives;
@@ -74,7 +74,7 @@ fn gather_alone<K: Sink, H: Host, N: Natives>(
 /// Then it writes what was gathered.
 pub(crate) fn run_session<K: Sink, H: Host>(
     alloc: Global,
-    wanted: &Wanted<'_>,
+    wanted: &SessionWords<'_>,
     sink: &mut K,
     host: &mut H,
 ) -> Status

@@ -8,7 +8,7 @@ ghost use Rattle.host_link.specs.Cursors.{whole_play};
 ghost use Rattle.line_drill.specs.DrillHost.{drill_play};
 
 use ek_types::{ListOf, Mem};
-use host_link::{Answer, Answers, ByteList, Play};
+use host_link::{Answer, Answers, Play, list_of};
 use itoa::Buffer;
 use std::alloc::Global;
 
@@ -25,16 +25,6 @@ fn output(alloc: Global, lines: u32) -> Mem<Vec<u8>>
     Ok(all)
 }
 
-fn byte_list(alloc: Global, bytes: &[u8]) -> Mem<ByteList>
-    ensures { IfOk result (λ list. items_of list ≡ bytes.now) }
-{
-    let mut list = ListOf::new(alloc);
-    for byte in bytes {
-        list.push(*byte)?;
-    }
-    Ok(list)
-}
-
 /// What its reads give: pieces of 1, 2, 3, 4, 5, 6, 7, 1, 2 and so on bytes, the last as long as what remains.
 fn reads(alloc: Global, output: &[u8]) -> Mem<Answers>
     ensures { IfOk result (λ reads. map answer_of (items_of reads) ≡
@@ -45,7 +35,7 @@ fn reads(alloc: Global, output: &[u8]) -> Mem<Answers>
     let mut size = 1;
     while !left.is_empty() {
         let (piece, behind) = left.split_at(size.min(left.len()));
-        reads.push(Answer::Bytes(byte_list(alloc, piece)?))?;
+        reads.push(Answer::Bytes(list_of(alloc, piece)?))?;
         left = behind;
         size = size % 7 + 1;
     }

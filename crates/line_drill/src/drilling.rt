@@ -29,13 +29,19 @@ pub fn script_of_drill(alloc: Global, lines: u32) -> Mem<Script>
     script(alloc, child.reads.len())
 }
 
+/// A new host with the one child of the drill of so many lines, of which no call fails.
+pub fn host_of_drill(alloc: Global, lines: u32) -> Mem<MemoryHost>
+    ensures { IfOk result (λ host. host ≡ drill_host lines) }
+{
+    host(alloc, child(alloc, lines)?)
+}
+
 /// The script of the drill of so many lines, and a new host with its one child, of which no call fails.
 pub fn drill(alloc: Global, lines: u32) -> Mem<(Script, MemoryHost)>
     ensures script { IfOk result (λ made. script_of made.0 ≡ drill_script lines) }
     ensures host { IfOk result (λ made. made.1 ≡ drill_host lines) }
 {
-    let child = child(alloc, lines)?;
-    let script = script(alloc, child.reads.len())?;
-    let host = host(alloc, child)?;
+    let script = script_of_drill(alloc, lines)?;
+    let host = host_of_drill(alloc, lines)?;
     Ok((script, host))
 }

@@ -5,4 +5,4 @@ mod drill_child;
 mod drill_script;
 mod drilling;
 
-pub use drilling::{drill, script_of_drill};
+pub use drilling::{drill, host_of_drill, script_of_drill};

@@ -1,6 +1,8 @@
 //! The start of a child once more.
-ghost use Rattle.std.specs.Prelude.{◌≡◌, ◌∷◌, [], Some, unwrap_or, IfOk};
+ghost use Rattle.std.specs.Prelude.{◌≡◌, ◌∷◌, [], Some, map, unwrap_or, IfOk};
 ghost use Rattle.std.specs.Option.{option_map};
+ghost use Rattle.text_model.specs.Characters.{Scalar};
+ghost use Rattle.text_model.specs.Properties.{same_ch, same_list};
 ghost use Rattle.editor_model.specs.Arguments.{arg};
 ghost use Rattle.editor_model.specs.Values.{Nil, Str, StartProcess};
 ghost use Rattle.ek_call.specs.Meaning.{view};
@@ -13,7 +15,7 @@ ghost use Rattle.line_session.specs.Replies.{values_of, replies_of, answers_of, 
 use crate::asking::ask_with_two;
 use crate::replies::{answer, are_answers};
 use ek_call::{Primitive, Reply, Value, Values, argument};
-use ek_types::{Chars, Copied, Mem, Piece};
+use ek_types::{Ch, Chars, Copied, Mem, Piece};
 use handler_code::{NativeCall, Next, ask_with, copied};
 use std::alloc::Global;
 
@@ -22,7 +24,7 @@ pub(crate) fn restart(limit: u32, command: &Values, args: &Values, past: &[Reply
     ensures { IfOk result (λ next. asked_of next ≡ handlers.restart limit (values_of command.now)
         (process_of args.now) (told_of args.now) (replies_of past.now)) }
 {
-    if is_finished(args.allocator(), argument(args, 1))? {
+    if is_finished(argument(args, 1)) {
         return Ok(Next::Done);
     }
     if !has_restarts(limit, argument(args, 0)) {
@@ -32,23 +34,36 @@ pub(crate) fn restart(limit: u32, command: &Values, args: &Values, past: &[Reply
 }
 
 /// Whether a sentinel is told an end with code 0.
-fn is_finished(alloc: Global, told: Option<&Value>) -> Mem<bool>
-    ensures { IfOk result (λ is. is ≡
-        handlers.is_finished (unwrap_or (option_map (λ v. view v.now) told.entry) Nil)) }
+fn is_finished(told: Option<&Value>) -> bool
+    ensures { result ≡
+        handlers.is_finished (unwrap_or (option_map (λ v. view v.now) told.entry) Nil) }
 {
     match told {
-        Some(Value::Str(text)) => says_finished(alloc, text),
-        _ => Ok(false),
+        Some(Value::Str(text)) => says_finished(text),
+        _ => false,
     }
 }
 
 /// Whether a text is what is told of an end with code 0.
-fn says_finished(alloc: Global, text: &Piece) -> Mem<bool>
-    ensures { IfOk result (λ is. is ≡ handlers.is_finished (Str text.now)) }
+fn says_finished(text: &Piece) -> bool
+    ensures { result ≡ handlers.is_finished (Str text.now) }
 {
-    let mut finished = Chars::new(alloc);
-    finished.extend_bytes(b"finished\n")?;
-    Ok(text.text().same(&finished))
+    same_ascii(text.text(), b"finished\n")
+}
+
+/// Whether these are the characters of a string of ASCII, one for each byte.
+fn same_ascii(text: &Chars, bytes: &[u8]) -> bool
+    ensures { result ≡ same_list same_ch text.now.items (map Scalar bytes.now) }
+{
+    if text.len() != bytes.len() {
+        return false;
+    }
+    for i in 0..bytes.len() {
+        if !text.at(i).same(Ch::Scalar(char::from(bytes[i]))) {
+            return false;
+        }
+    }
+    true
 }
 
 /// Whether the child may be started again behind this process, whose number is the count of restarts so far.
@@ -56,11 +71,8 @@ fn has_restarts(limit: u32, process: Option<&Value>) -> bool
     ensures { result ≡
         handlers.has_restarts limit (unwrap_or (option_map (λ v. view v.now) process.entry) Nil) }
 {
-    let Some(process) = process else {
-        return false;
-    };
     match process {
-        Value::Process(number) => *number < limit,
+        Some(Value::Process(number)) => *number < limit,
         _ => false,
     }
 }

@@ -72,6 +72,7 @@ fn wait(alloc: Global) -> Form
 fn then_wait(forms: &mut Forms, waits: usize) -> Mem<()>
     ensures { OnOk result (forms_of forms.new ≡ forms_of forms.old ++ replicate waits wait_form) }
 {
+    forms.reserve(waits)?;
     'waiting: for _ in 0..waits {
         let form = wait(forms.allocator());
         forms.push(form)?;

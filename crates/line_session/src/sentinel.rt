@@ -59,11 +59,8 @@ fn before(position: Option<&Value>) -> Value
     ensures { view result ≡
         handlers.before (unwrap_or (option_map (λ v. view v.now) position.entry) Nil) }
 {
-    let Some(position) = position else {
-        return Value::Nil;
-    };
     match position {
-        Value::Int(i) => number_before(*i),
+        Some(Value::Int(i)) => number_before(*i),
         _ => Value::Nil,
     }
 }
@@ -83,11 +80,8 @@ fn leaves_open(last: Option<&Value>) -> bool
     ensures { result ≡
         handlers.leaves_open (unwrap_or (option_map (λ v. view v.now) last.entry) Nil) }
 {
-    let Some(last) = last else {
-        return false;
-    };
     match last {
-        Value::Int(code) => *code != 10,
+        Some(Value::Int(code)) => *code != 10,
         _ => false,
     }
 }
