@@ -1,7 +1,7 @@
 -- The lists of buffers: finding those of one, setting them, and how many buffers there may be.
-use Rattle.std.proofs.Common.{◌≡◌, ℕ, zero, suc, ◌+◌, ◌<◌, ◌≤◌, Bool, true, false, ◌==◌, ◌||◌, List, [], ◌∷◌, ◌++◌, length, map, get_or, refl, ap, sym, ◌∙◌, cond, All, arith}
-use Rattle.std.specs.Prelude.{slice_set, Option, Some, None}
-use Rattle.std.specs.List.{list_any, position, position_or_len, position_from, IsDistinct, AllByRecursion}
+use Rattle.std.proofs.Common.{◌≡◌, ℕ, zero, suc, ◌+◌, ◌<◌, ◌≤◌, Bool, true, false, ◌==◌, ◌||◌, List, [], ◌∷◌, ◌++◌, length, map, get_or, refl, ap, sym, ◌∙◌, cond, arith}
+use Rattle.std.specs.Prelude.{slice_set, Some, None}
+use Rattle.std.specs.List.{list_any, position, position_from, IsDistinct, AllByRecursion}
 use Rattle.std.proofs.lemmas.Bool.{eqb-true, eqb-false, eq-eqb, ne_eqb, or_parts}
 use Rattle.std.proofs.lemmas.List.{length-map, length-append}
 use Rattle.std.proofs.lemmas.List.Quantifiers.{position-Some}

@@ -1,5 +1,5 @@
 -- Lists of names, and the numbers that they stand for.
-use Rattle.std.proofs.Common.{◌≡◌, ◌≤◌, ℕ, ◌+◌, Bool, true, false, not, ◌==◌, ◌||◌, List, [], ◌∷◌, ◌++◌, length, map, filter, refl, ap, sym, ◌∙◌, cond, nat_lt, arith}
+use Rattle.std.proofs.Common.{◌≡◌, ◌≤◌, ℕ, ◌+◌, Bool, true, false, not, ◌||◌, List, [], ◌∷◌, length, map, filter, refl, ap, ◌∙◌, cond, nat_lt, arith}
 use Rattle.std.specs.Prelude.{Some, None}
 use Rattle.std.specs.List.{list_any, prefix_len, position, position_or_len}
 use Rattle.std.proofs.lemmas.List.{length-map}

@@ -1,7 +1,7 @@
 -- What a change of one buffer's lists makes of all of them.
-use Rattle.std.proofs.Common.{◌≡◌, ℕ, ◌<◌, ◌≤◌, Bool, true, false, not, ◌==◌, List, [], ◌∷◌, ◌++◌, length, map, filter, get_or, refl, ap, sym, ◌∙◌, subst, arith}
+use Rattle.std.proofs.Common.{◌≡◌, ℕ, ◌<◌, ◌≤◌, Bool, true, false, List, [], ◌∷◌, ◌++◌, length, map, filter, get_or, refl, ap, sym, ◌∙◌, subst, arith}
 use Rattle.std.specs.Prelude.{slice_set, Some}
-use Rattle.std.specs.List.{list_any, position}
+use Rattle.std.specs.List.{position}
 use Rattle.std.proofs.lemmas.List.{length-map, get_or-map, map-set, map-append}
 use Rattle.editor_model.specs.Limits.{most_buffers}
 use Rattle.plain_machine.specs.State.{HookLists, no_hooks, hooks_of, with_hooks}
@@ -10,7 +10,7 @@ use Rattle.change_hooks.specs.Hooked.{Hooked, hook, with_list}
 use Rattle.change_hooks.specs.Lists.{lists_of, entry_of, is_of, AreKept}
 use Rattle.change_hooks.specs.declared.lists.BufferHooks.{BufferHooks}
 use Rattle.change_hooks.proofs.Names.{length-filter-le}
-use Rattle.change_hooks.proofs.Buffers.{hooks_with, with_with, found, set_found, within_found, with_absent, kept_with, short}
+use Rattle.change_hooks.proofs.Buffers.{hooks_with, with_with, found, set_found, within_found, kept_with, short}
 
 abbrev pub kept_as : List (ℕ × HookLists) → Bool → Hooked
 kept_as lists on = record { lists = lists; inhibited = on }

@@ -5,3 +5,4 @@ mod hooks;
 mod lists;
 
 pub use hooks::{Hooks, MOST_HOOKS};
+pub use lists::{holds, remove_from};

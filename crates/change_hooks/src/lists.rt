@@ -68,8 +68,8 @@ impl BufferHooks {
     }
 }
 
-/// Takes a name out of a list.
-fn remove_from(names: &mut SymList, name: Sym)
+/// Takes a name out of a list, wherever it stands there. It takes no memory.
+pub fn remove_from(names: &mut SymList, name: Sym)
     ensures { map number_of (items_of names.new) ≡
         filter (λ n. not (n == name.0)) (map number_of (items_of names.old)) }
 {
@@ -77,8 +77,8 @@ fn remove_from(names: &mut SymList, name: Sym)
 }
 
 /// Whether a name stands among others.
-pub(crate) fn holds(names: &[Sym], name: Sym) -> bool
-    ensures { result ≡ list_any (λ n. n.0 == name.0) names.now }
+pub fn holds(names: &[Sym], name: Sym) -> bool
+    ensures { result ≡ list_any (λ n. n == name.0) (map number_of names.now) }
 {
     names.iter().any(|n| n.0 == name.0)
 }

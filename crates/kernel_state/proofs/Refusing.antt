@@ -1,5 +1,5 @@
 -- What the tests of a call read: words one by one, hook functions, one process.
-use Rattle.std.proofs.Common.{◌≡◌, ℕ, zero, suc, ◌+◌, ◌<◌, ◌≤◌, Bool, true, false, ◌&&◌, ◌||◌, not, List, [], ◌∷◌, ◌++◌, length, get_or, map, drop, refl, sym, ap, ◌∙◌, arith}
+use Rattle.std.proofs.Common.{◌≡◌, ℕ, zero, suc, ◌+◌, ◌<◌, ◌≤◌, Bool, true, false, ◌&&◌, not, List, [], ◌∷◌, ◌++◌, length, get_or, map, drop, refl, sym, ap, ◌∙◌, arith}
 use Rattle.std.specs.Prelude.{slice_get, Option, Some, None, is_some, nat_le, nat_lt, ◌==◌, if◌then◌else◌}
 use Rattle.std.specs.List.{list_any, list_all}
 use Rattle.std.proofs.lemmas.Bool.{le-leb, le-ltb}
@@ -37,16 +37,6 @@ module _ (vs : List Value) (i : ℕ) (whole : Option Fault) where
   all_words l inv = ap (λ s. first_fault (map must_be_word s)) (sym (drop_all i vs l)) ∙ inv
 
 -- HOOK FUNCTIONS
-module _ (test : ℕ → Bool) (xs : List ℕ) (i : ℕ) (whole : Bool) where
-  pub one_found : (x : ℕ) → slice_get xs i ≡ Some x → true ≡ test x → list_any test (drop i xs) ≡ whole → true ≡ whole
-  one_found x at h inv = ap (λ b. b || list_any test (drop (i + 1) xs)) h ∙ ap (λ s. list_any test s) (sym (drop_at xs i x at)) ∙ inv
-
-  pub one_passed : (x : ℕ) → slice_get xs i ≡ Some x → false ≡ test x → list_any test (drop i xs) ≡ whole → list_any test (drop (i + 1) xs) ≡ whole
-  one_passed x at h inv = ap (λ b. b || list_any test (drop (i + 1) xs)) h ∙ ap (λ s. list_any test s) (sym (drop_at xs i x at)) ∙ inv
-
-  pub none_found : length xs ≤ i → list_any test (drop i xs) ≡ whole → false ≡ whole
-  none_found l inv = ap (λ s. list_any test s) (sym (drop_all i xs l)) ∙ inv
-
 pub list_of_hook : (before : Bool) (n : ℕ) (lists : HookLists) → before ≡ (n == 4) → hook_list (hook before) lists ≡ hook_list n lists
 list_of_hook true n lists h = ap (λ b. let x : List ℕ = if b then lists.before else lists.after in x) h
 list_of_hook false n lists h = ap (λ b. let x : List ℕ = if b then lists.before else lists.after in x) h

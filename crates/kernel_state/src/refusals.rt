@@ -35,9 +35,10 @@ use crate::buffers::{has_running, must_be_replaceable};
 use crate::hearing::is_running;
 use crate::kernel::KernelState;
 use crate::questions::{buffer, process};
+use crate::setting::{is_before, symbol_of};
 use crate::words::{encoded_length, is_word};
 use buffer_table::Editor;
-use change_hooks::MOST_HOOKS;
+use change_hooks::{MOST_HOOKS, holds};
 use editor_prims::{arg, nil};
 use ek_call::{Fault, Primitive, Value, Values};
 use ek_types::Piece;
@@ -239,17 +240,15 @@ fn only_where(here: bool, test: Result<(), Fault>) -> Result<(), Fault>
 fn hooks_with(kernel: &KernelState, hook: &Value, function: &Value) -> u32
     ensures { result ≡ length (hook_added (state_of kernel.now) (view hook.now) (view function.now)) }
 {
-    let before = crate::setting::is_before(hook);
+    let before = is_before(hook);
     let names = kernel.hooks.list(kernel.editor.current(), before);
-    let number = crate::setting::symbol_of(function);
-    let mut count = 1;
-    for i in 0..names.len() {
-        if names.at(i).0 == number.0 {
-            return names.len() as u32;
-        }
-        count += 1;
+    let number = symbol_of(function);
+    let length = names.len() as u32;
+    if holds(names.as_slice(), number) {
+        length
+    } else {
+        length + 1
     }
-    count
 }
 
 fn test_add_hook<P: Program>(

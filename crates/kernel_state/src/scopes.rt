@@ -84,7 +84,7 @@ fn bound(alloc: Global, params: &[Sym], args: &Values) -> Mem<Scope>
     ensures { IfOk result (λ scope. registers_of scope.items ≡
         bound_params (map number_of params.now) (map view (items_of args.now))) }
 {
-    let mut scope = Vec::new(alloc);
+    let mut scope = Vec::with_capacity(alloc, params.len())?;
     for i in 0..params.len() {
         scope.push((params[i], given(alloc, args, i)?))?;
     }

@@ -2,7 +2,6 @@
 ghost use Rattle.std.specs.Prelude.{◌≡◌, [], ◌∷◌, ◌++◌, ◌≤◌, ◌==◌, true, false, not, map, filter};
 ghost use Rattle.std.specs.Prelude.{length, if◌then◌else◌, IfOk, OnOk, OnErr, option_map};
 ghost use Rattle.std.specs.Prelude.{slice_get, Some};
-ghost use Rattle.std.specs.List.{list_any};
 ghost use Rattle.editor_model.specs.Values.{Sym as symbol, AddHook, RemoveHook, SetProcessFilter};
 ghost use Rattle.editor_model.specs.Values.{SetProcessSentinel, SetProcessBuffer, TheProcess, list};
 ghost use Rattle.editor_model.specs.Values.{SetProcessCodingSystem, Nil};
@@ -29,6 +28,7 @@ ghost use Rattle.kernel_state.specs.Setting.{added};
 use crate::kernel::KernelState;
 use crate::questions::{process, process_buffer};
 use crate::refusals::BEFORE_CHANGE_FUNCTIONS;
+use change_hooks::{holds, remove_from};
 use editor_prims::{arg, nil};
 use ek_call::{Primitive, Value, Values};
 use ek_types::{Copied, ListOf, Mem, Sym, SymList};
@@ -55,13 +55,6 @@ pub(crate) fn is_before(hook: &Value) -> bool
     ensures { result ≡ (symbol_of (view hook.now) == before_change_functions) }
 {
     symbol_of(hook).0 == BEFORE_CHANGE_FUNCTIONS
-}
-
-/// Whether a name stands among others.
-fn holds(names: &[Sym], name: Sym) -> bool
-    ensures { result ≡ list_any (λ n. n.0 == name.0) names.now }
-{
-    names.iter().any(|n| n.0 == name.0)
 }
 
 /// Values with symbols behind them.
@@ -96,14 +89,6 @@ fn with_hook(names: &SymList, name: Sym) -> Mem<Values>
     } else {
         with_first(names.allocator(), name, names.as_slice())
     }
-}
-
-/// Takes a name out of a list.
-fn remove_from(names: &mut SymList, name: Sym)
-    ensures { map number_of (items_of names.new) ≡
-        filter (λ n. not (n == name.0)) (map number_of (items_of names.old)) }
-{
-    names.retain(|n| n.0 != name.0);
 }
 
 /// Hook functions without one, as values.

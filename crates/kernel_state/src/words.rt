@@ -76,7 +76,7 @@ pub(crate) fn encoded_length(text: &Piece) -> u128
 fn encoded(alloc: Global, text: &Piece) -> Mem<Vec<u8>>
     ensures { IfOk result (λ bytes. bytes.items ≡ encoded text.now) }
 {
-    let mut bytes = Vec::new(alloc);
+    let mut bytes = Vec::with_capacity(alloc, text.len())?;
     for i in 0..text.len() {
         let mut room = [0u8; 4];
         let size = text.ch(i).encode(&mut room);

@@ -8,21 +8,21 @@ use Rattle.host_link.specs.declared.host.Spawned.{Spawned}
 use Rattle.host_link.specs.declared.host.Spawned.TheVariants as spawned
 use Rattle.host_link.specs.declared.host.Got.{Got}
 use Rattle.kernel_steps.specs.Outside.{Adds}
-use Rattle.kernel_steps.specs.HostCalls.{room_of, IsNextChild, IsHostCall, CallsSince, Tells}
+use Rattle.kernel_steps.specs.HostCalls.{room_of, IsNextChild, IsHostCall, CallsSince, TellsBehind}
 use Rattle.kernel_steps.proofs.Journeys.{AddsOne}
 
 -- WHAT A HOST TELLS
-pub tells_nothing : (told : Option (List Exchange)) → Tells told told []
+pub tells_nothing : (told : Option (List Exchange)) → TellsBehind told told []
 tells_nothing None = refl
 tells_nothing (Some list) = ap Some (sym (append-nil list))
 
-tells_then : (a b c : Option (List Exchange)) (first second : List Exchange) → Tells a b first → Tells b c second → Tells a c (first ++ second)
+tells_then : (a b c : Option (List Exchange)) (first second : List Exchange) → TellsBehind a b first → TellsBehind b c second → TellsBehind a c (first ++ second)
 tells_then None b c first second h k = rw h at k
 tells_then (Some list) b c first second h k = rw (h, option_map) at k ∙ ap Some (append_assoc list first second)
 
 module _ {H : Type 0} (state : H → HostState) (made : H → H → Ask → ℕ → Answer → Type 0) where
   -- the calls are told in their order
-  pub calls_told : (start now : H) (exchanges : List Exchange) → CallsSince state made start now exchanges → Tells (state start).told (state now).told exchanges
+  pub calls_told : (start now : H) (exchanges : List Exchange) → CallsSince state made start now exchanges → TellsBehind (state start).told (state now).told exchanges
   calls_told start now [] h = rw h (tells_nothing (state start).told)
   calls_told start now (x ∷ exchanges) (next, call, rest) =
       tells_then (state start).told (state next).told (state now).told (x ∷ []) exchanges call.exchanged.told (calls_told next now exchanges rest)

@@ -51,11 +51,7 @@ pub(crate) fn values<M: Kernel>(kernel: &mut M, args: &Args) -> Mem<Option<Value
 pub(crate) fn are_equal<M: Kernel>(kernel: &M, a: &Arg, b: &Arg) -> Option<bool>
     ensures { result ≡ test_of (M.state kernel.now) (arg_of a.now) (arg_of b.now) }
 {
-    let Some(x) = value(kernel, a) else {
-        return None;
-    };
-    let Some(y) = value(kernel, b) else {
-        return None;
-    };
+    let x = value(kernel, a)?;
+    let y = value(kernel, b)?;
     Some(M::are_equal(x, y))
 }

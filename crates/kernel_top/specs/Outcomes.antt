@@ -10,7 +10,7 @@ use Rattle.plain_machine.specs.Drill.{drill_script}
 use Rattle.ek_types.specs.Io.{SourceState, SinkState, Rose, IsPrefixOf}
 use Rattle.host_link.specs.Hosts.{HostState}
 use Rattle.session_laws.specs.Sessions.{StartsInTurn}
-use Rattle.kernel_steps.specs.HostCalls.{CallsSince, Tells}
+use Rattle.kernel_steps.specs.HostCalls.{CallsSince, TellsBehind}
 use Rattle.kernel_steps.specs.Outcomes.{RanScript, StoppedScript}
 use Rattle.kernel_steps.specs.declared.stop.Stop.{Stop}
 use Rattle.kernel_steps.specs.declared.stop.Stop.TheVariants as stop
@@ -243,7 +243,7 @@ pub record Came {H : Type 0} (hosted : H → HostState) (made : H → H → Ask 
   pub few : length read ≤ most_read asked
   pub put : Appends sink.held sink'.held written
   pub calls : CallsSince hosted made start now exchanges
-  pub told : Tells (hosted start).told (hosted now).told exchanges
+  pub told : TellsBehind (hosted start).told (hosted now).told exchanges
   pub outcome : Outcome program asked answer read written exchanges (seen source sink (hosted start))
       (seen source' sink' (hosted now))
 

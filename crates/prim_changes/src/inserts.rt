@@ -36,10 +36,7 @@ fn must_be_strings(args: &Values) -> Result<u128, Fault>
 {
     let mut total = 0;
     for i in 0..args.len() {
-        match string(args.at(i)) {
-            Ok(text) => total += text.len() as u128,
-            Err(fault) => return Err(fault),
-        }
+        total += string(args.at(i))?.len() as u128;
     }
     Ok(total)
 }
@@ -159,10 +156,7 @@ fn must_fit(editor: &Editor, args: &Values) -> Result<(), Fault>
         ∷ must_have_room (editor_of editor.now) (editor_of editor.now).current
         (length (calls.joined (map view (items_of args.now)))) ∷ []) }
 {
-    match must_be_strings(args) {
-        Ok(total) => must_take(editor, total),
-        Err(fault) => Err(fault),
-    }
+    must_take(editor, must_be_strings(args)?)
 }
 
 /// So many characters may be put in at point, and there is room for them.

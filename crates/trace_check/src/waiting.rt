@@ -16,15 +16,13 @@ ghost use Rattle.trace_check.specs.Waits.{ahead_of, in_next_round, without_first
 use editor_prims::{arg, nil};
 use ek_call::{Value, Values};
 use ek_types::Mem;
+use ek_types::limits::MOST_ROUNDS;
 use kernel_steps::Kernel;
 use prim_arguments::kinds::flag;
 use process_table::Processes;
 use std::alloc::Global;
 use std::marker::Model;
 use wait_loop::Aim;
-
-/// The most rounds of a wait, which it has where none are given.
-const MOST_ROUNDS: u64 = 1000;
 
 /// What a wait comes to next.
 #[derive(Clone, Copy)]
@@ -65,12 +63,12 @@ impl Model for Waiting {
     ghost invariant = { λ w. w.at ≤ length w.asking.items };
 }
 
-/// How many rounds a value gives.
+/// How many rounds a value gives: the most, where it gives none.
 fn rounds(v: &Value) -> u64
     ensures { result ≡ rounds_of (view v.now) }
 {
     match v {
-        Value::Nil => MOST_ROUNDS,
+        Value::Nil => u64::from(MOST_ROUNDS),
         Value::Int(n) if *n < 0 => 0,
         Value::Int(n) => *n as u64,
         _ => 0,

@@ -1,6 +1,5 @@
-use Rattle.std.proofs.Common.{◌≡◌, ◌∷◌, map, take}
+use Rattle.std.proofs.Common.{◌≡◌, ◌∷◌, take}
 use Rattle.ek_types.specs.Listing.{items_of}
-use Rattle.ek_types.specs.Property.{number_of}
 use Rattle.change_hooks.proofs.lists.with_first.Given as goal
 
 abbrev pub invariant-loop-n : goal.invariant-loop-n

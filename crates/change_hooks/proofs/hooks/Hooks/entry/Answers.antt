@@ -1,10 +1,9 @@
 use Rattle.std.proofs.Common.{◌≡◌, ◌<◌, ◌++◌, [], ◌∷◌, false, length, map, ap, sym, ◌∙◌, subst, arith}
-use Rattle.std.specs.Prelude.{Some, None, slice_get}
+use Rattle.std.specs.Prelude.{Some}
 use Rattle.std.specs.List.{list_any, position}
 use Rattle.std.proofs.lemmas.List.{length-map}
 use Rattle.editor_model.specs.Limits.{most_buffers}
 use Rattle.plain_machine.specs.State.{no_hooks, with_hooks, hooks_of}
-use Rattle.plain_machine.specs.Hooks.{most_hooks}
 use Rattle.change_hooks.specs.Hooked.{Hooked}
 use Rattle.change_hooks.specs.Lists.{is_of, entry_of, AreKept}
 use Rattle.change_hooks.proofs.Buffers.{same_found, none_there, hooks_absent, with_absent, last, kept_with, room_left}

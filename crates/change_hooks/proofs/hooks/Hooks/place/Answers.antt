@@ -1,4 +1,4 @@
-use Rattle.std.proofs.Common.{◌≡◌, ap, sym, ◌∙◌}
+use Rattle.std.proofs.Common.{ap, sym, ◌∙◌}
 use Rattle.std.specs.List.{position}
 use Rattle.change_hooks.specs.Hooked.{Hooked}
 use Rattle.change_hooks.specs.Lists.{is_of, entry_of}
