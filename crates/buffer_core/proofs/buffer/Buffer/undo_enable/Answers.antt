@@ -1,4 +1,4 @@
-use Rattle.std.proofs.Common.{◌≡◌, sym, subst}
+use Rattle.std.proofs.Common.{sym, subst}
 use Rattle.text_model.specs.Commit.{Buffer}
 use Rattle.machine_laws.specs.Good.{Good}
 use Rattle.buffer_core.specs.contracts.buffer.Buffer.{the_view}

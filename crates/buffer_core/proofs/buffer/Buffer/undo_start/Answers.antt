@@ -1,4 +1,4 @@
-use Rattle.std.proofs.Common.{◌≡◌, sym, subst}
+use Rattle.std.proofs.Common.{sym, subst}
 use Rattle.text_model.specs.Undo.{Undo, started}
 use Rattle.text_model.specs.Commit.{Buffer}
 use Rattle.text_model.proofs.Cases.{by_test}
