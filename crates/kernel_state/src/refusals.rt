@@ -41,8 +41,8 @@ use buffer_table::Editor;
 use change_hooks::{MOST_HOOKS, holds};
 use editor_prims::{arg, nil};
 use ek_call::{Fault, Primitive, Value, Values};
-use ek_types::Piece;
 use ek_types::limits::{MOST_BUFFERS, MOST_MARKERS, MOST_PROCESSES, MOST_ROUNDS};
+use ek_types::{Piece, Sym};
 use kernel_steps::Program;
 use prim_arguments::kinds::{must, must_be_buffer_or_nil, name, string, symbol};
 use prim_arguments::limits::{must_be_fewer, must_be_short};
@@ -56,11 +56,6 @@ const MOST_SENT: u128 = 16_777_216;
 
 /// How deep handlers may be nested in which waits and deletions are.
 const NESTING_BOUND: u32 = 16;
-
-/// The symbols of the two lists of hook functions.
-pub(crate) const BEFORE_CHANGE_FUNCTIONS: u32 = 4;
-
-pub(crate) const AFTER_CHANGE_FUNCTIONS: u32 = 5;
 
 // TESTS
 
@@ -78,7 +73,8 @@ fn must_be_hook(v: &Value) -> Result<(), Fault>
     ensures { fault_in result ≡ refuse WrongType (is_hook (view v.now)) }
 {
     let is_hook = match v {
-        Value::Sym(name) => name.0 == BEFORE_CHANGE_FUNCTIONS || name.0 == AFTER_CHANGE_FUNCTIONS,
+        Value::Sym(name) => name.0 == Sym::BEFORE_CHANGE_FUNCTIONS.0
+            || name.0 == Sym::AFTER_CHANGE_FUNCTIONS.0,
         _ => false,
     };
     must(is_hook, Fault::WrongType)
@@ -106,7 +102,11 @@ fn must_be_coding(v: &Value) -> Result<(), Fault>
     ensures { fault_in result ≡ refuse WrongType (is_coding (view v.now)) }
 {
     let is_coding = match v {
-        Value::Sym(name) => name.0 == 14 || name.0 == 15 || name.0 == 16,
+        Value::Sym(name) => {
+            name.0 == Sym::UTF_8_UNIX.0
+                || name.0 == Sym::UTF_8_DOS.0
+                || name.0 == Sym::LATIN_1_UNIX.0
+        }
         _ => false,
     };
     must(is_coding, Fault::WrongType)

@@ -27,7 +27,6 @@ ghost use Rattle.kernel_state.specs.Setting.{added};
 
 use crate::kernel::KernelState;
 use crate::questions::{process, process_buffer};
-use crate::refusals::BEFORE_CHANGE_FUNCTIONS;
 use change_hooks::{holds, remove_from};
 use editor_prims::{arg, nil};
 use ek_call::{Primitive, Value, Values};
@@ -54,7 +53,7 @@ pub(crate) fn symbol_of(v: &Value) -> Sym
 pub(crate) fn is_before(hook: &Value) -> bool
     ensures { result ≡ (symbol_of (view hook.now) == before_change_functions) }
 {
-    symbol_of(hook).0 == BEFORE_CHANGE_FUNCTIONS
+    symbol_of(hook).0 == Sym::BEFORE_CHANGE_FUNCTIONS.0
 }
 
 /// Values with symbols behind them.
@@ -174,10 +173,10 @@ fn status_value(status: Status) -> Value
     ensures { view result ≡ symbol (status_symbol (status_of status)) }
 {
     match status {
-        Status::Run => Value::Sym(Sym(6)),
-        Status::Exit(_) => Value::Sym(Sym(7)),
-        Status::Signal => Value::Sym(Sym(8)),
-        Status::Failed => Value::Sym(Sym(9)),
+        Status::Run => Value::Sym(Sym::RUN),
+        Status::Exit(_) => Value::Sym(Sym::EXIT),
+        Status::Signal => Value::Sym(Sym::SIGNAL),
+        Status::Failed => Value::Sym(Sym::FAILED),
     }
 }
 
@@ -216,9 +215,9 @@ fn coding_value(coding: Coding) -> Value
     ensures { view result ≡ coding_value (coding_meant coding) }
 {
     match coding {
-        Coding::Utf8 => Value::Sym(Sym(14)),
-        Coding::Utf8Dos => Value::Sym(Sym(15)),
-        Coding::Latin1 => Value::Sym(Sym(16)),
+        Coding::Utf8 => Value::Sym(Sym::UTF_8_UNIX),
+        Coding::Utf8Dos => Value::Sym(Sym::UTF_8_DOS),
+        Coding::Latin1 => Value::Sym(Sym::LATIN_1_UNIX),
     }
 }
 
@@ -286,9 +285,9 @@ fn sentinel_of(v: &Value) -> Option<Sym>
 fn coding_named(name: u32) -> Coding
     ensures { coding_meant result ≡ coding_named name }
 {
-    if name == 15 {
+    if name == Sym::UTF_8_DOS.0 {
         Coding::Utf8Dos
-    } else if name == 16 {
+    } else if name == Sym::LATIN_1_UNIX.0 {
         Coding::Latin1
     } else {
         Coding::Utf8

@@ -48,30 +48,31 @@ fn the_names_of_a_script_are_numbered_in_their_order(rt: HostRuntime) {
     are_copied(&rt, &symbols);
 }
 
-/// The names by their numbers.
-const NAMES: [&str; 17] = [
-    "front-sticky",
-    "rear-nonsticky",
-    "evaporate",
-    "priority",
-    "before-change-functions",
-    "after-change-functions",
-    "run",
-    "exit",
-    "signal",
-    "failed",
-    "read-only",
-    "invisible",
-    "before-string",
-    "after-string",
-    "utf-8-unix",
-    "utf-8-dos",
-    "latin-1-unix",
+/// The names in the order of their numbers, with their symbols.
+const NAMES: [(&str, Sym); 17] = [
+    ("front-sticky", Sym::FRONT_STICKY),
+    ("rear-nonsticky", Sym::REAR_NONSTICKY),
+    ("evaporate", Sym::EVAPORATE),
+    ("priority", Sym::PRIORITY),
+    ("before-change-functions", Sym::BEFORE_CHANGE_FUNCTIONS),
+    ("after-change-functions", Sym::AFTER_CHANGE_FUNCTIONS),
+    ("run", Sym::RUN),
+    ("exit", Sym::EXIT),
+    ("signal", Sym::SIGNAL),
+    ("failed", Sym::FAILED),
+    ("read-only", Sym::READ_ONLY),
+    ("invisible", Sym::INVISIBLE),
+    ("before-string", Sym::BEFORE_STRING),
+    ("after-string", Sym::AFTER_STRING),
+    ("utf-8-unix", Sym::UTF_8_UNIX),
+    ("utf-8-dos", Sym::UTF_8_DOS),
+    ("latin-1-unix", Sym::LATIN_1_UNIX),
 ];
 
 fn have_numbers(rt: &impl Abort, symbols: &Symbols) {
-    for (i, name) in NAMES.iter().enumerate() {
-        is(rt, symbols.find(name), Some(Sym(i as u32)));
+    for (i, (name, symbol)) in NAMES.iter().enumerate() {
+        is(rt, symbol.0, i as u32);
+        is(rt, symbols.find(name), Some(*symbol));
     }
 }
 
