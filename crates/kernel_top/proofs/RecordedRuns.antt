@@ -55,4 +55,4 @@ module _ (program : Script → Program) (script : Script) (exchanges : List Exch
 pub recorded_runs_replay : (program : Script → Program) → RecordedRunsReplay program
 recorded_runs_replay program script read bytes exchanges before now is recorded answer written before' now' r =
     replayed_so program script exchanges read recorded.whole.lines recorded.lines is recorded.whole.ran answer written before' now'
-    (subst (λ l. Replayed program answer l written before' now') recorded.session.is r)
+    (subst (λ l. Replayed program answer l written before' now') recorded.session.whole.is r)
