@@ -292,18 +292,18 @@ module _ (program : Script → Program) (read written : List ℕ) (exchanges : L
       UnlessFaults (EndsOrRefuses result) source source' sink sink'
   replay_row status.Done o r w = λ unread unwritten. tt
   replay_row status.NoMemory o r w = λ unread unwritten. tt
-  replay_row status.Usage (alone, same, inl (ended, short, row)) r w = absurd row
+  replay_row status.Usage (alone, same, inl (ended, short, row)) r w = absurd row.so.2
   replay_row status.Usage (alone, same, inr (nothing, row)) r w = absurd row
   replay_row (status.Script line) o r w = λ unread unwritten. tt
   replay_row status.ReadFault o r w = λ unread unwritten. unread (r refl)
   replay_row status.WriteFault o r w = λ unread unwritten. unwritten (w refl)
   replay_row (status.Journal line) o r w = λ unread unwritten. tt
-  replay_row status.JournalFull (alone, same, inl (ended, short, row)) r w = absurd row
+  replay_row status.JournalFull (alone, same, inl (ended, short, row)) r w = absurd row.so.2
   replay_row status.JournalFull (alone, same, inr (nothing, row)) r w = absurd row
   replay_row (status.Strayed most) o r w = λ unread unwritten. tt
-  replay_row (status.Differs line) (alone, same, inl (ended, short, row)) r w = absurd row
+  replay_row (status.Differs line) (alone, same, inl (ended, short, row)) r w = absurd row.so.2
   replay_row (status.Differs line) (alone, same, inr (nothing, row)) r w = absurd row
-  replay_row status.SessionFull (alone, same, inl (ended, short, row)) r w = absurd row
+  replay_row status.SessionFull (alone, same, inl (ended, short, row)) r w = absurd row.so.2
   replay_row status.SessionFull (alone, same, inr (nothing, row)) r w = absurd row
 
   check_row : (result : Status) → OnCheck program result read written exchanges before now → (result ≡ status.ReadFault → Rose source.faults source'.faults) → (result ≡ status.WriteFault → Rose sink.faults sink'.faults) →
