@@ -1,7 +1,5 @@
 -- What the functions of a check come to.
-use Rattle.std.proofs.Common.{◌≡◌, ℕ, Bool, true, false, ◌<◌, ◌≤◌, ◌-◌, List, [], ◌++◌, length, drop, Result, Ok, Err, refl, ap, subst, arith, length-append, codes}
-use Rattle.std.specs.Prelude.{nat_lt}
-use Rattle.std.proofs.lemmas.Bool.{ltb-true, ltb-false}
+use Rattle.std.proofs.Common.{◌≡◌, ℕ, ◌≤◌, ◌-◌, List, [], ◌++◌, length, drop, Result, Ok, Err, refl, ap, subst, arith, length-append, codes}
 use Rattle.std.proofs.lemmas.List.{length-take-le, length-drop}
 use Rattle.std.specs.Io.KnownBytes.{Appends}
 use Rattle.editor_model.specs.Values.{Script}
@@ -19,6 +17,7 @@ use Rattle.kernel_top.specs.declared.status.Status.{Status}
 use Rattle.kernel_top.specs.declared.status.Status.TheVariants as status
 use Rattle.kernel_top.proofs.Replays.{few_lines}
 use Rattle.kernel_top.proofs.Outcomes.{no_verdict}
+use Rattle.kernel_top.proofs.Writing.{all_written, front_written}
 
 -- THE BYTES
 -- a journal has no more exchanges than bytes
@@ -63,14 +62,10 @@ unscripted program status.SessionFull read list from to at found none = absurd n
 -- the line of a yes was written, or a front of it
 pub told_yes : {T E : Type 0} (program : Script → Program) (r : Result T E) (read : List ℕ) (sink sink' : SinkState) → Checked program status.Done read → Writes sink sink' r yes →
     (written : List ℕ) × Appends sink.held sink'.held written × Told program (written_status r) read written sink sink'
-told_yes program (Ok x) read sink sink' so w = (yes, w.ok, (so, refl, λ few. (w.roomy few).faults))
+told_yes program (Ok x) read sink sink' so w = (yes, w.ok, (so, all_written sink sink' yes w))
 told_yes program (Err e) read sink sink' so w =
     let (front, is_front, put) = w.err in
-    (front, put, (so, is_front, by (nat_lt sink.room (length yes)) refl))
-  where
-    by : (b : Bool) → nat_lt sink.room (length yes) ≡ b → sink.room < length yes
-    by true e = ltb-true sink.room (length yes) e
-    by false e = absurd (let no = (w.roomy (ltb-false sink.room (length yes) e)).ok in cc)
+    (front, put, (so, front_written sink sink' yes front w is_front))
 
 -- and nothing for another verdict
 pub told_else : (program : Script → Program) (answer : Status) (read : List ℕ) (sink : SinkState) → (answer ≡ status.Done → ⊥) → Checked program answer read → Told program answer read [] sink sink

@@ -1,6 +1,7 @@
 pub mod Taking
 pub mod HandedOn
 pub mod SummedUp
+pub mod Writing
 pub mod Sessions
 pub mod Outcomes
 pub mod Recorded

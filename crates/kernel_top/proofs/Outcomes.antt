@@ -1,7 +1,6 @@
 -- What follows from how a script ended, and from the outcome of a call.
-use Rattle.std.proofs.Common.{◌≡◌, ℕ, ◌+◌, ◌<◌, ◌≤◌, Bool, true, false, List, [], length, Some, None, Result, Ok, Err, inl, inr, refl, sym, subst, arith}
-use Rattle.std.specs.Prelude.{◌⊎◌, nat_lt}
-use Rattle.std.proofs.lemmas.Bool.{ltb-true, ltb-false}
+use Rattle.std.proofs.Common.{◌≡◌, ℕ, ◌+◌, ◌<◌, ◌≤◌, List, [], length, Some, None, Result, Ok, Err, inl, inr, refl, sym, subst, arith}
+use Rattle.std.specs.Prelude.{◌⊎◌}
 use Rattle.std.specs.declared.option.Option.{Option}
 use Rattle.std.specs.Io.KnownBytes.{Consumes, IsAtEnd, Appends}
 use Rattle.std.proofs.KnownBytes.{Appends-nil}
@@ -29,6 +28,7 @@ use Rattle.kernel_top.specs.declared.status.Status.{Status}
 use Rattle.kernel_top.specs.declared.status.Status.TheVariants as status
 use Rattle.kernel_steps.proofs.HostCalls.{calls_told}
 use Rattle.kernel_top.proofs.Taking.{all_read, front_only, consumes_nothing}
+use Rattle.kernel_top.proofs.Writing.{all_written, front_written}
 
 -- STATUSES
 pub is_write_fault : {T : Type 0} (r : Result T Stop) → status_of r ≡ status.WriteFault → r ≡ Err stop.WriteFault
@@ -127,14 +127,10 @@ Drilled program count answer exchanges sink sink' written = (source source' : So
 pub summed : {T E : Type 0} (program : Script → Program) (count : ℕ) (r : Result T E) (line : List ℕ) (exchanges : List Exchange) (sink sink' : SinkState) →
     SumsUp (program (drill_script count)) count exchanges line → Writes sink sink' r line →
     (written : List ℕ) × Appends sink.held sink'.held written × Drilled program count (written_status r) exchanges sink sink' written
-summed program count (Ok x) line exchanges sink sink' sums w = (line, w.ok, λ source source' host host'. (sums, λ few. (w.roomy few).faults))
+summed program count (Ok x) line exchanges sink sink' sums w = (line, w.ok, λ source source' host host'. record { line = line; sums = sums; summary = all_written sink sink' line w })
 summed program count (Err e) line exchanges sink sink' sums w =
     let (front, is_front, put) = w.err in
-    (front, put, λ source source' host host'. record { line = line; sums = sums; front = is_front; room = by (nat_lt sink.room (length line)) refl })
-  where
-    by : (b : Bool) → nat_lt sink.room (length line) ≡ b → sink.room < length line
-    by true e = ltb-true sink.room (length line) e
-    by false e = absurd (let no = (w.roomy (ltb-false sink.room (length line) e)).ok in cc)
+    (front, put, λ source source' host host'. record { line = line; sums = sums; summary = front_written sink sink' line front w is_front })
 
 module _ {H : Type 0} (hosted : H → HostState) (made : H → H → Ask → ℕ → Answer → Type 0) (program : Script → Program) (asked : Option Command) (answer : Status) (start now : H) (source source' : SourceState) (sink sink' : SinkState) where
   -- so it is of the bytes of a source, and the host has told its calls
@@ -296,18 +292,18 @@ module _ (program : Script → Program) (read written : List ℕ) (exchanges : L
       UnlessFaults (EndsOrRefuses result) source source' sink sink'
   replay_row status.Done o r w = λ unread unwritten. tt
   replay_row status.NoMemory o r w = λ unread unwritten. tt
-  replay_row status.Usage (alone, same, inl (ended, short, row)) r w = absurd row
+  replay_row status.Usage (alone, same, inl (ended, short, row)) r w = absurd row.so.2
   replay_row status.Usage (alone, same, inr (nothing, row)) r w = absurd row
   replay_row (status.Script line) o r w = λ unread unwritten. tt
   replay_row status.ReadFault o r w = λ unread unwritten. unread (r refl)
   replay_row status.WriteFault o r w = λ unread unwritten. unwritten (w refl)
   replay_row (status.Journal line) o r w = λ unread unwritten. tt
-  replay_row status.JournalFull (alone, same, inl (ended, short, row)) r w = absurd row
+  replay_row status.JournalFull (alone, same, inl (ended, short, row)) r w = absurd row.so.2
   replay_row status.JournalFull (alone, same, inr (nothing, row)) r w = absurd row
   replay_row (status.Strayed most) o r w = λ unread unwritten. tt
-  replay_row (status.Differs line) (alone, same, inl (ended, short, row)) r w = absurd row
+  replay_row (status.Differs line) (alone, same, inl (ended, short, row)) r w = absurd row.so.2
   replay_row (status.Differs line) (alone, same, inr (nothing, row)) r w = absurd row
-  replay_row status.SessionFull (alone, same, inl (ended, short, row)) r w = absurd row
+  replay_row status.SessionFull (alone, same, inl (ended, short, row)) r w = absurd row.so.2
   replay_row status.SessionFull (alone, same, inr (nothing, row)) r w = absurd row
 
   check_row : (result : Status) → OnCheck program result read written exchanges before now → (result ≡ status.ReadFault → Rose source.faults source'.faults) → (result ≡ status.WriteFault → Rose sink.faults sink'.faults) →

@@ -13,7 +13,7 @@ use Rattle.journal_laws.proofs.Replaying.{one_session, one_text}
 use Rattle.kernel_steps.specs.Outside.{deepest}
 use Rattle.kernel_steps.specs.Outcomes.{RanScript}
 use Rattle.kernel_top.specs.Unseen.{IsWhole}
-use Rattle.kernel_top.specs.Replaying.{OfReplay, CutsLines, StopsBetweenLines, Strays, Replayed}
+use Rattle.kernel_top.specs.Replaying.{OfReplay, CutsLines, StopsBetweenLines, Strays, IsUnwritten, Replayed}
 use Rattle.kernel_top.specs.RecordedRuns.{IsReplayOf, RecordedRunsReplay}
 use Rattle.kernel_top.specs.declared.status.Status.{Status}
 use Rattle.kernel_top.specs.declared.status.Status.TheVariants as status
@@ -45,14 +45,14 @@ module _ (program : Script → Program) (script : Script) (exchanges : List Exch
   replayed_so (status.Script line) written before now r =
       let same = one_session exchanges r.1.journal bytes r.1.bytes journal r.1.lines r.1.is in
       r.1.so.none script (subst (λ l. IsScript l script) same.scripts is)
-  replayed_so (status.Strayed most) written before now r = (read_back (λ list s. Strays (program s) s list most) r.1).unended whole
-  replayed_so (status.Differs line) written before now r = r
-  replayed_so status.Usage written before now r = r
-  replayed_so status.ReadFault written before now r = r
-  replayed_so status.JournalFull written before now r = r
-  replayed_so status.SessionFull written before now r = r
+  replayed_so (status.Strayed most) written before now r = (read_back (λ list s. IsUnwritten written before now × Strays (program s) s list most) r).1.unended whole
+  replayed_so (status.Differs line) written before now r = r.so.2
+  replayed_so status.Usage written before now r = r.so.2
+  replayed_so status.ReadFault written before now r = r.so.2
+  replayed_so status.JournalFull written before now r = r.so.2
+  replayed_so status.SessionFull written before now r = r.so.2
 
 pub recorded_runs_replay : (program : Script → Program) → RecordedRunsReplay program
 recorded_runs_replay program script read bytes exchanges before now is recorded answer written before' now' r =
     replayed_so program script exchanges read recorded.whole.lines recorded.lines is recorded.whole.ran answer written before' now'
-    (subst (λ l. Replayed program answer l written before' now') recorded.session.is r)
+    (subst (λ l. Replayed program answer l written before' now') recorded.session.whole.is r)

@@ -58,7 +58,9 @@ module _ (program : Program) (script : Script) (list : List Exchange) where
 
 -- THE BYTES
 pub no_read_fault : (program : Script → Program) (answer : Status) (read written : List ℕ) (before now : SinkState) → Replayed program answer read written before now → answer ≡ status.ReadFault → ⊥
-no_read_fault program answer read written before now so e = subst (λ a. Replayed program a read written before now) e so
+no_read_fault program answer read written before now so e =
+    let row : Replayed program status.ReadFault read written before now = subst (λ a. Replayed program a read written before now) e so in
+    row.so.2
 
 -- a journal has no more exchanges than bytes
 pub few_lines : (list : List Exchange) → length list ≤ length (journal list)
@@ -82,7 +84,7 @@ replayed_bytes program script status.Done read journal at written before now to 
 replayed_bytes program script status.WriteFault read journal at written before now to is so = record { journal = journal; bytes = drop at read; lines = to.lines; is = to.whole; so = (script, is, so) }
 replayed_bytes program script status.NoMemory read journal at written before now to is (inl nothing) = inl nothing
 replayed_bytes program script status.NoMemory read journal at written before now to is (inr so) = inr (record { journal = journal; bytes = drop at read; lines = to.lines; is = to.whole; so = (script, is, so) })
-replayed_bytes program script (status.Strayed most) read journal at written before now to is (nothing, so) = (nothing, record { journal = journal; bytes = drop at read; lines = to.lines; is = to.whole; so = (script, is, so) })
+replayed_bytes program script (status.Strayed most) read journal at written before now to is so = record { journal = journal; bytes = drop at read; lines = to.lines; is = to.whole; so = (script, is, so) }
 replayed_bytes program script (status.Differs line) read journal at written before now to is so = absurd so
 replayed_bytes program script status.Usage read journal at written before now to is so = absurd so
 replayed_bytes program script (status.Script line) read journal at written before now to is so = absurd so

@@ -1,14 +1,15 @@
 -- What becomes of a session that is written, and its length.
-use Rattle.std.proofs.Common.{◌≡◌, ℕ, ◌<◌, ◌-◌, ◌^◌, min, Bool, true, false, List, [], ◌++◌, length, Result, Ok, Err, refl, ap, ◌∙◌, arith}
-use Rattle.std.specs.Prelude.{nat_le, nat_lt}
+use Rattle.std.proofs.Common.{◌≡◌, ℕ, ◌-◌, ◌^◌, min, true, false, List, [], ◌++◌, length, Result, Ok, Err, refl, ap, ◌∙◌, arith}
+use Rattle.std.specs.Prelude.{nat_le}
 use Rattle.std.specs.Io.KnownBytes.{Appends}
-use Rattle.std.proofs.lemmas.Bool.{ltb-true, ltb-false, leb-true, leb-false, le-leb}
+use Rattle.std.proofs.lemmas.Bool.{leb-true, leb-false, le-leb}
 use Rattle.text_model.proofs.Cases.{same_tests}
 use Rattle.ek_types.specs.Io.{SinkState, Writes, Continues}
 use Rattle.ek_types.proofs.Printing.{continues_then, writes_of}
 use Rattle.run_counters.specs.Counting.{counting_state}
 use Rattle.kernel_top.specs.Sessions.{longest_session, fits, Written, IsTooLong}
 use Rattle.kernel_top.specs.Outcomes.{written_status}
+use Rattle.kernel_top.proofs.Writing.{all_written, front_written}
 
 -- writing that goes on from where a whole text was written
 pub written_then : {T U E F : Type 0} {r : Result T E} {s : Result U F} {old mid new : SinkState} {a b : List ℕ} → Writes old mid r a → Continues r s mid new b → Writes old new s (a ++ b)
@@ -34,14 +35,10 @@ fits_by bytes count e =
 pub written_whole : {T E : Type 0} (r : Result T E) (bytes : List ℕ) (old new : SinkState) → fits bytes ≡ true → Writes old new r bytes →
     (written : List ℕ) × Appends old.held new.held written × Written (written_status r) bytes written old new
 written_whole (Ok x) bytes old new short w =
-    (bytes, w.ok, record { is = refl; short = leb-true (length bytes) longest_session short; roomy = λ few. (w.roomy few).faults })
+    (bytes, w.ok, record { short = leb-true (length bytes) longest_session short; whole = all_written old new bytes w })
 written_whole (Err e) bytes old new short w =
     let (front, is_front, put) = w.err in
-    (front, put, record { front = is_front; short = leb-true (length bytes) longest_session short; room = by (nat_lt old.room (length bytes)) refl })
-  where
-    by : (b : Bool) → nat_lt old.room (length bytes) ≡ b → old.room < length bytes
-    by true e = ltb-true old.room (length bytes) e
-    by false e = absurd (let no = (w.roomy (ltb-false old.room (length bytes) e)).ok in cc)
+    (front, put, record { short = leb-true (length bytes) longest_session short; part = front_written old new bytes front w is_front })
 
 pub too_long : (bytes : List ℕ) (sink : SinkState) → fits bytes ≡ false → IsTooLong bytes [] sink sink
 too_long bytes sink e = record { long = leb-false (length bytes) longest_session e; nothing = refl; same = refl }

@@ -1,7 +1,5 @@
 -- What the word `view` comes to.
-use Rattle.std.proofs.Common.{◌≡◌, ℕ, ◌<◌, Bool, true, false, List, [], length, Result, Ok, Err, inl, inr, refl, sym, ap, subst, arith}
-use Rattle.std.specs.Prelude.{nat_lt}
-use Rattle.std.proofs.lemmas.Bool.{ltb-true, ltb-false}
+use Rattle.std.proofs.Common.{◌≡◌, ℕ, List, [], Result, Ok, Err, inl, inr, refl, sym, ap, subst, arith}
 use Rattle.std.specs.Io.KnownBytes.{Appends}
 use Rattle.std.proofs.KnownBytes.{Appends-nil}
 use Rattle.editor_model.specs.Values.{Script}
@@ -10,16 +8,18 @@ use Rattle.plain_machine.specs.Exchanges.{Exchange}
 use Rattle.plain_machine.specs.State.{Program}
 use Rattle.plain_machine.specs.WholeRuns.{Ran}
 use Rattle.plain_machine.specs.Grammar.{IsScript}
-use Rattle.ek_types.specs.Io.{SinkState, HasCause, IsPrefixOf}
+use Rattle.ek_types.specs.Io.{SinkState, HasCause}
 use Rattle.final_view.specs.Faults.{Views}
 use Rattle.final_view.specs.declared.fault.ViewFault.{ViewFault}
 use Rattle.final_view.specs.declared.fault.ViewFault.TheVariants as fault
 use Rattle.kernel_steps.specs.Outside.{deepest}
 use Rattle.kernel_top.specs.Reading.{HasEnded}
+use Rattle.kernel_top.specs.Writing.{IsWhollyWritten, IsFrontWritten}
 use Rattle.kernel_top.specs.Viewing.{view_of, Viewed, viewed_status}
 use Rattle.kernel_top.specs.Outcomes.{Seen, OnView}
 use Rattle.kernel_top.specs.declared.status.Status.{Status}
 use Rattle.kernel_top.specs.declared.status.Status.TheVariants as status
+use Rattle.kernel_top.proofs.Writing.{all_written, front_written}
 
 -- a view that couldn't be written is the sink's fault
 pub cause : (r : Result (Unit {0}) ViewFault) (old new : SinkState) (bytes : List ℕ) → Views old new r bytes → HasCause old.faults new.faults (viewed_status r ≡ status.WriteFault)
@@ -39,23 +39,12 @@ module _ (program : Program) (script : Script) where
   pub viewed : (exchanges : List Exchange) (lines : List ℕ) (ran : Ran program deepest script exchanges lines) (left : Editor) → ran.last.state.editor ≡ left → (r : Result (Unit {0}) ViewFault) (old new : SinkState) → Views old new r (view_of left) →
       (written : List ℕ) × Appends old.held new.held written × Viewed (viewed_status r) program script written exchanges old new
   viewed exchanges lines ran left last (Ok x) old new w =
-      let is : view_of left ≡ view_of ran.last.state.editor = ap view_of (sym last) in
-      (view_of left, w.ok, record { lines = lines; ran = ran; is = is; roomy = λ few. (w.roomy few).faults })
+      let view = subst (λ e. IsWhollyWritten (view_of e) (view_of left) old new) (sym last) (all_written old new (view_of left) w) in
+      (view_of left, w.ok, record { lines = lines; ran = ran; view = view })
   viewed exchanges lines ran left last (Err fault.Sink) old new w =
-      let (front, is_front, put) = w.err in (
-        front,
-        put,
-        record {
-          lines = lines;
-          ran = ran;
-          front = subst (λ e. IsPrefixOf front (view_of e)) (sym last) is_front;
-          room = subst (λ e. old.room < length (view_of e)) (sym last) (by (nat_lt old.room (length (view_of left))) refl);
-        },
-      )
-    where
-      by : (b : Bool) → nat_lt old.room (length (view_of left)) ≡ b → old.room < length (view_of left)
-      by true e = ltb-true old.room (length (view_of left)) e
-      by false e = absurd (let no = (w.roomy (ltb-false old.room (length (view_of left)) e)).ok in cc)
+      let (front, is_front, put) = w.err in
+      let view = subst (λ e. IsFrontWritten (view_of e) front old) (sym last) (front_written old new (view_of left) front w is_front) in
+      (front, put, record { lines = lines; ran = ran; view = view })
   viewed exchanges lines ran left last (Err fault.NoMemory) old new same =
       ([], subst (λ s. Appends old.held s.held []) (sym same) (Appends-nil old.held), record { came = inl (record { lines = lines; ran = ran }); nothing = refl; same = same })
 

@@ -1,16 +1,17 @@
 -- What a check comes to: claimed lines beside those of the machine's run of a script on the exchanges of a
 -- journal.
 pub use Rattle.trace_check.specs.Verdicts.{IsClaimed, DiffersIn}
-use Rattle.std.specs.Prelude.{◌≡◌, ℕ, ◌≤◌, ◌<◌, List, length, codes}
+use Rattle.std.specs.Prelude.{◌≡◌, ℕ, List, codes}
 use Rattle.editor_model.specs.Values.{Script}
 use Rattle.plain_machine.specs.Exchanges.{Exchange}
 use Rattle.plain_machine.specs.State.{Program}
 use Rattle.plain_machine.specs.Grammar.{IsScript}
-use Rattle.ek_types.specs.Io.{SinkState, IsPrefixOf}
+use Rattle.ek_types.specs.Io.{SinkState}
 use Rattle.journal_text.specs.Lines.{transcript}
 use Rattle.journal_text.specs.Allowed.{IsJournal}
 use Rattle.journal_text.specs.Transcripts.{HasNoTranscript, IsTranscriptFault}
 use Rattle.kernel_top.specs.Scripts.{HasNoScript}
+use Rattle.kernel_top.specs.Writing.{IsWhollyWritten, IsFrontWritten}
 use Rattle.kernel_top.specs.Replaying.{Strays, IsUnwritten}
 use Rattle.kernel_top.specs.declared.status.Status.{Status}
 use Rattle.kernel_top.specs.declared.status.Status.TheVariants as status
@@ -58,7 +59,7 @@ yes = codes "yes\n"
 
 abbrev pub Told : (Script → Program) → Status → (read written : List ℕ) → (before now : SinkState) → Type 0
 Told program status.Done read written before now =
-    Checked program status.Done read × (written ≡ yes) × (length yes ≤ before.room → now.faults ≡ before.faults)
+    Checked program status.Done read × IsWhollyWritten yes written before now
 Told program status.WriteFault read written before now =
-    Checked program status.Done read × IsPrefixOf written yes × (before.room < length yes)
+    Checked program status.Done read × IsFrontWritten yes written before
 Told program answer read written before now = IsUnwritten written before now × Checked program answer read

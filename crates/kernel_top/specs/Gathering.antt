@@ -1,7 +1,6 @@
 -- What a line session comes to: its script is run with its two natives and its lines thrown away, and the
 -- text of the buffer `*session*` is written.
-use Rattle.std.specs.Prelude.{◌≡◌, ℕ, ◌<◌, ◌≤◌, Bool, true, false, List, length, map, flat_map}
-use Rattle.std.specs.Prelude.{if◌then◌else◌, Result, Ok, Err}
+use Rattle.std.specs.Prelude.{◌≡◌, ℕ, Bool, true, false, List, map, flat_map, if◌then◌else◌, Result, Ok, Err}
 use Rattle.text_model.specs.Characters.{Ch, encoded}
 use Rattle.text_model.specs.Properties.{Cell}
 use Rattle.editor_model.specs.Values.{Value, Script}
@@ -15,6 +14,7 @@ use Rattle.line_session.specs.Script.{command_of, session_script}
 use Rattle.session_laws.specs.Sessions.{characters_gathered, is_full, TextBy}
 use Rattle.command_words.specs.SessionWords.{SessionWords}
 use Rattle.kernel_top.specs.Unseen.{IsWhole}
+use Rattle.kernel_top.specs.Writing.{IsWhollyWritten, IsFrontWritten}
 use Rattle.kernel_top.specs.declared.status.Status.{Status}
 use Rattle.kernel_top.specs.declared.status.Status.TheVariants as status
 
@@ -45,23 +45,13 @@ gathered_status full (Ok x) = if full then status.SessionFull else status.Done
 gathered_status full (Err e) = status.WriteFault
 
 -- THE OUTCOME
--- the text was written whole, and the sink hasn't failed where it had room for it
-pub record IsGathered (bytes written : List ℕ) (before now : SinkState) : Type 0 where
-  pub is : written ≡ bytes
-  pub roomy : length written ≤ before.room → now.faults ≡ before.faults
-
--- a front of the text was written, and the sink had not promised room for the whole
-pub record IsGatheredFront (bytes written : List ℕ) (before : SinkState) : Type 0 where
-  pub front : IsPrefixOf written bytes
-  pub room : before.room < length bytes
-
 -- what became of the text of a session that has ended in this state
 abbrev pub Gathered : Status → (last : State) → (written : List ℕ) → (before now : SinkState) → Type 0
 Gathered status.Done last written before now =
-    (is_full last ≡ false) × IsGathered (gathered last.editor) written before now
+    (is_full last ≡ false) × IsWhollyWritten (gathered last.editor) written before now
 Gathered status.SessionFull last written before now =
-    (is_full last ≡ true) × IsGathered (gathered last.editor) written before now
-Gathered status.WriteFault last written before now = IsGatheredFront (gathered last.editor) written before
+    (is_full last ≡ true) × IsWhollyWritten (gathered last.editor) written before now
+Gathered status.WriteFault last written before now = IsFrontWritten (gathered last.editor) written before
 Gathered _ last written before now = ⊥
 
 -- the script was run to its end over just these exchanges, and this became of its text

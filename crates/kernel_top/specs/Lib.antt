@@ -2,6 +2,7 @@ pub mod Reading
 pub mod Scripts
 pub mod Drills
 pub mod Unseen
+pub mod Writing
 pub mod Sessions
 pub mod Replaying
 pub mod Checking

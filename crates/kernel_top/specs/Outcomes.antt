@@ -7,7 +7,7 @@ use Rattle.plain_machine.specs.Exchanges.{Ask, Answer, Exchange}
 use Rattle.plain_machine.specs.State.{Program}
 use Rattle.plain_machine.specs.Grammar.{longest_script, IsScript}
 use Rattle.plain_machine.specs.Drill.{drill_script}
-use Rattle.ek_types.specs.Io.{SourceState, SinkState, Rose, IsPrefixOf}
+use Rattle.ek_types.specs.Io.{SourceState, SinkState, Rose}
 use Rattle.host_link.specs.Hosts.{HostState}
 use Rattle.session_laws.specs.Sessions.{StartsInTurn}
 use Rattle.kernel_steps.specs.HostCalls.{CallsSince, TellsBehind}
@@ -17,6 +17,7 @@ use Rattle.kernel_steps.specs.declared.stop.Stop.TheVariants as stop
 use Rattle.command_words.specs.SessionWords.{SessionWords}
 use Rattle.kernel_top.specs.Reading.{HasEnded}
 use Rattle.kernel_top.specs.Scripts.{HasNoScript}
+use Rattle.kernel_top.specs.Writing.{IsWhollyWritten, IsFrontWritten}
 use Rattle.kernel_top.specs.Drills.{SumsUp, BreaksOff}
 use Rattle.kernel_top.specs.Sessions.{longest_session, Records, BreaksOffUnseen}
 use Rattle.kernel_top.specs.Replaying.{ReadAnd, Replayed}
@@ -147,20 +148,19 @@ OnCheck program answer read written exchanges before now =
     ReadAnd (Told program) answer read written
     (HasEnded before.source.left now.source.left) before.sink now.sink
 
--- the summary was written, and the sink hasn't failed where it had room for it
-abbrev pub WritesSummary :
-    (program : Program) → (count : ℕ) → (written : List ℕ) → List Exchange → (before now : Seen) → Type 0
-WritesSummary program count written exchanges before now =
-    SumsUp program count exchanges written ×
-    (length written ≤ before.sink.room → now.sink.faults ≡ before.sink.faults)
+-- the summary was written whole
+pub record WritesSummary (program : Program) (count : ℕ) (written : List ℕ) (exchanges : List Exchange)
+    (before now : Seen) : Type 0 where
+  pub line : List ℕ
+  pub sums : SumsUp program count exchanges line
+  pub summary : IsWhollyWritten line written before.sink now.sink
 
--- a front of the summary was written, and the sink had not promised room for the whole
+-- a front of the summary was written
 pub record CutsSummary (program : Program) (count : ℕ) (written : List ℕ) (exchanges : List Exchange)
     (before : Seen) : Type 0 where
   pub line : List ℕ
   pub sums : SumsUp program count exchanges line
-  pub front : IsPrefixOf written line
-  pub room : before.sink.room < length line
+  pub summary : IsFrontWritten line written before.sink
 
 -- the words `drill` and a number
 abbrev pub OnDrill :

@@ -61,24 +61,6 @@ pub record IsNoSession (read : List ℕ) (line : ℕ) : Type 0 where
 abbrev pub IsUnwritten : (written : List ℕ) → (before now : SinkState) → Type 0
 IsUnwritten written before now = (written ≡ []) × (now ≡ before)
 
--- what a replay of these bytes came to, by its status
-abbrev pub Replayed : (Script → Program) → Status → (read written : List ℕ) → (before now : SinkState) → Type 0
-Replayed program status.Done read written before now =
-    OfReplay read (λ journal script. RanScript (program script) script journal written before now)
-Replayed program status.WriteFault read written before now =
-    OfReplay read (λ journal script. CutsLines (program script) script journal written before now)
-Replayed program status.NoMemory read written before now =
-    IsUnwritten written before now ⊎
-    OfReplay read (λ journal script. StopsBetweenLines (program script) script journal written before now)
-Replayed program (status.Journal line) read written before now =
-    IsUnwritten written before now × IsNoSession read line
-Replayed program (status.Script line) read written before now =
-    IsUnwritten written before now × OfSession read (λ journal bytes. HasNoScript bytes line)
-Replayed program (status.Strayed most) read written before now =
-    IsUnwritten written before now × OfReplay read
-    (λ journal script. Strays (program script) script journal most)
-Replayed program _ read written before now = ⊥
-
 -- what a replay of a script over a journal came to, by its status
 abbrev pub ReplayedOn :
     Program → Status → Script → (journal : List Exchange) → (written : List ℕ) →
@@ -92,6 +74,18 @@ ReplayedOn program status.NoMemory script journal written before now =
 ReplayedOn program (status.Strayed most) script journal written before now =
     IsUnwritten written before now × Strays program script journal most
 ReplayedOn program _ script journal written before now = ⊥
+
+-- what a replay of these bytes came to, by its status
+abbrev pub Replayed : (Script → Program) → Status → (read written : List ℕ) → (before now : SinkState) → Type 0
+Replayed program status.NoMemory read written before now =
+    IsUnwritten written before now ⊎
+    OfReplay read (λ journal script. StopsBetweenLines (program script) script journal written before now)
+Replayed program (status.Journal line) read written before now =
+    IsUnwritten written before now × IsNoSession read line
+Replayed program (status.Script line) read written before now =
+    IsUnwritten written before now × OfSession read (λ journal bytes. HasNoScript bytes line)
+Replayed program answer read written before now =
+    OfReplay read (λ journal script. ReplayedOn (program script) answer script journal written before now)
 
 -- the source wasn't read to its end: it failed, memory was wanting, or it has more bytes than a session may
 -- have

@@ -4,10 +4,11 @@ use Rattle.std.specs.Prelude.{◌≡◌, ℕ, ◌<◌, ◌≤◌, nat_le, Bool, 
 use Rattle.editor_model.specs.Values.{Script}
 use Rattle.plain_machine.specs.Exchanges.{Exchange}
 use Rattle.plain_machine.specs.State.{Program}
-use Rattle.ek_types.specs.Io.{SinkState, IsPrefixOf}
+use Rattle.ek_types.specs.Io.{SinkState}
 use Rattle.journal_text.specs.Lines.{session}
 use Rattle.journal_text.specs.Allowed.{AreLines}
 use Rattle.kernel_top.specs.Unseen.{IsWhole, IsBrokenOff}
+use Rattle.kernel_top.specs.Writing.{IsWhollyWritten, IsFrontWritten}
 use Rattle.kernel_top.specs.declared.status.Status.{Status}
 use Rattle.kernel_top.specs.declared.status.Status.TheVariants as status
 
@@ -18,17 +19,15 @@ longest_session = 268435456
 abbrev pub fits : List ℕ → Bool
 fits bytes = nat_le (length bytes) longest_session
 
--- the session was written whole, and the sink hasn't failed where it had room for it
+-- the session isn't too long, and was written whole
 pub record IsWritten (bytes written : List ℕ) (before now : SinkState) : Type 0 where
-  pub is : written ≡ bytes
   pub short : length bytes ≤ longest_session
-  pub roomy : length written ≤ before.room → now.faults ≡ before.faults
+  pub whole : IsWhollyWritten bytes written before now
 
--- a front of the session was written, and the sink had not promised room for the whole
+-- the session isn't too long, and a front of it was written
 pub record IsCut (bytes written : List ℕ) (before : SinkState) : Type 0 where
-  pub front : IsPrefixOf written bytes
   pub short : length bytes ≤ longest_session
-  pub room : before.room < length bytes
+  pub part : IsFrontWritten bytes written before
 
 -- the session is too long, and nothing was written
 pub record IsTooLong (bytes written : List ℕ) (before now : SinkState) : Type 0 where

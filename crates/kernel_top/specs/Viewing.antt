@@ -1,18 +1,19 @@
 -- What the word `view` comes to: a script is run with its lines thrown away, and its last current buffer is
 -- written as it would be seen.
-use Rattle.std.specs.Prelude.{◌≡◌, ℕ, ◌<◌, ◌≤◌, ◌⊎◌, List, [], length, flat_map, Result, Ok, Err}
+use Rattle.std.specs.Prelude.{◌≡◌, ℕ, ◌⊎◌, List, [], flat_map, Result, Ok, Err}
 use Rattle.text_model.specs.Characters.{encoded}
 use Rattle.editor_model.specs.Values.{Script}
 use Rattle.editor_model.specs.Editor.{Editor}
 use Rattle.plain_machine.specs.Exchanges.{Exchange}
 use Rattle.plain_machine.specs.State.{Program}
 use Rattle.plain_machine.specs.WholeRuns.{Ran}
-use Rattle.ek_types.specs.Io.{SinkState, IsPrefixOf}
+use Rattle.ek_types.specs.Io.{SinkState}
 use Rattle.final_view.specs.Shown.{shown}
 use Rattle.final_view.specs.declared.fault.ViewFault.{ViewFault}
 use Rattle.final_view.specs.declared.fault.ViewFault.TheVariants as fault
 use Rattle.kernel_steps.specs.Outside.{deepest}
 use Rattle.kernel_top.specs.Unseen.{IsWhole, IsBrokenOff}
+use Rattle.kernel_top.specs.Writing.{IsWhollyWritten, IsFrontWritten}
 use Rattle.kernel_top.specs.declared.status.Status.{Status}
 use Rattle.kernel_top.specs.declared.status.Status.TheVariants as status
 
@@ -20,22 +21,19 @@ use Rattle.kernel_top.specs.declared.status.Status.TheVariants as status
 abbrev pub view_of : Editor → List ℕ
 view_of e = flat_map encoded (shown e e.current)
 
--- The script has run to its end over just these exchanges, and the view of its last state was written. The
--- sink hasn't failed where it had room for it.
+-- the script has run to its end over just these exchanges, and the view of its last state was written whole
 pub record ShowsView (program : Program) (script : Script) (written : List ℕ)
     (exchanges : List Exchange) (before now : SinkState) : Type 0 where
   pub lines : List ℕ
   pub ran : Ran program deepest script exchanges lines
-  pub is : written ≡ view_of ran.last.state.editor
-  pub roomy : length written ≤ before.room → now.faults ≡ before.faults
+  pub view : IsWhollyWritten (view_of ran.last.state.editor) written before now
 
--- the same, but a front of the view was written, and the sink had not promised room for the whole
+-- the same, but a front of the view was written
 pub record CutsView (program : Program) (script : Script) (written : List ℕ) (exchanges : List Exchange)
     (before : SinkState) : Type 0 where
   pub lines : List ℕ
   pub ran : Ran program deepest script exchanges lines
-  pub front : IsPrefixOf written (view_of ran.last.state.editor)
-  pub room : before.room < length (view_of ran.last.state.editor)
+  pub view : IsFrontWritten (view_of ran.last.state.editor) written before
 
 -- memory was wanting in the run of the script, or behind its end, and nothing was written
 pub record ShowsNothing (program : Program) (script : Script) (written : List ℕ)
