@@ -13,7 +13,8 @@ use Rattle.kernel_steps.specs.Ending.{IsAnsweredKill}
 use Rattle.kernel_steps.specs.Outcomes.{RanScript, StoppedScript}
 use Rattle.kernel_steps.specs.declared.stop.Stop.{Stop}
 use Rattle.plain_machine.specs.Grammar.{line_feeds}
-use Rattle.kernel_top.specs.Drills.{SumsUp, BreaksOff, AreCounts, line_of}
+use Rattle.kernel_top.specs.Drills.{SumsUp, AreCounts, line_of}
+use Rattle.kernel_top.specs.Unseen.{IsBrokenOff}
 use Rattle.kernel_top.specs.declared.summing.Counts.{Counts}
 
 summary_is : (count : ℕ) (said : List Said) (exchanges : List Exchange) (last : State) (counts : Counts) → AreCounts said exchanges last counts → line_of count counts ≡ summary count said exchanges last
@@ -32,9 +33,9 @@ module _ (program : Script → Program) (script : Script) (count : ℕ) (is : sc
       } in
       let summed : line_of count counts ≡ summary count whole.ran.said exchanges whole.ran.last.state = summary_is count whole.ran.said exchanges whole.ran.last.state counts are in
       let (ran, same) = subst (λ s. (r : Ran (program s) deepest s exchanges written) × (line_of count counts ≡ summary count r.said exchanges r.last.state)) is (whole.ran, summed) in
-      record { unwritten = written; ran = ran; summed = same }
+      record { whole = record { lines = written; ran = ran }; summed = same }
 
-  pub breaks_off : (why : Stop) → StoppedScript why (program script) script exchanges written before now → BreaksOff (program (drill_script count)) count exchanges
+  pub breaks_off : (why : Stop) → StoppedScript why (program script) script exchanges written before now → IsBrokenOff (program (drill_script count)) (drill_script count) exchanges
   breaks_off why stopped =
       let (broken, answered) = subst (λ s. (b : BrokenOff (program s) deepest s exchanges written) × All IsAnsweredKill b.kills) is (stopped.broken, stopped.answered) in
-      record { unwritten = written; broken = broken; answered = answered }
+      record { lines = written; broken = broken; answered = answered }

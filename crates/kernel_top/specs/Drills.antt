@@ -1,30 +1,21 @@
 -- What a drill comes to: its script is run, and what the run says is counted and not written.
-use Rattle.std.specs.Prelude.{◌≡◌, ℕ, ◌%◌, ◌^◌, ◌++◌, All, List, codes, decimal, length, Result, Ok, Err}
+use Rattle.std.specs.Prelude.{◌≡◌, ℕ, ◌%◌, ◌^◌, ◌++◌, List, codes, decimal, length, Result, Ok, Err}
 use Rattle.editor_model.specs.Editor.{characters_in}
 use Rattle.plain_machine.specs.Exchanges.{Exchange}
 use Rattle.plain_machine.specs.State.{State, Program}
 use Rattle.plain_machine.specs.Items.{Said}
 use Rattle.plain_machine.specs.Run.{lines}
-use Rattle.plain_machine.specs.WholeRuns.{Ran, BrokenOff}
 use Rattle.plain_machine.specs.Drill.{drill_script, summary}
 use Rattle.plain_machine.specs.Grammar.{line_feeds}
-use Rattle.kernel_steps.specs.Outside.{deepest}
-use Rattle.kernel_steps.specs.Ending.{IsAnsweredKill}
 use Rattle.kernel_steps.specs.declared.stop.Stop.{Stop}
 use Rattle.kernel_top.specs.declared.summing.Counts.{Counts}
+use Rattle.kernel_top.specs.Unseen.{IsWhole, IsBrokenOff}
 
 -- A DRILL
 -- the drill's script has run to its end over just these exchanges, and the line is the summary of that run
 pub record SumsUp (program : Program) (count : ℕ) (exchanges : List Exchange) (line : List ℕ) : Type 0 where
-  pub unwritten : List ℕ
-  pub ran : Ran program deepest (drill_script count) exchanges unwritten
-  pub summed : line ≡ summary count ran.said exchanges ran.last.state
-
--- the run of the drill's script was broken off, and these exchanges are those that it made and the kills
-pub record BreaksOff (program : Program) (count : ℕ) (exchanges : List Exchange) : Type 0 where
-  pub unwritten : List ℕ
-  pub broken : BrokenOff program deepest (drill_script count) exchanges unwritten
-  pub answered : All IsAnsweredKill broken.kills
+  pub whole : IsWhole program (drill_script count) exchanges
+  pub summed : line ≡ summary count whole.ran.said exchanges whole.ran.last.state
 
 -- COUNTS
 -- the counts of a run, each modulo 2^64
@@ -43,4 +34,4 @@ line_of count counts =
 -- the drill's script was run and counted, or that run was broken off
 abbrev pub Counted : Result Counts Stop → Program → (count : ℕ) → List Exchange → Type 0
 Counted (Ok counts) program count exchanges = SumsUp program count exchanges (line_of count counts)
-Counted (Err why) program count exchanges = BreaksOff program count exchanges
+Counted (Err why) program count exchanges = IsBrokenOff program (drill_script count) exchanges

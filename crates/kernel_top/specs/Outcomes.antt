@@ -18,7 +18,7 @@ use Rattle.command_words.specs.SessionWords.{SessionWords}
 use Rattle.kernel_top.specs.Reading.{HasEnded}
 use Rattle.kernel_top.specs.Scripts.{HasNoScript}
 use Rattle.kernel_top.specs.Writing.{IsWhollyWritten, IsFrontWritten}
-use Rattle.kernel_top.specs.Drills.{SumsUp, BreaksOff}
+use Rattle.kernel_top.specs.Drills.{SumsUp}
 use Rattle.kernel_top.specs.Sessions.{longest_session, Records, BreaksOffUnseen}
 use Rattle.kernel_top.specs.Replaying.{ReadAnd, Replayed}
 use Rattle.kernel_top.specs.Checking.{Told}
@@ -172,7 +172,7 @@ OnDrill program count status.WriteFault written exchanges before now =
     CutsSummary (program (drill_script count)) count written exchanges before
 OnDrill program count status.NoMemory written exchanges before now =
     IsQuiet written exchanges before now ⊎
-    ((written ≡ []) × (now.sink ≡ before.sink) × BreaksOff (program (drill_script count)) count exchanges)
+    BreaksOffUnseen (program (drill_script count)) (drill_script count) written exchanges before.sink now.sink
 OnDrill program count _ written exchanges before now = ⊥
 
 -- a run whose text is gathered

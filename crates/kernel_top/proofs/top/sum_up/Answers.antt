@@ -22,7 +22,7 @@ returns-in_default-counted-clause-outcome g c =
       exchanges = exchanges;
       put = Appends-nil _;
       calls = calls;
-      so = λ source source'. inr (refl, refl, broken);
+      so = λ source source'. inr (record { broken = broken; nothing = refl; same = refl });
     }
 
 pub returns-clause-outcome : goal.returns-clause-outcome
