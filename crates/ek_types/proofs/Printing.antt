@@ -3,10 +3,11 @@ use Rattle.std.proofs.Common.{◌≡◌, ℕ, List, ◌++◌, take, drop, Result
 use Rattle.std.specs.declared.option.Option.{Option}
 use Rattle.std.specs.Io.KnownBytes.{Appends, Keeps}
 use Rattle.std.proofs.KnownBytes.{Appends-trans}
-use Rattle.ek_types.specs.Io.{SinkState, Writes, Continues, ContinuesBy, IsPrefixOf}
+use Rattle.text_model.specs.Fronts.{IsPrefixOf}
+use Rattle.ek_types.specs.Io.{SinkState, Writes, Continues, ContinuesBy}
 
 pub take_is_prefix : (i : ℕ) (xs : List ℕ) → IsPrefixOf (take i xs) xs
-take_is_prefix i xs = (drop i xs, sym (take-append-drop i xs))
+take_is_prefix i xs = (drop i xs, take-append-drop i xs)
 
 pub Appends-kept : (a b c : Option (List ℕ)) (bs : List ℕ) → Appends a b bs → Keeps b c → Appends a c bs
 Appends-kept None b c bs p q = tt
@@ -15,10 +16,10 @@ Appends-kept (Some x) (Some y) None bs p q = absurd q
 Appends-kept (Some x) (Some y) (Some z) bs p q = q ∙ p
 
 pub prefix_then : (a b w : List ℕ) → IsPrefixOf w b → IsPrefixOf (a ++ w) (a ++ b)
-prefix_then a b w (rest, e) = (rest, ap (λ l. a ++ l) e ∙ sym (append_assoc a w rest))
+prefix_then a b w (rest, e) = (rest, append_assoc a w rest ∙ ap (λ l. a ++ l) e)
 
 pub prefix_more : (a b w : List ℕ) → IsPrefixOf w a → IsPrefixOf w (a ++ b)
-prefix_more a b w (rest, e) = (rest ++ b, ap (λ l. l ++ b) e ∙ append_assoc w rest b)
+prefix_more a b w (rest, e) = (rest ++ b, sym (append_assoc w rest b) ∙ ap (λ l. l ++ b) e)
 
 -- a failure ends the writing there, whatever was to follow
 pub writes_stop : {T U E F : Type 0} (e : E) (f : F) (old new : SinkState) (a b : List ℕ) → Writes {T = T} old new (Err e) a → Writes {T = U} old new (Err f) (a ++ b)

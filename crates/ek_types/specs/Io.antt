@@ -3,6 +3,7 @@ use Rattle.std.specs.Prelude.{◌≡◌, ◌≢◌, ℕ, ◌+◌, ◌-◌, ◌^�
 use Rattle.std.specs.Prelude.{take, Result, Ok, Err, IsOk, OnOk, OnErr}
 use Rattle.std.specs.declared.option.Option.{Option}
 use Rattle.std.specs.Io.KnownBytes.{Appends, Consumes, Keeps, IsAtEnd}
+use Rattle.text_model.specs.Fronts.{IsPrefixOf}
 use Rattle.ek_types.specs.declared.io.Took.{Took}
 use Rattle.ek_types.specs.declared.io.Took.TheVariants as took
 use Rattle.ek_types.specs.declared.io.Wrote.{Wrote}
@@ -62,9 +63,6 @@ pub record StaysRoomy (old new : SinkState) (answer : Wrote) : Type 0 where
   pub answers : answer ≢ wrote.Failed
   pub faults : new.faults ≡ old.faults
   pub room : old.room ≤ new.room + taken_of answer
-
-abbrev pub IsPrefixOf : List ℕ → List ℕ → Type 0
-IsPrefixOf xs ys = (rest : List ℕ) × (ys ≡ xs ++ rest)
 
 -- what a sink with room for the bytes does: it fails in no call, and leaves the room that they didn't use
 pub record WritesAll {T E : Type 0} (old new : SinkState) (result : Result T E) (bytes : List ℕ) : Type 0 where

@@ -2,11 +2,12 @@
 use Rattle.std.proofs.Common.{◌≡◌, ℕ, ◌==◌, List, [], ◌∷◌, ◌++◌, length, Some, None, refl, ap, sym, subst, ◌∙◌, append_assoc, codes, decimal}
 use Rattle.std.specs.Prelude.{if◌then◌else◌, nat_le}
 use Rattle.std.proofs.lemmas.Bool.{leb-true, le-leb, eqb-true, eq-eqb}
+use Rattle.text_model.specs.Options.{◌>>=◌}
 use Rattle.plain_machine.specs.Lines.{shown_int}
 use Rattle.plain_machine.specs.Exchanges.{Ask, Answer, Spawn, Read, AskEnd, Send, Close, Kill, Started, Refused, Bytes, Nothing, End, Code, Signal, Running, Sent, Broken, Closed, Killed, Failed}
 use Rattle.journal_text.specs.Lines.{hex, answer_words}
 use Rattle.journal_text.specs.Allowed.{IsSpawned, IsRead, IsEnd, IsSent, IsClosed, IsKilled, IsAnswerTo, IsAnswerLine}
-use Rattle.journal_text.specs.Reading.{◌>>=◌, behind, choose, then_end, number_at, hex_at, code_at, fixed, as_started, spawned_at, as_bytes, given_at, nothing_got_at, got_at, as_code, ended_at, sent_at, closed_at, killed_at, answer_at}
+use Rattle.journal_text.specs.Reading.{behind, choose, then_end, number_at, hex_at, code_at, fixed, as_started, spawned_at, as_bytes, given_at, nothing_got_at, got_at, as_code, ended_at, sent_at, closed_at, killed_at, answer_at}
 use Rattle.journal_text.proofs.Finding.{behind_is, bound, chosen, here, there, tested_then, same_some}
 use Rattle.journal_text.proofs.Numbers.{number_there, number_found}
 use Rattle.journal_text.proofs.Hexes.{hex_there, hex_found}

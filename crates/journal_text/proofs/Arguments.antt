@@ -1,8 +1,9 @@
 -- Arguments that are read one by one, up to the arrow.
 use Rattle.std.proofs.Common.{◌≡◌, ℕ, zero, suc, ◌<◌, List, [], ◌∷◌, ◌++◌, length, refl, sym, ap, ◌∙◌, append_assoc, append-nil, arith, Some, None}
 use Rattle.std.proofs.lemmas.List.{length-append}
+use Rattle.text_model.specs.Options.{◌>>=◌}
 use Rattle.journal_text.specs.Lines.{led_word}
-use Rattle.journal_text.specs.Reading.{◌>>=◌, Found, behind, choose, arrow, led_word_at, with_word, words_within, words_at}
+use Rattle.journal_text.specs.Reading.{Found, behind, choose, arrow, led_word_at, with_word, words_within, words_at}
 use Rattle.journal_text.proofs.Words.{led_word_found}
 
 -- some arguments in front of those that are read

@@ -1,9 +1,10 @@
 -- Asks with the arrow behind them.
 use Rattle.std.proofs.Common.{◌≡◌, ℕ, ◌<◌, ◌≤◌, ◌^◌, List, ◌∷◌, ◌++◌, length, Some, refl, ap, sym, subst, ◌∙◌, append_assoc, codes, decimal}
+use Rattle.text_model.specs.Options.{◌>>=◌}
 use Rattle.plain_machine.specs.Exchanges.{Ask, Spawn, Read, AskEnd, Send, Close, Kill}
 use Rattle.journal_text.specs.Lines.{hex, led_words, ask_words}
 use Rattle.journal_text.specs.Allowed.{IsAskLine, AreBytes}
-use Rattle.journal_text.specs.Reading.{◌>>=◌, behind, choose, arrow, then_arrow, number_at, hex_at, text_at, words_at, spawn_at, child_at, ask_of_child, bytes_at, send_at, ask_child_at, ask_at}
+use Rattle.journal_text.specs.Reading.{behind, choose, arrow, then_arrow, number_at, hex_at, text_at, words_at, spawn_at, child_at, ask_of_child, bytes_at, send_at, ask_child_at, ask_at}
 use Rattle.journal_text.proofs.Finding.{behind_is, bound, chosen, here, there, same_some}
 use Rattle.journal_text.proofs.Numbers.{number_there, number_found}
 use Rattle.journal_text.proofs.Hexes.{hex_there, hex_found}

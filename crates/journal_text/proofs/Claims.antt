@@ -3,8 +3,9 @@ use Rattle.std.proofs.Common.{◌≡◌, ℕ, ◌+◌, ◌-◌, ◌^◌, ◌<◌
 use Rattle.std.specs.Prelude.{nat_le, if◌then◌else◌}
 use Rattle.std.proofs.lemmas.Bool.{leb-true, le-leb}
 use Rattle.std.proofs.lemmas.List.{length-append, length-take-le, take_at, drop_at}
+use Rattle.text_model.specs.Options.{◌>>=◌}
 use Rattle.journal_text.specs.Lines.{claim}
-use Rattle.journal_text.specs.Reading.{◌>>=◌, behind, number_at, then_end, counted_off, claim_at}
+use Rattle.journal_text.specs.Reading.{behind, number_at, then_end, counted_off, claim_at}
 use Rattle.journal_text.proofs.Finding.{behind_is, bound, same_some, tested}
 use Rattle.journal_text.proofs.Numbers.{number_there, number_found}
 use Rattle.journal_text.proofs.Journals.{IsNoLine}

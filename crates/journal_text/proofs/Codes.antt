@@ -5,10 +5,11 @@ use Rattle.std.specs.List.{list_all}
 use Rattle.std.proofs.lemmas.Bool.{and_parts, and_from, ltb-true, leb-true, le-leb, lt-ltb}
 use Rattle.std.proofs.lemmas.Bool.Decides.{nat_tests}
 use Rattle.std.proofs.lemmas.Fmt.{digits_decimal, decimal_nonempty}
+use Rattle.text_model.specs.Options.{◌>>=◌}
 use Rattle.plain_machine.specs.Lines.{shown_int}
 use Rattle.plain_machine.specs.Words.{is_digit}
 use Rattle.journal_text.specs.Allowed.{IsCode}
-use Rattle.journal_text.specs.Reading.{◌>>=◌, behind, choose, number_at, from_zero, below_zero, code_at}
+use Rattle.journal_text.specs.Reading.{behind, choose, number_at, from_zero, below_zero, code_at}
 use Rattle.journal_text.proofs.Finding.{behind_is, bound, chosen, here, there, tested}
 use Rattle.journal_text.proofs.Numbers.{own, number_there, number_found}
 

@@ -2,7 +2,8 @@
 use Rattle.std.proofs.Common.{◌≡◌, ℕ, Bool, true, false, List, [], ◌∷◌, ◌++◌, ◌==◌, Some, None, refl, ap, sym, ◌∙◌}
 use Rattle.std.specs.Prelude.{Option, if◌then◌else◌}
 use Rattle.std.proofs.lemmas.Bool.{eqb-true, eq-eqb}
-use Rattle.journal_text.specs.Reading.{◌>>=◌, behind, choose, Found}
+use Rattle.text_model.specs.Options.{◌>>=◌}
+use Rattle.journal_text.specs.Reading.{behind, choose, Found}
 
 -- some bytes stand first
 pub behind_is : (text bytes rest : List ℕ) → behind text bytes ≡ Some rest → bytes ≡ text ++ rest

@@ -1,6 +1,7 @@
 -- Lines one behind the other.
 use Rattle.std.proofs.Common.{◌≡◌, ℕ, ◌+◌, ◌-◌, ◌≤◌, List, [], ◌∷◌, ◌++◌, length, drop, Some, None, refl, ap, sym, subst, ◌∙◌, arith, append_assoc, codes}
 use Rattle.std.specs.Prelude.{Option, Result, Err}
+use Rattle.text_model.specs.Options.{◌>>=◌}
 use Rattle.journal_text.specs.declared.journal.JournalFault.{JournalFault}
 use Rattle.journal_text.specs.declared.journal.JournalFault.TheVariants as fault
 use Rattle.std.proofs.lemmas.List.{length-append, drop_at}
@@ -8,7 +9,7 @@ use Rattle.plain_machine.specs.Exchanges.{Exchange, Answer, Started, children_st
 use Rattle.journal_text.specs.Lines.{ask_words, line, journal, session}
 use Rattle.journal_text.specs.Allowed.{IsLine, AreLines, IsJournal, AreAnswered, next_after}
 use Rattle.journal_text.specs.Journals.{IsReadTo, HasNoJournal, IsFaultLine}
-use Rattle.journal_text.specs.Reading.{◌>>=◌, behind, arrow, ask_at, answer_at, with_answer, line_at}
+use Rattle.journal_text.specs.Reading.{behind, arrow, ask_at, answer_at, with_answer, line_at}
 use Rattle.journal_text.proofs.Finding.{behind_is, bound, same_some}
 use Rattle.journal_text.proofs.Asks.{ask_there, ask_found}
 use Rattle.journal_text.proofs.Answers.{ended_words, answer_there, answer_found}

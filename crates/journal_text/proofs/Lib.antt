@@ -3,7 +3,6 @@ pub mod Arguments
 pub mod Asks
 pub mod Called
 pub mod Codes
-pub mod Digits
 pub mod Finding
 pub mod Gathering
 pub mod Hexes

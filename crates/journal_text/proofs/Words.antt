@@ -7,9 +7,10 @@ use Rattle.std.proofs.lemmas.Bool.{and_parts, and_from}
 use Rattle.std.proofs.lemmas.Bool.Decides.{nat_tests}
 use Rattle.std.proofs.lemmas.Str.{IsUtf8-from_is_utf8, is_utf8-from_IsUtf8, IsUtf8-nil}
 use Rattle.std.proofs.lemmas.List.{length-append}
+use Rattle.text_model.specs.Options.{◌>>=◌}
 use Rattle.journal_text.specs.Lines.{hex_digit, hex, word, led_word, led_words}
 use Rattle.journal_text.specs.Allowed.{AreBytes, IsText, has_no_zero}
-use Rattle.journal_text.specs.Reading.{◌>>=◌, behind, choose, arrow, hex_at, is_text, as_text, text_at, word_at, led_word_at, with_word, words_within, words_at}
+use Rattle.journal_text.specs.Reading.{behind, choose, arrow, hex_at, is_text, as_text, text_at, word_at, led_word_at, with_word, words_within, words_at}
 use Rattle.journal_text.proofs.Finding.{behind_is, bound, chosen, Chosen, here, there, tested, same_some}
 use Rattle.journal_text.proofs.Hexes.{hex_there, hex_found}
 

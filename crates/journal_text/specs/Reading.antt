@@ -4,16 +4,12 @@ use Rattle.std.specs.Prelude.{Bool, true, false, not, ◌&&◌, ◌||◌, if◌t
 use Rattle.std.specs.Prelude.{take, drop, codes, Option, Some, None}
 use Rattle.std.specs.List.{prefix_len}
 use Rattle.std.specs.Str.{is_utf8}
+use Rattle.text_model.specs.Options.{◌>>=◌}
 use Rattle.plain_machine.specs.Words.{is_digit, begins_with, digits_value}
 use Rattle.plain_machine.specs.Exchanges.{Ask, Answer, Exchange, Spawn, Read, AskEnd, Send, Close, Kill}
 use Rattle.plain_machine.specs.Exchanges.{Started, Refused, Bytes, Nothing, End, Code, Signal, Running}
 use Rattle.plain_machine.specs.Exchanges.{Sent, Broken, Closed, Killed, Failed}
 use Rattle.journal_text.specs.Allowed.{has_no_zero}
-
-infixl 10 ◌>>=◌
-abbrev pub ◌>>=◌ : {A B : Type 0} → Option A → (A → Option B) → Option B
-None >>= f = None
-(Some x) >>= f = f x
 
 abbrev pub Found : Type 0 → Type 0
 Found A = Option (A × List ℕ)

@@ -6,9 +6,10 @@ ghost use Rattle.editor_model.specs.Values.{Sym as symbol, AddHook, RemoveHook, 
 ghost use Rattle.editor_model.specs.Values.{SetProcessSentinel, SetProcessBuffer, TheProcess, list};
 ghost use Rattle.editor_model.specs.Values.{SetProcessCodingSystem, Nil};
 ghost use Rattle.editor_model.specs.Arguments.{arg, symbol_of};
+ghost use Rattle.editor_model.specs.BufferCalls.{buffer_value};
 ghost use Rattle.plain_machine.specs.State.{change_process, process};
 ghost use Rattle.plain_machine.specs.Arguments.{filter_of, sentinel_of, coding_of, coding_named};
-ghost use Rattle.plain_machine.specs.Calls.{buffer_value, exit_value, get_process, listed};
+ghost use Rattle.plain_machine.specs.Calls.{exit_value, get_process, listed};
 ghost use Rattle.plain_machine.specs.Calls.{of_buffer, status_symbol, told_of, told_of_one};
 ghost use Rattle.plain_machine.specs.Calls.{with_filter, with_sentinel, with_coding};
 ghost use Rattle.plain_machine.specs.Arguments.{filter_value, sentinel_value, coding_value};

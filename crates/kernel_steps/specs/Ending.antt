@@ -2,13 +2,14 @@
 -- the run was broken off.
 use Rattle.std.specs.Prelude.{◌≡◌, ℕ, ◌≤◌, ◌⊎◌, All, List, [], ◌∷◌, ◌++◌, drop, length, Result, Ok, Err}
 use Rattle.std.specs.Io.KnownBytes.{Appends}
+use Rattle.text_model.specs.Fronts.{IsPrefixOf}
 use Rattle.editor_model.specs.Values.{NoForms}
 use Rattle.plain_machine.specs.Exchanges.{Ask, Answer, Exchange, Killed, Failed}
 use Rattle.plain_machine.specs.State.{State, Program, new_state}
 use Rattle.plain_machine.specs.Items.{Top, Finish, Said, Config, Ended}
 use Rattle.plain_machine.specs.Step.{step}
 use Rattle.plain_machine.specs.Run.{Reaches, lines}
-use Rattle.plain_machine.specs.WholeRuns.{IsBetweenEntries, IsPrefixOf, AreKills}
+use Rattle.plain_machine.specs.WholeRuns.{IsBetweenEntries, AreKills}
 use Rattle.machine_laws.specs.Children.{to_kill}
 use Rattle.host_link.specs.Hosts.{HostState}
 use Rattle.ek_types.specs.Io.{SinkState, HasCause}

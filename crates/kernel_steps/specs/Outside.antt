@@ -2,12 +2,13 @@
 -- was asked just what it asks.
 use Rattle.std.specs.Prelude.{◌≡◌, ℕ, ◌+◌, ◌≤◌, List, [], ◌∷◌, ◌++◌, length, Option, Some}
 use Rattle.std.specs.Io.KnownBytes.{Appends}
+use Rattle.text_model.specs.Fronts.{IsPrefixOf}
 use Rattle.plain_machine.specs.Exchanges.{Exchange, Answer}
 use Rattle.plain_machine.specs.State.{Program}
 use Rattle.plain_machine.specs.Items.{Said, Config, Next, Goes as Steps, Asks}
 use Rattle.plain_machine.specs.Step.{step}
 use Rattle.plain_machine.specs.Run.{Reaches, lines}
-use Rattle.plain_machine.specs.WholeRuns.{IsBetweenEntries, IsPrefixOf}
+use Rattle.plain_machine.specs.WholeRuns.{IsBetweenEntries}
 use Rattle.ek_types.specs.Io.{SinkState}
 use Rattle.kernel_steps.specs.declared.stop.Stop.{Stop}
 use Rattle.kernel_steps.specs.declared.stop.Stop.TheVariants as stop

@@ -1,11 +1,12 @@
 -- Of a recorded run there is one replay.
 use Rattle.std.proofs.Common.{◌≡◌, ℕ, List, inl, inr, refl, sym, subst}
+use Rattle.text_model.specs.Fronts.{IsPrefixOf}
 use Rattle.editor_model.specs.Values.{Script}
 use Rattle.plain_machine.specs.Exchanges.{Exchange}
 use Rattle.plain_machine.specs.State.{Program}
 use Rattle.plain_machine.specs.WholeRuns.{Ran}
 use Rattle.plain_machine.specs.Grammar.{IsScript}
-use Rattle.ek_types.specs.Io.{SinkState, IsPrefixOf}
+use Rattle.ek_types.specs.Io.{SinkState}
 use Rattle.script_read.proofs.Determined.{one_script}
 use Rattle.journal_text.specs.Lines.{session}
 use Rattle.journal_text.specs.Allowed.{IsJournal}

@@ -2,7 +2,8 @@
 use Rattle.std.proofs.Common.{◌≡◌, ℕ, ◌<◌, Bool, true, false, List, length, Ok, Err, refl}
 use Rattle.std.specs.Prelude.{nat_lt}
 use Rattle.std.proofs.lemmas.Bool.{ltb-true, ltb-false}
-use Rattle.ek_types.specs.Io.{SinkState, IsPrefixOf, Writes}
+use Rattle.text_model.specs.Fronts.{IsPrefixOf}
+use Rattle.ek_types.specs.Io.{SinkState, Writes}
 use Rattle.kernel_top.specs.Writing.{IsWhollyWritten, IsFrontWritten}
 
 module _ {T E : Type 0} (old new : SinkState) (bytes : List ℕ) where

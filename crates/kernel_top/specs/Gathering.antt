@@ -3,12 +3,13 @@
 use Rattle.std.specs.Prelude.{◌≡◌, ℕ, Bool, true, false, List, map, flat_map, if◌then◌else◌, Result, Ok, Err}
 use Rattle.text_model.specs.Characters.{Ch, encoded}
 use Rattle.text_model.specs.Properties.{Cell}
+use Rattle.text_model.specs.Fronts.{IsPrefixOf}
 use Rattle.editor_model.specs.Values.{Value, Script}
 use Rattle.editor_model.specs.Editor.{Editor}
 use Rattle.plain_machine.specs.Exchanges.{Exchange}
 use Rattle.plain_machine.specs.State.{State, Program}
 use Rattle.plain_machine.specs.Symbols.{program_of}
-use Rattle.ek_types.specs.Io.{SinkState, IsPrefixOf}
+use Rattle.ek_types.specs.Io.{SinkState}
 use Rattle.line_session.specs.Handlers.{session_names, session_does}
 use Rattle.line_session.specs.Script.{command_of, session_script}
 use Rattle.session_laws.specs.Sessions.{characters_gathered, is_full, TextBy}

@@ -1,10 +1,11 @@
 -- What the replay of a recorded run comes to.
 use Rattle.std.specs.Prelude.{◌≡◌, ℕ, List, []}
+use Rattle.text_model.specs.Fronts.{IsPrefixOf}
 use Rattle.editor_model.specs.Values.{Script}
 use Rattle.plain_machine.specs.Exchanges.{Exchange}
 use Rattle.plain_machine.specs.State.{Program}
 use Rattle.plain_machine.specs.Grammar.{IsScript}
-use Rattle.ek_types.specs.Io.{SinkState, IsPrefixOf}
+use Rattle.ek_types.specs.Io.{SinkState}
 use Rattle.kernel_top.specs.Sessions.{Records}
 use Rattle.kernel_top.specs.Replaying.{Replayed}
 use Rattle.kernel_top.specs.declared.status.Status.{Status}

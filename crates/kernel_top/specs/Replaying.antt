@@ -1,13 +1,14 @@
 -- What a replay comes to: the machine's run of a script on the exchanges of a journal.
 pub use Rattle.trace_check.specs.Runs.{GoesThrough, Strays}
 use Rattle.std.specs.Prelude.{◌≡◌, ℕ, ◌+◌, ◌≤◌, ◌<◌, ◌⊎◌, List, [], ◌++◌, length, Result, Ok, Err}
+use Rattle.text_model.specs.Fronts.{IsPrefixOf}
 use Rattle.editor_model.specs.Values.{Script}
 use Rattle.plain_machine.specs.Exchanges.{Exchange}
 use Rattle.plain_machine.specs.State.{Program}
 use Rattle.plain_machine.specs.Run.{lines}
 use Rattle.plain_machine.specs.Grammar.{IsScript}
 use Rattle.std.specs.Io.KnownBytes.{Consumes, Appends}
-use Rattle.ek_types.specs.Io.{SourceState, SinkState, IsPrefixOf}
+use Rattle.ek_types.specs.Io.{SourceState, SinkState}
 use Rattle.journal_text.specs.Lines.{session}
 use Rattle.journal_text.specs.Allowed.{IsJournal}
 use Rattle.journal_text.specs.Journals as journals

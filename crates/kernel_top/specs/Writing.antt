@@ -1,6 +1,7 @@
 -- What became of bytes that were to be written.
 use Rattle.std.specs.Prelude.{◌≡◌, ℕ, ◌<◌, ◌≤◌, List, length}
-use Rattle.ek_types.specs.Io.{SinkState, IsPrefixOf}
+use Rattle.text_model.specs.Fronts.{IsPrefixOf}
+use Rattle.ek_types.specs.Io.{SinkState}
 
 -- they were written whole, and the sink hasn't failed where it had room for them
 pub record IsWhollyWritten (bytes written : List ℕ) (before now : SinkState) : Type 0 where

@@ -10,7 +10,7 @@ use Rattle.plain_machine.specs.Drill.{in_order}
 use Rattle.ek_types.specs.Listing.{items_of}
 use Rattle.ek_types.specs.declared.list.ListOf.{ListOf}
 use Rattle.ek_types.specs.declared.symbol.Sym.{Sym}
-use Rattle.ek_call.specs.Meaning.{call_of, form_of, joined, view}
+use Rattle.ek_call.specs.Meaning.{call_of, form_of, forms_of, joined, view}
 use Rattle.ek_call.specs.declared.call.Call.{Call}
 use Rattle.ek_call.specs.declared.form.Form.{Form, fold-roll-Form}
 use Rattle.ek_call.specs.declared.form.Form.TheOpen.{Form-F}
@@ -18,7 +18,6 @@ use Rattle.ek_call.specs.declared.form.Form.TheVariants as form
 use Rattle.ek_call.specs.declared.value.Value.{fold-roll-Value}
 use Rattle.ek_call.specs.declared.value.Value.TheOpen.{Value-F}
 use Rattle.ek_call.specs.declared.value.Value.TheVariants as value
-use Rattle.line_drill.specs.DrillForms.{forms_of}
 
 -- WHAT THEY STAND FOR
 pub do_is : (c : Call) → form_of (form.Do c) ≡ model.Do (call_of c)

@@ -1,11 +1,7 @@
 -- What the words and forms of the drill stand for.
-use Rattle.std.specs.Prelude.{List, [], ◌∷◌, map}
+use Rattle.std.specs.Prelude.{[], ◌∷◌}
 use Rattle.editor_model.specs.Values as model
 use Rattle.plain_machine.specs.Drill.{call, p}
-use Rattle.ek_types.specs.Listing.{items_of}
-use Rattle.ek_types.specs.declared.list.ListOf.{ListOf}
-use Rattle.ek_call.specs.Meaning.{form_of}
-use Rattle.ek_call.specs.declared.form.Form.{Form}
 use Rattle.line_drill.specs.declared.drill_script.Word.{Word}
 use Rattle.line_drill.specs.declared.drill_script.Word.TheVariants as word
 
@@ -15,6 +11,3 @@ word_of (word.Quoted s) = model.Const (model.Sym s.0)
 
 abbrev pub wait_form : model.Form
 wait_form = model.Do (call model.AcceptProcessOutput (model.Name p ∷ []))
-
-abbrev pub forms_of : ListOf Form → List model.Form
-forms_of forms = map form_of (items_of forms)

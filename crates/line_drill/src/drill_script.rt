@@ -7,8 +7,8 @@ ghost use Rattle.plain_machine.specs.Drill.{drill_symbols, drill_handlers, drill
 ghost use Rattle.ek_types.specs.Listing.{items_of};
 ghost use Rattle.ek_types.specs.Property.{number_of};
 ghost use Rattle.ek_call.specs.Primitives.{prim_of};
-ghost use Rattle.ek_call.specs.Meaning.{arg_of, call_of, joined, handler_of, script_of};
-ghost use Rattle.line_drill.specs.DrillForms.{word_of, wait_form, forms_of};
+ghost use Rattle.ek_call.specs.Meaning.{arg_of, call_of, joined, forms_of, handler_of, script_of};
+ghost use Rattle.line_drill.specs.DrillForms.{word_of, wait_form};
 
 use ek_call::{Arg, Args, Call, Form, Forms, HandlerDef, HandlerDefs, Primitive, Script, Value};
 use ek_types::{Chars, ListOf, Mem, Piece, Sym, SymList, Symbols};

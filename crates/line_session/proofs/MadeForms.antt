@@ -8,13 +8,12 @@ use Rattle.editor_model.specs.Values.{Const, Then}
 use Rattle.plain_machine.specs.Drill.{in_order}
 use Rattle.ek_types.specs.Listing.{items_of}
 use Rattle.ek_types.specs.declared.list.ListOf.{ListOf}
-use Rattle.ek_call.specs.Meaning.{view, arg_of, form_of, handler_of, joined}
+use Rattle.ek_call.specs.Meaning.{view, arg_of, form_of, forms_of, handler_of, joined}
 use Rattle.ek_call.specs.declared.call.Arg.{Arg}
 use Rattle.ek_call.specs.declared.call.Arg.TheVariants as arg
 use Rattle.ek_call.specs.declared.form.Form.{Form}
 use Rattle.ek_call.specs.declared.script.HandlerDef.{HandlerDef}
 use Rattle.ek_call.specs.declared.value.Value.{Value}
-use Rattle.line_session.specs.Forms.{forms_of}
 use Rattle.line_session.specs.Script.{session_symbols, waiting_forms, script_with}
 
 -- ARGUMENTS

@@ -4,10 +4,10 @@ ghost use Rattle.editor_model.specs.Values.{Const, Do as do_form, StartProcess};
 ghost use Rattle.plain_machine.specs.Drill.{call as call_with, in_order};
 ghost use Rattle.ek_types.specs.Listing.{items_of};
 ghost use Rattle.ek_call.specs.Primitives.{prim_of};
-ghost use Rattle.ek_call.specs.Meaning.{arg_of, call_of, form_of, script_of};
+ghost use Rattle.ek_call.specs.Meaning.{arg_of, call_of, form_of, forms_of, script_of};
 ghost use Rattle.line_session.specs.Script as definition;
 ghost use Rattle.line_session.specs.Script.{session_symbols, waiting_forms, wait_form, session_script};
-ghost use Rattle.line_session.specs.Forms.{forms_of, handler_form};
+ghost use Rattle.line_session.specs.Forms.{handler_form};
 ghost use Rattle.line_session.specs.Replies.{values_of};
 
 use ek_call::{Arg, Args, Call, Form, Forms, Primitive, Script, Value, Values};

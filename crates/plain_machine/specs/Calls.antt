@@ -17,6 +17,7 @@ use Rattle.editor_model.specs.Values.{ProcessSendEof, DeleteProcess, AcceptProce
 use Rattle.editor_model.specs.Values.{SetProcessCodingSystem, ProcessCodingSystem}
 use Rattle.editor_model.specs.Editor.{Editor, buffer_at, with_buffer, with_marker}
 use Rattle.editor_model.specs.Arguments.{arg, string_of, name_of, buffer_of, symbol_of}
+use Rattle.editor_model.specs.BufferCalls.{buffer_value}
 use Rattle.editor_model.specs.Prims.{Manner, OnlyAsks, SetsState, ChangesText, ConcernsHandlers, manner_of}
 use Rattle.editor_model.specs.Answers.{Test, first_fault}
 use Rattle.editor_model.specs.Table.{Applied, query, apply, prepare, Prepared, Changes, Quiet, Nothing}
@@ -183,10 +184,6 @@ exit_value Runs = Int (pos 0)
 exit_value (Exited n) = Int n
 exit_value Signalled = Nil
 exit_value Lost = Nil
-
-abbrev pub buffer_value : Option ℕ → Value
-buffer_value None = Nil
-buffer_value (Some b) = TheBuffer b
 
 abbrev pub told_of : Prim → Process → Value
 told_of ProcessName x = plain x.name

@@ -1,6 +1,7 @@
 -- A script's whole run, and a run that was broken off: what the top call claims of the bytes that it wrote
 -- and of the exchanges that it made.
 use Rattle.std.specs.Prelude.{◌≡◌, ℕ, List, [], ◌∷◌, ◌++◌}
+use Rattle.text_model.specs.Fronts.{IsPrefixOf}
 use Rattle.editor_model.specs.Values.{Script}
 use Rattle.plain_machine.specs.Exchanges.{Exchange, Kill, living}
 use Rattle.plain_machine.specs.State.{Program}
@@ -24,9 +25,6 @@ pub record Ran (program : Program) (bound : ℕ) (script : Script) (exchanges : 
   pub run : Reaches program bound (start script) exchanges said last
   pub ended : step program bound last ≡ Ended
   pub bytes : written ≡ lines said
-
-abbrev pub IsPrefixOf : List ℕ → List ℕ → Type 0
-IsPrefixOf xs ys = (rest : List ℕ) × (xs ++ rest ≡ ys)
 
 -- the kills of the children that live, each once, by rising number
 abbrev pub AreKills : List ℕ → List Exchange → Type 0

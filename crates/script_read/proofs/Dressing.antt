@@ -8,7 +8,7 @@ use Rattle.std.proofs.lemmas.List.{map-append, drop-drop, length-map, drop_more}
 use Rattle.std.proofs.Math.ListN.{drop_of_length-le}
 use Rattle.text_model.specs.Characters.{Ch}
 use Rattle.text_model.specs.Properties.{Cell, PropSet, bare, with_sets, edited, Replace}
-use Rattle.script_read.specs.Lexing.{◌>>=◌}
+use Rattle.text_model.specs.Options.{◌>>=◌}
 use Rattle.script_read.specs.PropStrings.{Run, cells_from}
 
 le_true : (n m : ℕ) → nat_le n m ≡ true → n ≤ m

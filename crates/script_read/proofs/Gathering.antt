@@ -12,13 +12,13 @@ use Rattle.std.proofs.lemmas.List.{length-map}
 use Rattle.text_model.specs.Characters.{Ch}
 use Rattle.text_model.specs.Properties.{Cell, PropSet, PropVal, Symbols, put, without}
 use Rattle.text_model.specs.Ordered.{Rising, HasValues, IsProper, IsValue}
+use Rattle.text_model.specs.Options.{◌>>=◌}
 use Rattle.editor_model.specs.Values.{Value, Sym, Items, More, values, symbol_names, as_prop}
 use Rattle.editor_model.specs.Arguments.{is_symbol}
 use Rattle.ek_call.specs.Meaning.{view}
 use Rattle.ek_call.specs.declared.value.Value as written
 use Rattle.ek_types.specs.Property.{prop_of}
 use Rattle.ek_types.specs.declared.property.PropVal as declared
-use Rattle.script_read.specs.Lexing.{◌>>=◌}
 use Rattle.script_read.specs.PropStrings.{Named, with_property, named_of}
 use Rattle.script_read.specs.PropSets.{Entries, one_given, set_given, IsGiven, AreRising, Gathers, Adds, Lists, property_of}
 

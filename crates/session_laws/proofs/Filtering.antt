@@ -12,6 +12,7 @@ use Rattle.text_model.specs.Places.{clip}
 use Rattle.editor_model.specs.Values.{Value, Fault, Nil, T, Str, TheBuffer, TheProcess, at_place, Reply, Answered, Refused, Prim, BufferFull, ProcessBuffer, SetBuffer, PointMax, GotoChar, Insert, SetProcessFilter}
 use Rattle.editor_model.specs.Answers.{Applied, Prepared, refuse, first_fault, prepared, prepared_of}
 use Rattle.editor_model.specs.Arguments.{has_room, must_have_room}
+use Rattle.editor_model.specs.BufferCalls.{buffer_value}
 use Rattle.editor_model.specs.TextCalls.{with_inherited, insertion, takes_no_text, must_take_text}
 use Rattle.editor_model.specs.ReadOnly.{bars, is_tested, must_be_writable}
 use Rattle.editor_model.specs.Table.{apply, prepare}
@@ -19,7 +20,7 @@ use Rattle.plain_machine.specs.State.{State, Process, Program, Off, process, cha
 use Rattle.plain_machine.specs.Lines.{OfFilter}
 use Rattle.plain_machine.specs.Items.{Item, GiveAnswer, MakeCall, Native, Called, ToNative, Config, Said}
 use Rattle.plain_machine.specs.Natives.{normal, is_callable, set_was_made}
-use Rattle.plain_machine.specs.Calls.{on, buffer_value, told_of_one, with_filter}
+use Rattle.plain_machine.specs.Calls.{on, told_of_one, with_filter}
 use Rattle.plain_machine.specs.Handling.{native, native_call}
 use Rattle.plain_machine.specs.Run.{Reaches, goes, given, Calls, Handles}
 use Rattle.plain_machine.proofs.Composed.{reaches_then, native_done, native_handler}

@@ -1,3 +1,5 @@
+pub mod Fronts
+pub mod Options
 pub mod Characters
 pub mod Decoding
 pub mod Codings

@@ -1,5 +1,6 @@
 use Rattle.std.proofs.Common.{sym, append-nil}
-use Rattle.line_drill.specs.DrillForms.{wait_form, forms_of}
+use Rattle.ek_call.specs.Meaning.{forms_of}
+use Rattle.line_drill.specs.DrillForms.{wait_form}
 use Rattle.line_drill.proofs.MadeForms.{one_more_wait}
 use Rattle.line_drill.proofs.drill_script.then_wait.Goals as goal
 

@@ -1,6 +1,6 @@
 use Rattle.std.proofs.Common.{◌≡◌, ◌++◌}
 use Rattle.std.specs.Prelude.{replicate}
-use Rattle.line_session.specs.Forms.{forms_of}
+use Rattle.ek_call.specs.Meaning.{forms_of}
 use Rattle.line_session.specs.Script.{wait_form}
 use Rattle.line_session.proofs.script.then_wait.Given as goal
 
