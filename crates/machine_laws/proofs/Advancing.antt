@@ -72,7 +72,7 @@ marks_only e new g q f = record {
         let k : live e id ≡ Some l = sym (same id) ∙ h in
         let old : GoodSite id (record { buffer = l.buffer; marks = e.marks }) = g.each id l k in
         let size : size_of e id ≡ length l.buffer.text = ap (λ b. length b.text) (buffer_live e id l k) in
-        record { good = old.good; fits = record { begin_fits = old.fits.begin_fits; end_fits = old.fits.end_fits; point_fits = old.fits.point_fits; marks_fit = subst (λ n. MarksFit id n new.marks) size (f id (subst (λ n. MarksFit id n e.marks) (sym size) old.fits.marks_fit)) } }
+        record { good = old.good; fits = record { begin_fits = old.fits.begin_fits; end_fits = old.fits.end_fits; begin_to_point = old.fits.begin_to_point; point_to_end = old.fits.point_to_end; marks_fit = subst (λ n. MarksFit id n new.marks) size (f id (subst (λ n. MarksFit id n e.marks) (sym size) old.fits.marks_fit)) } }
 
     unborn : (id : ℕ) → length new.buffers ≤ id → MarksFit id 0 new.marks
     unborn id h =
@@ -106,7 +106,7 @@ one_advances e new id l n g h q s p others = record {
         subst (λ i. GoodSite i (record { buffer = m.buffer; marks = new.marks })) (sym r) (subst (λ y. GoodSite id (record { buffer = y.buffer; marks = new.marks })) x s)
     each j m k (inr d) =
         let old : GoodSite j (record { buffer = m.buffer; marks = e.marks }) = g.each j m (sym (live_set_other e new id j (Some n) q d) ∙ k) in
-        record { good = old.good; fits = record { begin_fits = old.fits.begin_fits; end_fits = old.fits.end_fits; point_fits = old.fits.point_fits; marks_fit = others j (length m.buffer.text) d old.fits.marks_fit } }
+        record { good = old.good; fits = record { begin_fits = old.fits.begin_fits; end_fits = old.fits.end_fits; begin_to_point = old.fits.begin_to_point; point_to_end = old.fits.point_to_end; marks_fit = others j (length m.buffer.text) d old.fits.marks_fit } }
 
     unborn : (j : ℕ) → length new.buffers ≤ j → MarksFit j 0 new.marks
     unborn j k =
@@ -219,7 +219,7 @@ set_none_advances e new id g q f = record {
     each j m k (inl r) = absurd (none-some m (sym none ∙ ap (live new) (sym r) ∙ k))
     each j m k (inr d) =
         let old : GoodSite j (record { buffer = m.buffer; marks = e.marks }) = g.each j m (sym (other j d) ∙ k) in
-        record { good = old.good; fits = record { begin_fits = old.fits.begin_fits; end_fits = old.fits.end_fits; point_fits = old.fits.point_fits; marks_fit = f j (length m.buffer.text) old.fits.marks_fit } }
+        record { good = old.good; fits = record { begin_fits = old.fits.begin_fits; end_fits = old.fits.end_fits; begin_to_point = old.fits.begin_to_point; point_to_end = old.fits.point_to_end; marks_fit = f j (length m.buffer.text) old.fits.marks_fit } }
 
     dead : (j : ℕ) → live e j ≡ None → (j ≡ id) ⊎ (j ≡ id → ⊥) → live new j ≡ None
     dead j k (inl r) = ap (live new) r ∙ none
@@ -247,7 +247,7 @@ advances_more e new more a g l same = record {
 empty_good : (id : ℕ) (marks : Marks) → MarksFit id 0 marks → GoodSite id (record { buffer = empty_buffer; marks = marks })
 empty_good id marks f = record {
   good = record { ordered = tt; falling = tt; off = λ h. refl; below = omega arith; agrees = λ s h k. absurd (omega arith) };
-  fits = record { begin_fits = omega arith; end_fits = omega arith; point_fits = omega arith; marks_fit = f };
+  fits = record { begin_fits = omega arith; end_fits = omega arith; begin_to_point = omega arith; point_to_end = omega arith; marks_fit = f };
 }
 
 pub with_buffer_old : (name : Name) (e : Editor) (id : ℕ) → id < length e.buffers → live (with_buffer name e) id ≡ live e id

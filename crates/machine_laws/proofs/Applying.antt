@@ -7,12 +7,12 @@ use Rattle.text_model.specs.Properties.{put}
 use Rattle.text_model.specs.Places.{clip}
 use Rattle.text_model.specs.Marks.{Marks, Marker, Spot, Span, Overlay}
 use Rattle.text_model.specs.Undo.{Undo, with_boundary, started, disabled, enabled}
-use Rattle.text_model.specs.Commit.{Buffer}
+use Rattle.text_model.specs.Commit.{Buffer, Site}
 use Rattle.machine_laws.specs.Good.{Good}
 use Rattle.machine_laws.specs.Fits.{SpotFits, MarkersFit, SpanFits, OverlaysFit, MarksFit, GoodSite}
 use Rattle.machine_laws.proofs.OneBuffer.{passes_self, passes_same, boundary_passes, started_passes, disabled_passes, enabled_passes}
 use Rattle.machine_laws.proofs.Fitting.{markers_set, marker_fits, clip_fits, evaporated_fits}
-use Rattle.machine_laws.proofs.Sites.{same_step}
+use Rattle.machine_laws.proofs.Sites.{Bounds, site_bounds, same_step}
 use Rattle.editor_model.specs.Values.{Value, Nil, Int, Str, TheBuffer, TheMarker, Fault, Prim, SetBuffer, GetBufferCreate, GenerateNewBuffer, RenameBuffer, SetBufferModifiedP, SetBufferReadOnly, GotoChar, NarrowToRegion, Widen, MakeMarker, PointMarker, CopyMarker, SetMarker, SetMarkerInsertionType, MakeOverlay, OverlayPut, MoveOverlay, DeleteOverlay, UndoBoundary, UndoStart, BufferDisableUndo, BufferEnableUndo}
 use Rattle.editor_model.specs.Editor.{Editor, Name, Live, live, buffer_at, here, empty_buffer, find, change_buffer, with_buffer, renamed, protected, with_marker, change_marker, marker_of, change_overlay, overlay_of, free_name, others}
 use Rattle.editor_model.specs.Answers.{Test, first_fault, applied, applied_of}
@@ -44,27 +44,25 @@ of_fault (Some f) e new v g h = steady_self e g
 
 -- one buffer whose text stays
 pub same_buffer : (id : ℕ) (f : Buffer → Buffer) (e : Editor) → GoodEditor e →
-    ((b : Buffer) (marks : Marks) → GoodSite id (record { buffer = b; marks = marks }) → ((f b).text ≡ b.text) × (Passes b (f b) × (((f b).begin ≤ (f b).end) × (((f b).end ≤ length b.text) × ((f b).point ≤ length b.text))))) →
+    ((b : Buffer) (marks : Marks) → GoodSite id (record { buffer = b; marks = marks }) → ((f b).text ≡ b.text) × Passes b (f b) × Bounds (f b) (length b.text)) →
     Steady e (change_buffer id f e)
 same_buffer id f e g h = record {
   advances = site_advances id (λ site. record site { buffer = f site.buffer }) e g (λ l q.
       let s : GoodSite id (record { buffer = l.buffer; marks = e.marks }) = g.each id l q in
-      let x : ((f l.buffer).text ≡ l.buffer.text) × (Passes l.buffer (f l.buffer) × (((f l.buffer).begin ≤ (f l.buffer).end) × (((f l.buffer).end ≤ length l.buffer.text) × ((f l.buffer).point ≤ length l.buffer.text)))) = h l.buffer e.marks s in
-      same_step id (record { buffer = l.buffer; marks = e.marks }) (f l.buffer) s x.0 x.1.0 x.1.1.0 x.1.1.1.0 x.1.1.1.1);
+      let x : ((f l.buffer).text ≡ l.buffer.text) × Passes l.buffer (f l.buffer) × Bounds (f l.buffer) (length l.buffer.text) = h l.buffer e.marks s in
+      same_step id (record { buffer = l.buffer; marks = e.marks }) (f l.buffer) s x.0 x.1 x.2);
   same_shapes = site_shapes id (λ site. record site { buffer = f site.buffer }) e (λ l q. refl);
 }
 
-clip_high : (low high p : ℕ) → low ≤ high → clip low high p ≤ high
-clip_high low high p h = omega arith
-
-pub clip_lies : (low high p size : ℕ) → low ≤ high → high ≤ size → clip low high p ≤ size
-clip_lies low high p size h k = let x : clip low high p ≤ high = clip_high low high p h in omega arith
+-- a place taken to the nearer of two ends lies between them
+pub clip_lies : (low high p size : ℕ) → low ≤ high → high ≤ size → (low ≤ clip low high p) × (clip low high p ≤ high) × (high ≤ size)
+clip_lies low high p size h k = (omega arith, omega arith, k)
 
 pub point_steady : (p : ℕ) (e : Editor) → GoodEditor e → Steady e (change_buffer e.current (point_at p) e)
-point_steady p e g = same_buffer e.current (point_at p) e g (λ b marks s. (refl, (passes_same b (point_at p b) s.good refl refl, (s.fits.begin_fits, (s.fits.end_fits, clip_lies b.begin b.end p (length b.text) s.fits.begin_fits s.fits.end_fits)))))
+point_steady p e g = same_buffer e.current (point_at p) e g (λ b marks s. (refl, passes_same b (point_at p b) s.good refl refl, clip_lies b.begin b.end p (length b.text) s.fits.begin_fits s.fits.end_fits))
 
 undo_steady : (f : Undo → Undo) (e : Editor) → GoodEditor e → ((b : Buffer) → Good b → Passes b (record b { undo = f b.undo })) → Steady e (with_undo f e)
-undo_steady f e g h = same_buffer e.current (λ b. record b { undo = f b.undo }) e g (λ b marks s. (refl, (h b s.good, (s.fits.begin_fits, (s.fits.end_fits, s.fits.point_fits)))))
+undo_steady f e g h = same_buffer e.current (λ b. record b { undo = f b.undo }) e g (λ b marks s. (refl, h b s.good, site_bounds e.current (record { buffer = b; marks = marks }) s))
 
 -- MARKERS AND OVERLAYS
 pub markers_append : (id size : ℕ) (ms : List Marker) (m : Marker) → MarkersFit id size ms → SpotFits id size m.spot → MarkersFit id size (ms ++ m ∷ [])
@@ -164,7 +162,7 @@ lies e id g = go (live e id) refl
   where
     go : (o : Option Live) → live e id ≡ o → Lies (elim o [ Some l ↦ l.buffer | None ↦ empty_buffer ])
     go None q = record { ordered = tt; order = omega arith; end = omega arith; point = omega arith }
-    go (Some l) q = let s : GoodSite id (record { buffer = l.buffer; marks = e.marks }) = g.each id l q in record { ordered = s.good.ordered; order = s.fits.begin_fits; end = s.fits.end_fits; point = s.fits.point_fits }
+    go (Some l) q = let s : GoodSite id (record { buffer = l.buffer; marks = e.marks }) = g.each id l q in record { ordered = s.good.ordered; order = s.fits.begin_fits; end = s.fits.end_fits; point = omega (arith, s.fits.point_to_end, s.fits.end_fits) }
 
 -- REGIONS
 in_range : (low high : ℕ) (e : Editor) (v : Value) → lies_in low high e v ≡ true → place e v ≤ high
@@ -190,12 +188,15 @@ narrow_steady e a b g = applied_steady e (must_be_position a ∷ must_be_positio
       advances = site_advances e.current (λ site. record site { buffer = narrowed from to site.buffer }) e g (λ l q.
           let s : GoodSite e.current (record { buffer = l.buffer; marks = e.marks }) = g.each e.current l q in
           let size : length (here e).text ≡ length l.buffer.text = ap (λ b. length b.text) (buffer_live e e.current l q) in
-          same_step e.current (record { buffer = l.buffer; marks = e.marks }) (narrowed from to l.buffer) s refl (passes_same l.buffer (narrowed from to l.buffer) s.good refl refl) h (omega arith) (clip_lies from to l.buffer.point (length l.buffer.text) h (omega arith)));
+          same_step e.current (record { buffer = l.buffer; marks = e.marks }) (narrowed from to l.buffer) s refl (passes_same l.buffer (narrowed from to l.buffer) s.good refl refl) (clip_lies from to l.buffer.point (length l.buffer.text) h (omega arith)));
       same_shapes = site_shapes e.current (λ site. record site { buffer = narrowed from to site.buffer }) e (λ l q. refl);
     }
 
+pub widened_bounds : (id : ℕ) (site : Site) → GoodSite id site → Bounds (widened site.buffer) (length site.buffer.text)
+widened_bounds id site g = (omega arith, omega (arith, g.fits.point_to_end, g.fits.end_fits), omega arith)
+
 pub widened_steady : (id : ℕ) (e : Editor) → GoodEditor e → Steady e (change_buffer id widened e)
-widened_steady id e g = same_buffer id widened e g (λ b marks s. (refl, (passes_same b (widened b) s.good refl refl, (omega arith, (omega arith, s.fits.point_fits)))))
+widened_steady id e g = same_buffer id widened e g (λ b marks s. (refl, passes_same b (widened b) s.good refl refl, widened_bounds id (record { buffer = b; marks = marks }) s))
 
 with_buffer_steady : (name : Name) (e : Editor) → GoodEditor e → Steady e (with_buffer name e)
 with_buffer_steady name e g = record { advances = with_buffer_advances name e g; same_shapes = refl }
@@ -245,7 +246,7 @@ apply_steady e SetBuffer args g = of_fault _ e _ _ g (current_steady (buffer_of 
 apply_steady e GetBufferCreate args g = create_steady e (arg args 0) g
 apply_steady e GenerateNewBuffer args g = of_fault _ e _ _ g (with_buffer_steady (free_name e.buffers (name_of (arg args 0))) e g)
 apply_steady e RenameBuffer args g = of_fault _ e _ _ g (renamed_steady e.current (free_name (others e) (name_of (arg args 0))) e g)
-apply_steady e SetBufferModifiedP args g = (same_buffer e.current (λ b. record b { modified = flag (arg args 0) }) e g (λ b marks s. (refl, (passes_same b (record b { modified = flag (arg args 0) }) s.good refl refl, (s.fits.begin_fits, (s.fits.end_fits, s.fits.point_fits))))))
+apply_steady e SetBufferModifiedP args g = (same_buffer e.current (λ b. record b { modified = flag (arg args 0) }) e g (λ b marks s. (refl, passes_same b (record b { modified = flag (arg args 0) }) s.good refl refl, site_bounds e.current (record { buffer = b; marks = marks }) s)))
 apply_steady e SetBufferReadOnly args g = protected_steady e.current (flag (arg args 0)) e g
 apply_steady e GotoChar args g = of_fault _ e _ _ g (point_steady (place e (arg args 0)) e g)
 apply_steady e NarrowToRegion args g = narrow_steady e (arg args 0) (arg args 1) g

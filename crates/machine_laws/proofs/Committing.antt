@@ -27,7 +27,7 @@ use Rattle.editor_model.specs.Commits.{commit_tests, first_widened, point_to, pu
 use Rattle.editor_model.specs.Table.{prepare}
 use Rattle.machine_laws.proofs.GoodEditor.{GoodEditor, Steady, FineWhat, FineChange}
 use Rattle.machine_laws.proofs.Advancing.{site_live, size_after, site_advances, site_shapes, buffer_live, size_of}
-use Rattle.machine_laws.proofs.Applying.{steady_self, lies, clip_lies, region_order, region_high, marker_of_fits, change_marker_steady}
+use Rattle.machine_laws.proofs.Applying.{steady_self, lies, clip_lies, widened_bounds, region_order, region_high, marker_of_fits, change_marker_steady}
 use Rattle.machine_laws.proofs.Tests.{refuse_ok, no_fault}
 
 -- PIECES IN ORDER
@@ -208,7 +208,7 @@ prepare_fine e _ args g = record { fine = tt }
 
 -- COMMITS
 widened_step : (id : ℕ) (widen : Bool) (site : Site) → GoodSite id site → SiteStep id site (first_widened widen site)
-widened_step id true site g = same_step id site (widened site.buffer) g refl (passes_same site.buffer (widened site.buffer) g.good refl refl) (omega arith) (omega arith) g.fits.point_fits
+widened_step id true site g = same_step id site (widened site.buffer) g refl (passes_same site.buffer (widened site.buffer) g.good refl refl) (widened_bounds id site g)
 widened_step id false site g = site_stays id site g
 
 widened_text : (widen : Bool) (site : Site) → (first_widened widen site).buffer.text ≡ site.buffer.text
@@ -220,7 +220,7 @@ widened_undo true site = refl
 widened_undo false site = refl
 
 pointed_step : (id : ℕ) (move : Bool) (p : ℕ) (site : Site) → GoodSite id site → SiteStep id site (point_to move p site)
-pointed_step id true p site g = same_step id site (point_at p site.buffer) g refl (passes_same site.buffer (point_at p site.buffer) g.good refl refl) g.fits.begin_fits g.fits.end_fits (clip_lies site.buffer.begin site.buffer.end p (length site.buffer.text) g.fits.begin_fits g.fits.end_fits)
+pointed_step id true p site g = same_step id site (point_at p site.buffer) g refl (passes_same site.buffer (point_at p site.buffer) g.good refl refl) (clip_lies site.buffer.begin site.buffer.end p (length site.buffer.text) g.fits.begin_fits g.fits.end_fits)
 pointed_step id false p site g = site_stays id site g
 
 pointed_text : (move : Bool) (p : ℕ) (site : Site) → (point_to move p site).buffer.text ≡ site.buffer.text

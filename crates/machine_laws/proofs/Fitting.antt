@@ -1,4 +1,4 @@
--- Places go on lying in their text.
+-- Places go on lying in their text, and point between the bounds.
 use Rattle.std.proofs.Common.{◌≡◌, ℕ, zero, suc, ◌+◌, ◌-◌, ◌≤◌, ◌<◌, ℤ, Bool, true, false, List, [], ◌∷◌, length, map, refl, ap, sym, subst, ◌∙◌, arith, ◌⊎◌, inl, inr}
 use Rattle.std.specs.Prelude.{if◌then◌else◌, ◌==◌, ◌||◌, ◌&&◌, not, is_some, nat_lt, nat_le, slice_get, slice_set, Option, Some, None, option_map, min, max, pos, ◌-ℤ◌}
 use Rattle.std.proofs.lemmas.Bool.{eqb-true, cases_eq, ltb-true, ltb-false, leb-true, leb-false, false≢true}
@@ -15,7 +15,7 @@ use Rattle.text_model.specs.Ordered.{AreOrdered}
 use Rattle.text_model.proofs.Cases.{by_test}
 use Rattle.machine_laws.specs.Good.{Falling, OffIsEmpty}
 use Rattle.machine_laws.proofs.Changes.{length-splice, length-with_sets, Outcome}
-use Rattle.machine_laws.proofs.Groups.{Within, trial_more, within_after, one_record}
+use Rattle.machine_laws.proofs.Groups.{Within, trial_more, one_record}
 
 -- PLACES
 pub after_insert_fits : (q n : ℕ) (advances : Bool) (p size : ℕ) → q ≤ size → p ≤ size → after_insert q n advances p ≤ size + n
@@ -38,6 +38,17 @@ delete_cases q r p = go (nat_le p q) refl (nat_lt p r) refl
     go true w b x = inl (leb-true p q w, refl)
     go false w true x = inr (inl (leb-false p q w, (ltb-true p r x, refl)))
     go false w false x = inr (inr (leb-false p q w, (ltb-false p r x, refl)))
+
+insert_stays : (q n p : ℕ) → p ≤ q → after_insert q n false p ≡ p
+insert_stays q n p h = go (insert_cases q n p)
+  where
+    go : ((p ≤ q) × (after_insert q n false p ≡ p)) ⊎ ((q < p) × (after_insert q n false p ≡ p + n)) → after_insert q n false p ≡ p
+    go (inl x) = x.1
+    go (inr x) = absurd (omega (arith, x.0, h))
+
+insert_moves : (q n p : ℕ) → q ≤ p → after_insert q n true p ≡ p + n
+insert_moves q n p h = by_test (λ x. x ≡ p + n) (nat_lt p q) p (if nat_lt q p then p + n else q + n) (λ a. let l : p < q = ltb-true p q a in absurd (omega arith))
+    (λ a. by_test (λ x. x ≡ p + n) (nat_lt q p) (p + n) (q + n) (λ b. refl) (λ b. let l : p ≤ q = ltb-false q p b in omega arith))
 
 pub after_insert_order : (q n p r : ℕ) → p ≤ r → after_insert q n false p ≤ after_insert q n false r
 after_insert_order q n p r h = go (insert_cases q n p) (insert_cases q n r)
@@ -86,6 +97,24 @@ after_insert_strict q n v w p r h = go (nat_lt p q) refl
         let a : after_insert q n v p ≤ p + n = insert_most q n v p in
         let c : after_insert q n w r ≡ r + n = insert_behind q n w r (omega arith) in
         omega arith
+
+-- a place in front of one that advances stays so, whether it advances or not
+after_insert_below : (q n : ℕ) (advances : Bool) (p r : ℕ) → p ≤ r → after_insert q n advances p ≤ after_insert q n true r
+after_insert_below q n false p r h = after_insert_orders q n true p r h
+after_insert_below q n true p r h = go (nat_lt p r) refl
+  where
+    go : (v : Bool) → nat_lt p r ≡ v → after_insert q n true p ≤ after_insert q n true r
+    go true e = after_insert_strict q n true true p r (ltb-true p r e)
+    go false e = let l : r ≤ p = ltb-false p r e in let same : p ≡ r = omega arith in subst (λ x. after_insert q n true p ≤ after_insert q n true x) same (omega arith)
+
+-- a deletion takes a place back, at most as far as it is long
+delete_between : (q r p : ℕ) → (after_delete q r p ≤ p) × (p - (r - q) ≤ after_delete q r p)
+delete_between q r p = go (delete_cases q r p)
+  where
+    go : ((p ≤ q) × (after_delete q r p ≡ p)) ⊎ (((q < p) × ((p < r) × (after_delete q r p ≡ q))) ⊎ ((q < p) × ((r ≤ p) × (after_delete q r p ≡ p - (r - q))))) → (after_delete q r p ≤ p) × (p - (r - q) ≤ after_delete q r p)
+    go (inl x) = (omega (arith, x.1), omega (arith, x.1))
+    go (inr (inl x)) = (omega (arith, x.0, x.1.1), omega (arith, x.1.0, x.1.1))
+    go (inr (inr x)) = (omega (arith, x.1.1), omega (arith, x.1.1))
 
 pub after_delete_fits : (q r p size : ℕ) → q ≤ r → r ≤ size → p ≤ size → after_delete q r p ≤ size - (r - q)
 after_delete_fits q r p size h k l = go (delete_cases q r p)
@@ -297,7 +326,8 @@ inserted_fits id at piece all advances site h f = record {
   fits = record {
     begin_fits = after_insert_orders at (length piece) true site.buffer.begin site.buffer.end f.begin_fits;
     end_fits = rw size (after_insert_fits at (length piece) true site.buffer.end (length site.buffer.text) h f.end_fits);
-    point_fits = rw size (after_insert_fits at (length piece) advances site.buffer.point (length site.buffer.text) h f.point_fits);
+    begin_to_point = after_insert_orders at (length piece) advances site.buffer.begin site.buffer.point f.begin_to_point;
+    point_to_end = after_insert_below at (length piece) advances site.buffer.point site.buffer.end f.point_to_end;
     marks_fit = rw size (marks_moved id all (insertion at (length piece)) (length site.buffer.text) (length site.buffer.text + length piece) site.marks (moving_insertion at (length piece) (length site.buffer.text) h) f.marks_fit);
   };
   others = λ j size d k. marks_other id all (insertion at (length piece)) j size site.marks d k;
@@ -312,7 +342,8 @@ deleted_fits id from to site h k f = record {
   fits = record {
     begin_fits = after_delete_order from to site.buffer.begin site.buffer.end h f.begin_fits;
     end_fits = rw size (after_delete_fits from to site.buffer.end (length site.buffer.text) h k f.end_fits);
-    point_fits = rw size (after_delete_fits from to site.buffer.point (length site.buffer.text) h k f.point_fits);
+    begin_to_point = after_delete_order from to site.buffer.begin site.buffer.point h f.begin_to_point;
+    point_to_end = after_delete_order from to site.buffer.point site.buffer.end h f.point_to_end;
     marks_fit = record { markers = moved.markers; overlays = all_evaporated id id (length (splice from to [] site.buffer.text)) _ moved.overlays; saved = moved.saved };
   };
   others = λ j size d l. let m : MarksFit j size (move_marks id false (deletion from to) site.marks) = marks_other id false (deletion from to) j size site.marks d l in record { markers = m.markers; overlays = all_evaporated id j size _ m.overlays; saved = m.saved };
@@ -337,7 +368,7 @@ properties_fits id edit from to site h k f = go (property_records edit from to s
 
     go : (rs : List Rec) → Fitting id site (record site { buffer = elim rs [ [] ↦ b | r ∷ records ↦ record b { text = with_sets from to (edited edit) b.text; modified = true; undo = Rattle.text_model.specs.Commit.recorded (r ∷ records) b } ] })
     go [] = fitting_self id site f
-    go (r ∷ rs) = record { fits = record { begin_fits = f.begin_fits; end_fits = rw size f.end_fits; point_fits = rw size f.point_fits; marks_fit = rw size f.marks_fit }; others = λ j n d x. x; same_shapes = refl }
+    go (r ∷ rs) = record { fits = record { begin_fits = f.begin_fits; end_fits = rw size f.end_fits; begin_to_point = f.begin_to_point; point_to_end = f.point_to_end; marks_fit = rw size f.marks_fit }; others = λ j n d x. x; same_shapes = refl }
 
 -- MARKERS MOVED BACK
 pub clip_fits : (size p : ℕ) → clip 0 size p ≤ size
@@ -397,40 +428,69 @@ back_other id place size j n before (m ∷ moves) ms d h =
     back_other id place size j n before moves _ d (by_test (λ x. MarkersFit j n x) (stands_at id place (slice_get before m.0)) (marker_less id size m ms) ms (λ e. marker_less_other id size j n m ms d h) (λ e. h))
 
 -- RECORDS UNDONE
-point_set : (id place : ℕ) (site : Site) → place ≤ length site.buffer.text → SiteFits id site → Fitting id site (set_point place site)
-point_set id place site h f = record { fits = record { begin_fits = f.begin_fits; end_fits = f.end_fits; point_fits = h; marks_fit = f.marks_fit }; others = λ j n d x. x; same_shapes = refl }
+-- the accessible portion reaches from one place to another at least
+abbrev pub Encloses : Buffer → (min max : ℕ) → Type 0
+Encloses b min max = (b.begin ≤ min) × (max ≤ b.end)
 
-one_fits : (id : ℕ) (w : Rec) (behind : List (ℕ × ℤ)) (site : Site) → Within w (length site.buffer.text) → SiteFits id site → Fitting id site (undo_one id w behind site)
-one_fits id (Inserted from to) behind site h f =
-    let p : Fitting id site (set_point from site) = point_set id from site (let x : from ≤ to = h.0 in let y : to ≤ length site.buffer.text = h.1 in omega arith) f in
-    fitting_then id site (set_point from site) _ p (deleted_fits id from to (set_point from site) h.0 h.1 p.fits)
-one_fits id (Deleted piece place) behind site h f =
-    let p : Fitting id site (set_point place site) = point_set id place site h.0 f in
-    let q : Fitting id (set_point place site) (inserted id place piece false false (set_point place site)) = inserted_fits id place piece false false (set_point place site) h.0 p.fits in
+point_set : (id place : ℕ) (site : Site) → site.buffer.begin ≤ place → place ≤ site.buffer.end → SiteFits id site → Fitting id site (set_point place site)
+point_set id place site h k f = record { fits = record { begin_fits = f.begin_fits; end_fits = f.end_fits; begin_to_point = h; point_to_end = k; marks_fit = f.marks_fit }; others = λ j n d x. x; same_shapes = refl }
+
+one_fits : (id : ℕ) (w : Rec) (behind : List (ℕ × ℤ)) (site : Site) (min max : ℕ) → Within w min max → Encloses site.buffer min max → SiteFits id site → Fitting id site (undo_one id w behind site)
+one_fits id (Inserted from to) behind site min max h b f =
+    let p : Fitting id site (set_point from site) = point_set id from site (omega (arith, b.0, h.0)) (omega (arith, h.1, h.2, b.1)) f in
+    fitting_then id site (set_point from site) _ p (deleted_fits id from to (set_point from site) h.1 (omega (arith, h.2, b.1, f.end_fits)) p.fits)
+one_fits id (Deleted piece place) behind site min max h b f =
+    let p : Fitting id site (set_point place site) = point_set id place site (omega (arith, b.0, h.0)) (omega (arith, h.1, b.1)) f in
+    let q : Fitting id (set_point place site) (inserted id place piece false false (set_point place site)) = inserted_fits id place piece false false (set_point place site) (omega (arith, h.1, b.1, f.end_fits)) p.fits in
     fitting_then id site (set_point place site) _ p (record {
       fits = record {
         begin_fits = q.fits.begin_fits;
         end_fits = q.fits.end_fits;
-        point_fits = q.fits.point_fits;
+        begin_to_point = q.fits.begin_to_point;
+        point_to_end = q.fits.point_to_end;
         marks_fit = record { markers = back_fits id place (length (splice place place piece site.buffer.text)) site.marks.markers behind _ q.fits.marks_fit.markers; overlays = q.fits.marks_fit.overlays; saved = q.fits.marks_fit.saved };
       };
       others = λ j n d x. let y : MarksFit j n (inserted id place piece false false (set_point place site)).marks = q.others j n d x in record { markers = back_other id place (length (splice place place piece site.buffer.text)) j n site.marks.markers behind _ d y.markers; overlays = y.overlays; saved = y.saved };
       same_shapes = q.same_shapes;
     })
-one_fits id (Prop name (Some old) from to) behind site h f = properties_fits id (Add ((name, old) ∷ []) []) from to site h.0 h.1 f
-one_fits id (Prop name None from to) behind site h f = properties_fits id (Remove (name ∷ [])) from to site h.0 h.1 f
-one_fits id (Point place) behind site h f = point_set id place site h f
-one_fits id First behind site h f = record { fits = record { begin_fits = f.begin_fits; end_fits = f.end_fits; point_fits = f.point_fits; marks_fit = f.marks_fit }; others = λ j n d x. x; same_shapes = refl }
-one_fits id Boundary behind site h f = fitting_self id site f
-one_fits id (Moved m a) behind site h f = fitting_self id site f
+one_fits id (Prop name (Some old) from to) behind site min max h b f = properties_fits id (Add ((name, old) ∷ []) []) from to site h.1 (omega (arith, h.2, b.1, f.end_fits)) f
+one_fits id (Prop name None from to) behind site min max h b f = properties_fits id (Remove (name ∷ [])) from to site h.1 (omega (arith, h.2, b.1, f.end_fits)) f
+one_fits id (Point place) behind site min max h b f = point_set id place site (omega (arith, b.0, h.0)) (omega (arith, h.1, b.1)) f
+one_fits id First behind site min max h b f = record { fits = record { begin_fits = f.begin_fits; end_fits = f.end_fits; begin_to_point = f.begin_to_point; point_to_end = f.point_to_end; marks_fit = f.marks_fit }; others = λ j n d x. x; same_shapes = refl }
+one_fits id Boundary behind site min max h b f = fitting_self id site f
+one_fits id (Moved m a) behind site min max h b f = fitting_self id site f
 
-pub each_fits : (id : ℕ) (es : List Entry) (site : Site) (min max bound : ℕ) → Falling bound es → trial min max es ≡ None → max ≤ length site.buffer.text →
+properties_enclose : (edit : PropEdit) (from to : ℕ) (b : Buffer) (min max : ℕ) → Encloses b min max → Encloses (with_properties edit from to b) min max
+properties_enclose edit from to b min max h = go (property_records edit from to b.text)
+  where
+    go : (rs : List Rec) → Encloses (elim rs [ [] ↦ b | r ∷ rs ↦ record b { text = with_sets from to (edited edit) b.text; modified = true; undo = Rattle.text_model.specs.Commit.recorded (r ∷ rs) b } ]) min max
+    go [] = h
+    go (r ∷ rs) = h
+
+-- the accessible portion goes on reaching as far as the trial follows it
+one_encloses : (id : ℕ) (w : Rec) (behind : List (ℕ × ℤ)) (site : Site) (min max : ℕ) → Within w min max → Encloses site.buffer min max → Encloses (undo_one id w behind site).buffer min (max_after max w)
+one_encloses id (Inserted from to) behind site min max h b =
+    let x : (after_delete from to site.buffer.begin ≤ site.buffer.begin) × (site.buffer.begin - (to - from) ≤ after_delete from to site.buffer.begin) = delete_between from to site.buffer.begin in
+    let y : (after_delete from to site.buffer.end ≤ site.buffer.end) × (site.buffer.end - (to - from) ≤ after_delete from to site.buffer.end) = delete_between from to site.buffer.end in
+    (omega (arith, x.0, b.0), omega (arith, y.1, b.1))
+one_encloses id (Deleted piece place) behind site min max h b =
+    let x : after_insert place (length piece) false site.buffer.begin ≡ site.buffer.begin = insert_stays place (length piece) site.buffer.begin (omega (arith, b.0, h.0)) in
+    let y : after_insert place (length piece) true site.buffer.end ≡ site.buffer.end + length piece = insert_moves place (length piece) site.buffer.end (omega (arith, h.1, b.1)) in
+    (omega (arith, x, b.0), omega (arith, y, b.1))
+one_encloses id (Prop name (Some old) from to) behind site min max h b = properties_enclose (Add ((name, old) ∷ []) []) from to site.buffer min max b
+one_encloses id (Prop name None from to) behind site min max h b = properties_enclose (Remove (name ∷ [])) from to site.buffer min max b
+one_encloses id (Point place) behind site min max h b = b
+one_encloses id First behind site min max h b = b
+one_encloses id Boundary behind site min max h b = b
+one_encloses id (Moved m a) behind site min max h b = b
+
+pub each_fits : (id : ℕ) (es : List Entry) (site : Site) (min max bound : ℕ) → Falling bound es → trial min max es ≡ None → Encloses site.buffer min max →
     AreOrdered site.buffer.text → Falling site.buffer.undo.next site.buffer.undo.entries → OffIsEmpty site.buffer.undo → SiteFits id site → Fitting id site (undo_each id es site)
-each_fits id [] site min max bound g t h r f o s = fitting_self id site s
-each_fits id (e ∷ es) site min max bound g t h r f o s =
-    let x : Within e.what (length site.buffer.text) × (trial min (max_after max e.what) es ≡ None) = trial_more min max (length site.buffer.text) e es g.1.0 h t in
+each_fits id [] site min max bound g t b r f o s = fitting_self id site s
+each_fits id (e ∷ es) site min max bound g t b r f o s =
+    let x : Within e.what min max × (trial min (max_after max e.what) es ≡ None) = trial_more min max e es g.1.0 t in
     let next : Site = undo_one id e.what (moves_behind es) site in
-    let y : Outcome site.buffer next.buffer × (next.buffer.text ≡ undo_in_text e.what site.buffer.text) = one_record id e.what (moves_behind es) site x.0 r f o in
-    let l : max_after max e.what ≤ length next.buffer.text = rw y.1 (within_after e.what max site.buffer.text x.0 h) in
-    let z : Fitting id site next = one_fits id e.what (moves_behind es) site x.0 s in
+    let y : Outcome site.buffer next.buffer × (next.buffer.text ≡ undo_in_text e.what site.buffer.text) = one_record id e.what (moves_behind es) site min max x.0 (omega (arith, b.1, s.end_fits)) r f o in
+    let l : Encloses next.buffer min (max_after max e.what) = one_encloses id e.what (moves_behind es) site min max x.0 b in
+    let z : Fitting id site next = one_fits id e.what (moves_behind es) site min max x.0 b s in
     fitting_then id site next _ z (each_fits id es next min (max_after max e.what) e.serial g.1.1 x.1 l y.0.ordered y.0.moves.steps.falling y.0.moves.off z.fits)

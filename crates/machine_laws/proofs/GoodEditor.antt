@@ -18,7 +18,8 @@ pub record Passes (b c : Buffer) : Type 0 where
   pub back : (serial : ℕ) → serial < b.undo.next → boundary_at serial c.undo.entries ≡ true → rewind (newer_than serial c.undo.entries) c.text ≡ rewind (newer_than serial b.undo.entries) b.text
   pub pushed : (serial : ℕ) → b.undo.next ≤ serial → boundary_at serial c.undo.entries ≡ true → newer_than serial c.undo.entries ≡ []
 
--- each live buffer is good, and all places lie in its text; and in a buffer that isn't made yet no place lies behind 0
+-- Each live buffer is good, all places lie in its text, and point in the accessible portion. In a buffer that isn't made
+-- yet no place lies behind 0.
 pub record GoodEditor (e : Editor) : Type 0 where
   pub each : (id : ℕ) (l : Live) → live e id ≡ Some l → GoodSite id (record { buffer = l.buffer; marks = e.marks })
   pub unborn : (id : ℕ) → length e.buffers ≤ id → MarksFit id 0 e.marks

@@ -20,29 +20,29 @@ Same a b = a ≡ b
 abbrev Tried : Option Entry → Type 0
 Tried o = o ≡ None
 
--- a record whose places lie in the text
-abbrev pub Within : Rec → (size : ℕ) → Type 0
-Within (Inserted from to) size = (from ≤ to) × (to ≤ size)
-Within (Deleted piece place) size = (place ≤ size) × AreOrdered piece
-Within (Prop name old from to) size = (from ≤ to) × (to ≤ size)
-Within (Point place) size = place ≤ size
-Within _ size = Unit {0}
+-- a record whose places lie from one place to another
+abbrev pub Within : Rec → (min max : ℕ) → Type 0
+Within (Inserted from to) min max = (min ≤ from) × (from ≤ to) × (to ≤ max)
+Within (Deleted piece place) min max = (min ≤ place) × (place ≤ max) × AreOrdered piece
+Within (Prop name old from to) min max = (min ≤ from) × (from ≤ to) × (to ≤ max)
+Within (Point place) min max = (min ≤ place) × (place ≤ max)
+Within _ min max = Unit {0}
 
-inside_within : (min max size : ℕ) (w : Rec) → IsFine w → max ≤ size → lies_inside min max w ≡ true → Within w size
-inside_within min max size (Inserted from to) f h t = let x : (nat_le min from ≡ true) × (nat_le to max ≡ true) = and_parts _ _ t in let l : to ≤ max = leb-true to max x.1 in (f, omega arith)
-inside_within min max size (Deleted piece place) f h t = let x : (nat_le min place ≡ true) × (nat_le place max ≡ true) = and_parts _ _ t in let l : place ≤ max = leb-true place max x.1 in (omega arith, f)
-inside_within min max size (Prop name old from to) f h t = let x : (nat_le min from ≡ true) × (nat_le to max ≡ true) = and_parts _ _ t in let l : to ≤ max = leb-true to max x.1 in (f, omega arith)
-inside_within min max size (Point place) f h t = let x : (nat_le min place ≡ true) × (nat_le place max ≡ true) = and_parts _ _ t in let l : place ≤ max = leb-true place max x.1 in omega arith
-inside_within min max size Boundary f h t = tt
-inside_within min max size First f h t = tt
-inside_within min max size (Moved m a) f h t = tt
+inside_within : (min max : ℕ) (w : Rec) → IsFine w → lies_inside min max w ≡ true → Within w min max
+inside_within min max (Inserted from to) f t = let x : (nat_le min from ≡ true) × (nat_le to max ≡ true) = and_parts _ _ t in (leb-true min from x.0, f, leb-true to max x.1)
+inside_within min max (Deleted piece place) f t = let x : (nat_le min place ≡ true) × (nat_le place max ≡ true) = and_parts _ _ t in (leb-true min place x.0, leb-true place max x.1, f)
+inside_within min max (Prop name old from to) f t = let x : (nat_le min from ≡ true) × (nat_le to max ≡ true) = and_parts _ _ t in (leb-true min from x.0, f, leb-true to max x.1)
+inside_within min max (Point place) f t = let x : (nat_le min place ≡ true) × (nat_le place max ≡ true) = and_parts _ _ t in (leb-true min place x.0, leb-true place max x.1)
+inside_within min max Boundary f t = tt
+inside_within min max First f t = tt
+inside_within min max (Moved m a) f t = tt
 
 -- a trial that finds nothing goes on behind each record
-pub trial_more : (min max size : ℕ) (e : Entry) (es : List Entry) → IsFine e.what → max ≤ size → trial min max (e ∷ es) ≡ None → Within e.what size × (trial min (max_after max e.what) es ≡ None)
-trial_more min max size e es f h t = go (lies_inside min max e.what) refl t
+pub trial_more : (min max : ℕ) (e : Entry) (es : List Entry) → IsFine e.what → trial min max (e ∷ es) ≡ None → Within e.what min max × (trial min (max_after max e.what) es ≡ None)
+trial_more min max e es f t = go (lies_inside min max e.what) refl t
   where
-    go : (v : Bool) → lies_inside min max e.what ≡ v → Tried (elim v [ true ↦ trial min (max_after max e.what) es | false ↦ Some e ]) → Within e.what size × (trial min (max_after max e.what) es ≡ None)
-    go true q k = (inside_within min max size e.what f h q, k)
+    go : (v : Bool) → lies_inside min max e.what ≡ v → Tried (elim v [ true ↦ trial min (max_after max e.what) es | false ↦ Some e ]) → Within e.what min max × (trial min (max_after max e.what) es ≡ None)
+    go true q k = (inside_within min max e.what f q, k)
     go false q k = absurd (none-some e (sym k))
 
 -- boundaries don't count in it
@@ -75,44 +75,44 @@ pub record Undoes (b : Buffer) (es : List Entry) (c : Buffer) : Type 0 where
 at_site : (b d c : Buffer) → b.undo ≡ d.undo → b.text ≡ d.text → Outcome b c → Outcome d c
 at_site b d c p q x = record { moves = rw (← p, ← q) x.moves; ordered = x.ordered }
 
-pub one_record : (id : ℕ) (w : Rec) (behind : List (ℕ × ℤ)) (site : Site) → Within w (length site.buffer.text) → AreOrdered site.buffer.text → Falling site.buffer.undo.next site.buffer.undo.entries → OffIsEmpty site.buffer.undo →
-    Outcome site.buffer (undo_one id w behind site).buffer × ((undo_one id w behind site).buffer.text ≡ undo_in_text w site.buffer.text)
-one_record id (Inserted from to) behind site h r f o = (at_site (set_point from site).buffer site.buffer _ refl refl (deleted_outcome id from to (set_point from site) h.0 h.1 r f o), refl)
-one_record id (Deleted piece place) behind site h r f o = (at_site (set_point place site).buffer site.buffer _ refl refl (inserted_outcome id place piece false false (set_point place site) h.0 h.1 r f o), refl)
-one_record id (Prop name (Some old) from to) behind site h r f o = (properties_outcome (Add ((name, old) ∷ []) []) from to site.buffer h.0 r tt f o, text-with_properties (Add ((name, old) ∷ []) []) from to site.buffer h.0 r tt)
-one_record id (Prop name None from to) behind site h r f o = (properties_outcome (Remove (name ∷ [])) from to site.buffer h.0 r tt f o, text-with_properties (Remove (name ∷ [])) from to site.buffer h.0 r tt)
-one_record id (Point place) behind site h r f o = (record { moves = moves_stay _ _ f o; ordered = r }, refl)
-one_record id First behind site h r f o = (record { moves = moves_stay _ _ f o; ordered = r }, refl)
-one_record id Boundary behind site h r f o = (record { moves = moves_stay _ _ f o; ordered = r }, refl)
-one_record id (Moved m a) behind site h r f o = (record { moves = moves_stay _ _ f o; ordered = r }, refl)
+pub one_record : (id : ℕ) (w : Rec) (behind : List (ℕ × ℤ)) (site : Site) (min max : ℕ) → Within w min max → max ≤ length site.buffer.text →
+    AreOrdered site.buffer.text → Falling site.buffer.undo.next site.buffer.undo.entries → OffIsEmpty site.buffer.undo → Outcome site.buffer (undo_one id w behind site).buffer × ((undo_one id w behind site).buffer.text ≡ undo_in_text w site.buffer.text)
+one_record id (Inserted from to) behind site min max h k r f o = (at_site (set_point from site).buffer site.buffer _ refl refl (deleted_outcome id from to (set_point from site) h.1 (omega (arith, h.2, k)) r f o), refl)
+one_record id (Deleted piece place) behind site min max h k r f o = (at_site (set_point place site).buffer site.buffer _ refl refl (inserted_outcome id place piece false false (set_point place site) (omega (arith, h.1, k)) h.2 r f o), refl)
+one_record id (Prop name (Some old) from to) behind site min max h k r f o = (properties_outcome (Add ((name, old) ∷ []) []) from to site.buffer h.1 r tt f o, text-with_properties (Add ((name, old) ∷ []) []) from to site.buffer h.1 r tt)
+one_record id (Prop name None from to) behind site min max h k r f o = (properties_outcome (Remove (name ∷ [])) from to site.buffer h.1 r tt f o, text-with_properties (Remove (name ∷ [])) from to site.buffer h.1 r tt)
+one_record id (Point place) behind site min max h k r f o = (record { moves = moves_stay _ _ f o; ordered = r }, refl)
+one_record id First behind site min max h k r f o = (record { moves = moves_stay _ _ f o; ordered = r }, refl)
+one_record id Boundary behind site min max h k r f o = (record { moves = moves_stay _ _ f o; ordered = r }, refl)
+one_record id (Moved m a) behind site min max h k r f o = (record { moves = moves_stay _ _ f o; ordered = r }, refl)
 
 -- the end of the accessible portion as the trial follows it
-pub within_after : (w : Rec) (max : ℕ) (t : List Cell) → Within w (length t) → max ≤ length t → max_after max w ≤ length (undo_in_text w t)
-within_after (Inserted from to) max t h k =
-    let p : from ≤ to = h.0 in
-    let q : to ≤ length t = h.1 in
-    let e : length (splice from to [] t) + (to - from) ≡ length t + 0 = length-splice from to [] t h.0 h.1 in
+within_after : (w : Rec) (min max : ℕ) (t : List Cell) → Within w min max → max ≤ length t → max_after max w ≤ length (undo_in_text w t)
+within_after (Inserted from to) min max t h k =
+    let q : to ≤ length t = omega (arith, h.2, k) in
+    let e : length (splice from to [] t) + (to - from) ≡ length t + 0 = length-splice from to [] t h.1 q in
+    omega (arith, h.1)
+within_after (Deleted piece place) min max t h k =
+    let q : place ≤ length t = omega (arith, h.1, k) in
+    let e : length (splice place place piece t) + (place - place) ≡ length t + length piece = length-splice place place piece t (omega arith) q in
     omega arith
-within_after (Deleted piece place) max t h k =
-    let q : place ≤ length t = h.0 in
-    let e : length (splice place place piece t) + (place - place) ≡ length t + length piece = length-splice place place piece t (omega arith) h.0 in
+within_after (Prop name old from to) min max t h k =
+    let q : to ≤ length t = omega (arith, h.2, k) in
+    let e : length (with_sets from to (λ set. put set name old) t) ≡ length t = length-with_sets from to (λ set. put set name old) t h.1 q in
     omega arith
-within_after (Prop name old from to) max t h k =
-    let e : length (with_sets from to (λ set. put set name old) t) ≡ length t = length-with_sets from to (λ set. put set name old) t h.0 h.1 in
-    omega arith
-within_after (Point place) max t h k = k
-within_after First max t h k = k
-within_after Boundary max t h k = k
-within_after (Moved m a) max t h k = k
+within_after (Point place) min max t h k = k
+within_after First min max t h k = k
+within_after Boundary min max t h k = k
+within_after (Moved m a) min max t h k = k
 
 pub each_record : (id : ℕ) (es : List Entry) (site : Site) (min max bound : ℕ) → Falling bound es → trial min max es ≡ None → max ≤ length site.buffer.text →
     AreOrdered site.buffer.text → Falling site.buffer.undo.next site.buffer.undo.entries → OffIsEmpty site.buffer.undo → Undoes site.buffer es (undo_each id es site).buffer
 each_record id [] site min max bound g t h r f o = record { outcome = record { moves = moves_stay _ _ f o; ordered = r }; text = refl }
 each_record id (e ∷ es) site min max bound g t h r f o =
-    let x : Within e.what (length site.buffer.text) × (trial min (max_after max e.what) es ≡ None) = trial_more min max (length site.buffer.text) e es g.1.0 h t in
+    let x : Within e.what min max × (trial min (max_after max e.what) es ≡ None) = trial_more min max e es g.1.0 t in
     let next : Site = undo_one id e.what (moves_behind es) site in
-    let y : Outcome site.buffer next.buffer × (next.buffer.text ≡ undo_in_text e.what site.buffer.text) = one_record id e.what (moves_behind es) site x.0 r f o in
-    let l : max_after max e.what ≤ length next.buffer.text = rw y.1 (within_after e.what max site.buffer.text x.0 h) in
+    let y : Outcome site.buffer next.buffer × (next.buffer.text ≡ undo_in_text e.what site.buffer.text) = one_record id e.what (moves_behind es) site min max x.0 h r f o in
+    let l : max_after max e.what ≤ length next.buffer.text = rw y.1 (within_after e.what min max site.buffer.text x.0 h) in
     let z : Undoes next.buffer es (undo_each id es next).buffer = each_record id es next min (max_after max e.what) e.serial g.1.1 x.1 l y.0.ordered y.0.moves.steps.falling y.0.moves.off in
     record {
       outcome = record { moves = moves_then _ _ _ _ _ _ y.0.moves z.outcome.moves; ordered = z.outcome.ordered };

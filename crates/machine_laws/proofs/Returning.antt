@@ -217,7 +217,7 @@ new_good = record { each = λ id l h. each id l h; unborn = λ id h. record { ma
     each zero l h = subst (λ z. GoodSite zero (record { buffer = z.buffer; marks = new_editor.marks })) (same_Some _ l h)
         (record {
           good = record { ordered = tt; falling = tt; off = λ q. refl; below = omega arith; agrees = λ s a q. absurd (omega arith) };
-          fits = record { begin_fits = omega arith; end_fits = omega arith; point_fits = omega arith; marks_fit = record { markers = tt; overlays = tt; saved = tt } };
+          fits = record { begin_fits = omega arith; end_fits = omega arith; begin_to_point = omega arith; point_to_end = omega arith; marks_fit = record { markers = tt; overlays = tt; saved = tt } };
         })
     each (suc id) l h = absurd (none-some l h)
 

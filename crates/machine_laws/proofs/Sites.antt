@@ -25,7 +25,7 @@ site_stays id site g = record { passes = passes_self site.buffer g.good; fitting
 
 -- the pending records dropped
 dropped_fits : (id : ℕ) (site new : Site) → Fitting id site new → Fitting id site (no_pending new)
-dropped_fits id site new f = record { fits = record { begin_fits = f.fits.begin_fits; end_fits = f.fits.end_fits; point_fits = f.fits.point_fits; marks_fit = f.fits.marks_fit }; others = f.others; same_shapes = f.same_shapes }
+dropped_fits id site new f = record { fits = record { begin_fits = f.fits.begin_fits; end_fits = f.fits.end_fits; begin_to_point = f.fits.begin_to_point; point_to_end = f.fits.point_to_end; marks_fit = f.fits.marks_fit }; others = f.others; same_shapes = f.same_shapes }
 
 pub replaced_step : (id from to : ℕ) (piece : List Cell) (all : Bool) (site : Site) → from ≤ to → to ≤ length site.buffer.text → AreOrdered piece → GoodSite id site → SiteStep id site (replaced id from to piece all site)
 replaced_step id from to piece all site h k p g = record {
@@ -66,12 +66,19 @@ groups_step id n site g t = record {
     below = falling-older u.next u.pending_below u.entries g.good.falling
 
     f : Fitting id begun (undo_each id (passed n u) begun)
-    f = each_fits id (passed n u) begun begun.buffer.begin begun.buffer.end u.pending_below (falling-groups n u.pending_below (pending u) below) (sym (trial-undone begun.buffer.begin begun.buffer.end (passed n u)) ∙ t) g.fits.end_fits g.good.ordered g.good.falling g.good.off
-        (record { begin_fits = g.fits.begin_fits; end_fits = g.fits.end_fits; point_fits = g.fits.point_fits; marks_fit = g.fits.marks_fit })
+    f = each_fits id (passed n u) begun begun.buffer.begin begun.buffer.end u.pending_below (falling-groups n u.pending_below (pending u) below) (sym (trial-undone begun.buffer.begin begun.buffer.end (passed n u)) ∙ t) (omega arith, omega arith) g.good.ordered g.good.falling g.good.off
+        (record { begin_fits = g.fits.begin_fits; end_fits = g.fits.end_fits; begin_to_point = g.fits.begin_to_point; point_to_end = g.fits.point_to_end; marks_fit = g.fits.marks_fit })
+
+-- point lies between the bounds, and these in a text of some size
+abbrev pub Bounds : Buffer → (size : ℕ) → Type 0
+Bounds b size = (b.begin ≤ b.point) × (b.point ≤ b.end) × (b.end ≤ size)
+
+pub site_bounds : (id : ℕ) (site : Site) → GoodSite id site → Bounds site.buffer (length site.buffer.text)
+site_bounds id site g = (g.fits.begin_to_point, g.fits.point_to_end, g.fits.end_fits)
 
 -- a change that leaves the text
-pub same_step : (id : ℕ) (site : Site) (c : Buffer) → GoodSite id site → c.text ≡ site.buffer.text → Passes site.buffer c → c.begin ≤ c.end → c.end ≤ length site.buffer.text → c.point ≤ length site.buffer.text → SiteStep id site (record site { buffer = c })
-same_step id site c g q p x y z = record {
+pub same_step : (id : ℕ) (site : Site) (c : Buffer) → GoodSite id site → c.text ≡ site.buffer.text → Passes site.buffer c → Bounds c (length site.buffer.text) → SiteStep id site (record site { buffer = c })
+same_step id site c g q p b = record {
   passes = p;
-  fitting = record { fits = record { begin_fits = x; end_fits = rw q y; point_fits = rw q z; marks_fit = rw q g.fits.marks_fit }; others = λ j n d h. h; same_shapes = refl };
+  fitting = record { fits = record { begin_fits = omega (arith, b.0, b.1); end_fits = rw q b.2; begin_to_point = b.0; point_to_end = b.1; marks_fit = rw q g.fits.marks_fit }; others = λ j n d h. h; same_shapes = refl };
 }

@@ -1,5 +1,5 @@
 -- Each step keeps what holds of configurations, and in each buffer what is newer than a boundary.
-use Rattle.std.proofs.Common.{◌≡◌, ℕ, ◌≤◌, Bool, true, false, List, [], ◌∷◌, ◌++◌, length, drop, refl, ap, sym, subst, ◌∙◌, arith}
+use Rattle.std.proofs.Common.{◌≡◌, ℕ, ◌≤◌, Bool, true, false, List, [], ◌∷◌, ◌++◌, length, drop, refl, ap, sym, subst, ◌∙◌}
 use Rattle.std.specs.Prelude.{Option, Some, None}
 use Rattle.std.proofs.lemmas.Bool.{eq-eqb}
 use Rattle.text_model.specs.Places.{clip}
@@ -8,12 +8,12 @@ use Rattle.text_model.specs.Commit.{Buffer}
 use Rattle.machine_laws.specs.Fits.{KeptFits, SavedFits, MarksFit, GoodSite}
 use Rattle.machine_laws.specs.Brackets.{shapes}
 use Rattle.machine_laws.proofs.OneBuffer.{passes_same}
-use Rattle.machine_laws.proofs.Sites.{same_step}
+use Rattle.machine_laws.proofs.Sites.{Bounds, same_step}
 use Rattle.editor_model.specs.Values.{Fault, Reply}
 use Rattle.editor_model.specs.Editor.{Editor, Live, live, is_live}
 use Rattle.machine_laws.proofs.GoodEditor.{GoodEditor, Advances}
 use Rattle.machine_laws.proofs.Advancing.{advances_self, site_advances, site_shapes, size_of}
-use Rattle.machine_laws.proofs.Applying.{clip_lies}
+use Rattle.machine_laws.proofs.Applying.{clip_lies, widened_bounds}
 use Rattle.machine_laws.proofs.Settling.{Settles, settles_self, settles_then, settles_advances, marks_settle, site_settles}
 use Rattle.plain_machine.specs.State.{State, Process, process, change_process}
 use Rattle.plain_machine.specs.Items.{Item, Top, Native, Called, Exit, Leave, MakeChange, CommitChange, Kept, KeptExcursion, KeptRestriction, KeptBuffer, KeptInhibition, KeptLifting}
@@ -75,14 +75,13 @@ live_rests s b t g h = go (is_live s.editor b) refl
 -- a buffer's bounds and point set
 bounds_rest : (b : ℕ) (f : Buffer → Buffer) (s : State) → GoodEditor s.editor →
     ((x : Buffer) → (f x).text ≡ x.text) → ((x : Buffer) → (f x).undo ≡ x.undo) →
-    ((l : Live) → live s.editor b ≡ Some l → ((f l.buffer).begin ≤ (f l.buffer).end) × (((f l.buffer).end ≤ length l.buffer.text) × ((f l.buffer).point ≤ length l.buffer.text))) →
+    ((l : Live) → live s.editor b ≡ Some l → Bounds (f l.buffer) (length l.buffer.text)) →
     Rests s (in_buffer b f s) (kinds s)
 bounds_rest b f s g t u h = record {
   settles = site_settles b (λ site. record site { buffer = f site.buffer }) s.editor
       (site_advances b (λ site. record site { buffer = f site.buffer }) s.editor g (λ l q.
       let x : GoodSite b (record { buffer = l.buffer; marks = s.editor.marks }) = g.each b l q in
-      let y : ((f l.buffer).begin ≤ (f l.buffer).end) × (((f l.buffer).end ≤ length l.buffer.text) × ((f l.buffer).point ≤ length l.buffer.text)) = h l q in
-      same_step b (record { buffer = l.buffer; marks = s.editor.marks }) (f l.buffer) x (t l.buffer) (passes_same l.buffer (f l.buffer) x.good (t l.buffer) (u l.buffer)) y.0 y.1.0 y.1.1))
+      same_step b (record { buffer = l.buffer; marks = s.editor.marks }) (f l.buffer) x (t l.buffer) (passes_same l.buffer (f l.buffer) x.good (t l.buffer) (u l.buffer)) (h l q)))
       (λ l q. (t l.buffer, u l.buffer));
   same_kinds = site_shapes b (λ site. record site { buffer = f site.buffer }) s.editor (λ l q. refl);
 }
@@ -92,12 +91,12 @@ put_back_rests : (k : Saved) (s : State) → GoodEditor s.editor → ((l : Live)
 put_back_rests (Excursion b p) s g h = live_rests s b _ g (λ q.
     let t : State = in_buffer b (λ x. record x { point = clip x.begin x.end p }) s in
     let x : Rests s t (kinds s) = bounds_rest b (λ x. record x { point = clip x.begin x.end p }) s g (λ x. refl) (λ x. refl) (λ l r.
-    let y : GoodSite b (record { buffer = l.buffer; marks = s.editor.marks }) = g.each b l r in (y.fits.begin_fits, (y.fits.end_fits, clip_lies l.buffer.begin l.buffer.end p (length l.buffer.text) y.fits.begin_fits y.fits.end_fits))) in
+    let y : GoodSite b (record { buffer = l.buffer; marks = s.editor.marks }) = g.each b l r in clip_lies l.buffer.begin l.buffer.end p (length l.buffer.text) y.fits.begin_fits y.fits.end_fits) in
     let z : Rests t (current b t) (kinds t) = current_rests b t x.settles.good in
     record { settles = settles_then s.editor t.editor (current b t).editor x.settles z.settles; same_kinds = x.same_kinds })
-put_back_rests (Restriction b None) s g h = live_rests s b _ g (λ q. bounds_rest b (λ x. record x { begin = 0; end = length x.text }) s g (λ x. refl) (λ x. refl) (λ l r. let y : GoodSite b (record { buffer = l.buffer; marks = s.editor.marks }) = g.each b l r in (omega arith, (omega arith, y.fits.point_fits))))
+put_back_rests (Restriction b None) s g h = live_rests s b _ g (λ q. bounds_rest b (λ x. record x { begin = 0; end = length x.text }) s g (λ x. refl) (λ x. refl) (λ l r. widened_bounds b (record { buffer = l.buffer; marks = s.editor.marks }) (g.each b l r)))
 put_back_rests (Restriction b (Some ends)) s g h = live_rests s b _ g (λ q. bounds_rest b (λ x. record x { begin = ends.0; end = ends.1; point = clip ends.0 ends.1 x.point }) s g (λ x. refl) (λ x. refl) (λ l r.
-    let y : (ends.0 ≤ ends.1) × (ends.1 ≤ length l.buffer.text) = h l b r (eq-eqb b b refl) in (y.0, (y.1, clip_lies ends.0 ends.1 l.buffer.point (length l.buffer.text) y.0 y.1))))
+    let y : (ends.0 ≤ ends.1) × (ends.1 ≤ length l.buffer.text) = h l b r (eq-eqb b b refl) in clip_lies ends.0 ends.1 l.buffer.point (length l.buffer.text) y.0 y.1))
 put_back_rests (Pending b from to) s g h = rests_self s g
 
 -- the kept places but the top one

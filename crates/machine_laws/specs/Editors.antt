@@ -14,10 +14,10 @@ EndsInRecord [] = Unit {0}
 EndsInRecord (e ∷ []) = is_boundary e.what ≡ false
 EndsInRecord (e ∷ f ∷ entries) = EndsInRecord (f ∷ entries)
 
--- In each live buffer: the bounds are in order and lie in the text, and so do point, markers, overlays and
--- kept places; its property sets are in order; its undo records have falling serial numbers, and none where
--- recording is off. Its list of records doesn't end in a boundary. Names of live buffers differ, and the
--- current buffer lives.
+-- In each live buffer: point lies in the accessible portion, from begin to end. The bounds of this portion,
+-- markers, overlays and kept places lie in the text. Its property sets are in order; its undo records have
+-- falling serial numbers, and none where recording is off. Its list of records doesn't end in a boundary.
+-- Names of live buffers differ, and the current buffer lives.
 pub record Sound (e : Editor) : Type 0 where
   pub each : (id : ℕ) (l : Live) → live e id ≡ Some l →
       GoodSite id (record { buffer = l.buffer; marks = e.marks })

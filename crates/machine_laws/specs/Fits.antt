@@ -1,4 +1,4 @@
--- Places that lie in their buffer's text.
+-- Places that lie in their buffer's text, and point between its bounds.
 use Rattle.std.specs.Prelude.{◌≡◌, ℕ, ◌≤◌, true, ◌==◌, List, [], ◌∷◌, length, Option, Some, None}
 use Rattle.text_model.specs.Marks.{Spot, Marker, Span, Overlay, Saved, Excursion, Restriction, Pending, Marks}
 use Rattle.text_model.specs.Commit.{Site}
@@ -37,11 +37,12 @@ pub record MarksFit (id size : ℕ) (marks : Marks) : Type 0 where
   pub overlays : OverlaysFit id size marks.overlays
   pub saved : SavedFits id size marks.saved
 
--- a buffer and what stands beside it have their places in its text
+-- a buffer and what stands beside it have their places in its text, and point in the accessible portion
 pub record SiteFits (id : ℕ) (site : Site) : Type 0 where
   pub begin_fits : site.buffer.begin ≤ site.buffer.end
   pub end_fits : site.buffer.end ≤ length site.buffer.text
-  pub point_fits : site.buffer.point ≤ length site.buffer.text
+  pub begin_to_point : site.buffer.begin ≤ site.buffer.point
+  pub point_to_end : site.buffer.point ≤ site.buffer.end
   pub marks_fit : MarksFit id (length site.buffer.text) site.marks
 
 pub record GoodSite (id : ℕ) (site : Site) : Type 0 where

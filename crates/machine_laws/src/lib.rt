@@ -247,9 +247,10 @@ pub fn handlers_bracket()
 
 // EDITORS
 
-/// In each state of each run: bounds, point, markers, overlays and kept places lie in their texts;
-/// a buffer's property sets are in order; its undo records have falling serial numbers, and don't
-/// end in a boundary; names of live buffers differ; the current buffer lives.
+/// In each state of each run: point lies in its buffer's accessible portion; its bounds,
+/// markers, overlays and kept places lie in their texts; a buffer's property sets are in order; its
+/// undo records have falling serial numbers, and don't end in a boundary; names of live buffers
+/// differ; the current buffer lives.
 pub fn editors_stay_sound()
     ensures { (program : Program) (bound : ℕ) (script : Script) →
         EditorsAreSound program bound (start script) }
