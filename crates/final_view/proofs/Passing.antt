@@ -10,7 +10,7 @@ use Rattle.std.proofs.lemmas.List.{drop_all}
 use Rattle.std.proofs.lemmas.Option.{slice_get-get_or}
 use Rattle.text_model.proofs.Lists.{drop_at}
 use Rattle.text_model.specs.Characters.{Ch}
-use Rattle.overlay_set.proofs.OrderLemmas.{nat_below}
+use Rattle.text_model.proofs.Ranks.{nat_below}
 use Rattle.final_view.specs.Marks.{Rises, Pass, AreSorted}
 use Rattle.final_view.specs.declared.mark.Mark.{Mark}
 

@@ -17,42 +17,12 @@ use Rattle.std.proofs.lemmas.Option.{slice_get-get_or, unwrap_or-slice_get}
 use Rattle.text_model.specs.Marks.{Overlay}
 use Rattle.text_model.specs.OverlayQuestions.{rank, start_of, end_of, outranks}
 use Rattle.text_model.proofs.Lists.{take_one_more}
+use Rattle.text_model.proofs.Ranks.{place, outranks_is}
 use Rattle.overlay_set.specs.Numbered.{overlay_at, no_overlay}
-use Rattle.overlay_set.proofs.OrderLemmas.{int_below, nat_below, nat_equal}
 use Rattle.final_view.specs.Shown.{in_buffer, put_in, rising}
 use Rattle.final_view.specs.Marks.{overlay_of, overlays_in, IsMark, strength, AreRanked}
 use Rattle.final_view.specs.declared.mark.Mark.{Mark}
 use Rattle.final_view.proofs.Sorting.{put, sorted, sorted_by_any}
-
--- THE ORDER OF TWO OVERLAYS
-nat_upto : (x y : ℕ) → nat_le x y ≡ not (is_gt (nat_cmp x y))
-nat_upto x y = by_tests (nat_lt x y) (x == y) refl refl
-  where
-    by_tests : (s t : Bool) → nat_lt x y ≡ s → (x == y) ≡ t → nat_le x y ≡ not (is_gt (if s then Less else (if t then Equal else Greater)))
-    by_tests true t p q = let low : x < y = ltb-true x y p in le-leb x y (omega arith)
-    by_tests false true p q = let same : x ≡ y = eqb-true x y q in le-leb x y (omega arith)
-    by_tests false false p q =
-        let high : y ≤ x = ltb-false x y p in
-        let apart : x ≡ y → ⊥ = eqb-false x y q in
-        lt-leb x y (omega arith)
-
-tested : (i s e : Ordering) → (is_lt i || (is_eq i && (is_lt s || (is_eq s && not (is_gt e))))) ≡ not (is_gt (ordering_then i (ordering_then s e)))
-tested Less s e = refl
-tested Greater s e = refl
-tested Equal Less e = refl
-tested Equal Greater e = refl
-tested Equal Equal e = refl
-
-abbrev place : Overlay → Overlay → Ordering
-place p o = ordering_then (int_cmp (rank p) (rank o)) (ordering_then (nat_cmp (start_of p.span) (start_of o.span)) (nat_cmp (end_of o.span) (end_of p.span)))
-
-outranks_is : (o p : Overlay) → outranks o p ≡ not (is_gt (place p o))
-outranks_is o p =
-    ap (λ t. t || (int_eq (rank p) (rank o) && (nat_lt (start_of p.span) (start_of o.span) || ((start_of p.span == start_of o.span) && nat_le (end_of o.span) (end_of p.span))))) (int_below (rank p) (rank o))
-    ∙ ap (λ t. is_lt (int_cmp (rank p) (rank o)) || (int_eq (rank p) (rank o) && (t || ((start_of p.span == start_of o.span) && nat_le (end_of o.span) (end_of p.span))))) (nat_below (start_of p.span) (start_of o.span))
-    ∙ ap (λ t. is_lt (int_cmp (rank p) (rank o)) || (int_eq (rank p) (rank o) && (is_lt (nat_cmp (start_of p.span) (start_of o.span)) || (t && nat_le (end_of o.span) (end_of p.span))))) (nat_equal (start_of p.span) (start_of o.span))
-    ∙ ap (λ t. is_lt (int_cmp (rank p) (rank o)) || (int_eq (rank p) (rank o) && (is_lt (nat_cmp (start_of p.span) (start_of o.span)) || (is_eq (nat_cmp (start_of p.span) (start_of o.span)) && t)))) (nat_upto (end_of o.span) (end_of p.span))
-    ∙ tested (int_cmp (rank p) (rank o)) (nat_cmp (start_of p.span) (start_of o.span)) (nat_cmp (end_of o.span) (end_of p.span))
 
 -- THE ORDER OF TWO MARKS
 strength_total : IsTotalOrder strength

@@ -13,6 +13,7 @@ use Rattle.text_model.specs.Properties.{PropEdit, Add, Remove, with_sets, edited
 use Rattle.text_model.specs.Commit.{property_records}
 use Rattle.text_model.specs.Ordered.{AreOrdered}
 use Rattle.text_model.proofs.Cases.{by_test}
+use Rattle.text_model.proofs.Forward.{forward_insert, forward_delete}
 use Rattle.machine_laws.specs.Good.{Falling, OffIsEmpty}
 use Rattle.machine_laws.proofs.Changes.{length-splice, length-with_sets, Outcome}
 use Rattle.machine_laws.proofs.Groups.{Within, trial_more, one_record}
@@ -50,62 +51,16 @@ insert_moves : (q n p : ℕ) → q ≤ p → after_insert q n true p ≡ p + n
 insert_moves q n p h = by_test (λ x. x ≡ p + n) (nat_lt p q) p (if nat_lt q p then p + n else q + n) (λ a. let l : p < q = ltb-true p q a in absurd (omega arith))
     (λ a. by_test (λ x. x ≡ p + n) (nat_lt q p) (p + n) (q + n) (λ b. refl) (λ b. let l : p ≤ q = ltb-false q p b in omega arith))
 
-pub after_insert_order : (q n p r : ℕ) → p ≤ r → after_insert q n false p ≤ after_insert q n false r
-after_insert_order q n p r h = go (insert_cases q n p) (insert_cases q n r)
-  where
-    go : ((p ≤ q) × (after_insert q n false p ≡ p)) ⊎ ((q < p) × (after_insert q n false p ≡ p + n)) → ((r ≤ q) × (after_insert q n false r ≡ r)) ⊎ ((q < r) × (after_insert q n false r ≡ r + n)) → after_insert q n false p ≤ after_insert q n false r
-    go (inl x) (inl y) = rw (x.1, y.1) h
-    go (inl x) (inr y) = rw (x.1, y.1) (omega arith)
-    go (inr x) (inl y) = rw (x.1, y.1) (omega arith)
-    go (inr x) (inr y) = rw (x.1, y.1) (omega arith)
-
-after_insert_advances : (q n r : ℕ) → after_insert q n false r ≤ after_insert q n true r
-after_insert_advances q n r = by_test (λ x. (if nat_lt r q then r else (if nat_lt q r then r + n else r)) ≤ x) (nat_lt r q) r (if nat_lt q r then r + n else q + n)
-    (λ a. rw a (omega arith))
-    (λ a. rw a (by_test (λ x. (if nat_lt q r then r + n else r) ≤ x) (nat_lt q r) (r + n) (q + n) (λ b. rw b (omega arith)) (λ b. let l : r ≤ q = ltb-false q r b in let g : r ≤ q + n = omega arith in rw b g)))
-
-pub after_insert_orders : (q n : ℕ) (advances : Bool) (p r : ℕ) → p ≤ r → after_insert q n false p ≤ after_insert q n advances r
-after_insert_orders q n false p r h = after_insert_order q n p r h
-after_insert_orders q n true p r h = let x : after_insert q n false p ≤ after_insert q n false r = after_insert_order q n p r h in let y : after_insert q n false r ≤ after_insert q n true r = after_insert_advances q n r in omega arith
+after_insert_orders : (q n : ℕ) (advances : Bool) (p r : ℕ) → p ≤ r → after_insert q n false p ≤ after_insert q n advances r
+after_insert_orders q n advances p r h = forward_insert q n p r false advances h (λ same moves. absurd (false≢true moves))
 
 -- a place in front of another stays so, whether these advance or not
-insert_least : (q n : ℕ) (v : Bool) (p : ℕ) → p ≤ after_insert q n v p
-insert_least q n v p = by_test (λ x. p ≤ x) (nat_lt p q) p (if nat_lt q p then p + n else (if v then q + n else p)) (λ a. omega arith)
-    (λ a. by_test (λ x. p ≤ x) (nat_lt q p) (p + n) (if v then q + n else p) (λ b. omega arith) (λ b. let l : p ≤ q = ltb-false q p b in by_test (λ x. p ≤ x) v (q + n) p (λ c. omega arith) (λ c. omega arith)))
-
-insert_most : (q n : ℕ) (v : Bool) (p : ℕ) → after_insert q n v p ≤ p + n
-insert_most q n v p = by_test (λ x. x ≤ p + n) (nat_lt p q) p (if nat_lt q p then p + n else (if v then q + n else p)) (λ a. omega arith)
-    (λ a. let m : q ≤ p = ltb-false p q a in by_test (λ x. x ≤ p + n) (nat_lt q p) (p + n) (if v then q + n else p) (λ b. omega arith) (λ b. by_test (λ x. x ≤ p + n) v (q + n) p (λ c. omega arith) (λ c. omega arith)))
-
-insert_before : (q n : ℕ) (v : Bool) (p : ℕ) → p < q → after_insert q n v p ≡ p
-insert_before q n v p h = by_test (λ x. x ≡ p) (nat_lt p q) p (if nat_lt q p then p + n else (if v then q + n else p)) (λ a. refl) (λ a. let l : q ≤ p = ltb-false p q a in absurd (omega arith))
-
-insert_behind : (q n : ℕ) (v : Bool) (p : ℕ) → q < p → after_insert q n v p ≡ p + n
-insert_behind q n v p h = by_test (λ x. x ≡ p + n) (nat_lt p q) p (if nat_lt q p then p + n else (if v then q + n else p)) (λ a. let l : p < q = ltb-true p q a in absurd (omega arith))
-    (λ a. by_test (λ x. x ≡ p + n) (nat_lt q p) (p + n) (if v then q + n else p) (λ b. refl) (λ b. let l : p ≤ q = ltb-false q p b in absurd (omega arith)))
-
 after_insert_strict : (q n : ℕ) (v w : Bool) (p r : ℕ) → p < r → after_insert q n v p ≤ after_insert q n w r
-after_insert_strict q n v w p r h = go (nat_lt p q) refl
-  where
-    go : (b : Bool) → nat_lt p q ≡ b → after_insert q n v p ≤ after_insert q n w r
-    go true e =
-        let a : after_insert q n v p ≡ p = insert_before q n v p (ltb-true p q e) in
-        let c : r ≤ after_insert q n w r = insert_least q n w r in
-        omega arith
-    go false e =
-        let l : q ≤ p = ltb-false p q e in
-        let a : after_insert q n v p ≤ p + n = insert_most q n v p in
-        let c : after_insert q n w r ≡ r + n = insert_behind q n w r (omega arith) in
-        omega arith
+after_insert_strict q n v w p r h = forward_insert q n p r v w (omega arith) (λ same moves. absurd (omega arith))
 
 -- a place in front of one that advances stays so, whether it advances or not
 after_insert_below : (q n : ℕ) (advances : Bool) (p r : ℕ) → p ≤ r → after_insert q n advances p ≤ after_insert q n true r
-after_insert_below q n false p r h = after_insert_orders q n true p r h
-after_insert_below q n true p r h = go (nat_lt p r) refl
-  where
-    go : (v : Bool) → nat_lt p r ≡ v → after_insert q n true p ≤ after_insert q n true r
-    go true e = after_insert_strict q n true true p r (ltb-true p r e)
-    go false e = let l : r ≤ p = ltb-false p r e in let same : p ≡ r = omega arith in subst (λ x. after_insert q n true p ≤ after_insert q n true x) same (omega arith)
+after_insert_below q n advances p r h = forward_insert q n p r advances true h (λ same moves. refl)
 
 -- a deletion takes a place back, at most as far as it is long
 delete_between : (q r p : ℕ) → (after_delete q r p ≤ p) × (p - (r - q) ≤ after_delete q r p)
@@ -124,21 +79,6 @@ after_delete_fits q r p size h k l = go (delete_cases q r p)
     go (inr (inl x)) = rw x.1.1 (omega arith)
     go (inr (inr x)) = rw x.1.1 (omega arith)
 
-pub after_delete_order : (q r a b : ℕ) → q ≤ r → a ≤ b → after_delete q r a ≤ after_delete q r b
-after_delete_order q r a b h k = go (delete_cases q r a) (delete_cases q r b)
-  where
-    go : ((a ≤ q) × (after_delete q r a ≡ a)) ⊎ (((q < a) × ((a < r) × (after_delete q r a ≡ q))) ⊎ ((q < a) × ((r ≤ a) × (after_delete q r a ≡ a - (r - q))))) →
-        ((b ≤ q) × (after_delete q r b ≡ b)) ⊎ (((q < b) × ((b < r) × (after_delete q r b ≡ q))) ⊎ ((q < b) × ((r ≤ b) × (after_delete q r b ≡ b - (r - q))))) → after_delete q r a ≤ after_delete q r b
-    go (inl x) (inl y) = rw (x.1, y.1) k
-    go (inl x) (inr (inl y)) = rw (x.1, y.1.1) (omega arith)
-    go (inl x) (inr (inr y)) = rw (x.1, y.1.1) (omega arith)
-    go (inr (inl x)) (inl y) = rw (x.1.1, y.1) (omega arith)
-    go (inr (inl x)) (inr (inl y)) = rw (x.1.1, y.1.1) (omega arith)
-    go (inr (inl x)) (inr (inr y)) = rw (x.1.1, y.1.1) (omega arith)
-    go (inr (inr x)) (inl y) = rw (x.1.1, y.1) (omega arith)
-    go (inr (inr x)) (inr (inl y)) = rw (x.1.1, y.1.1) (omega arith)
-    go (inr (inr x)) (inr (inr y)) = rw (x.1.1, y.1.1) (omega arith)
-
 -- MARKS THAT MOVE
 -- a move of places up to one size to places up to another, which keeps their order
 pub record Moving (move : Move) (size new : ℕ) : Type 0 where
@@ -150,7 +90,7 @@ pub moving_insertion : (q n size : ℕ) → q ≤ size → Moving (insertion q n
 moving_insertion q n size h = record { fits = λ advances p k. after_insert_fits q n advances p size h k; in_order = λ a p r k. after_insert_orders q n a p r k; apart = λ v w p r k. after_insert_strict q n v w p r k }
 
 pub moving_deletion : (q r size : ℕ) → q ≤ r → r ≤ size → Moving (deletion q r) size (size - (r - q))
-moving_deletion q r size h k = record { fits = λ advances p l. after_delete_fits q r p size h k l; in_order = λ v a b l. after_delete_order q r a b h l; apart = λ v w a b l. after_delete_order q r a b h (omega arith) }
+moving_deletion q r size h k = record { fits = λ advances p l. after_delete_fits q r p size h k l; in_order = λ v a b l. forward_delete q r a b h l; apart = λ v w a b l. forward_delete q r a b h (omega arith) }
 
 -- where the start of an empty overlay advances, its end does
 end_advances : (all front rear : Bool) → (all || (front && (rear || not true))) ≡ true → (rear || all) ≡ true
@@ -340,10 +280,10 @@ inserted_fits id at piece all advances site h f = record {
 pub deleted_fits : (id from to : ℕ) (site : Site) → from ≤ to → to ≤ length site.buffer.text → SiteFits id site → Fitting id site (deleted id from to site)
 deleted_fits id from to site h k f = record {
   fits = record {
-    begin_fits = after_delete_order from to site.buffer.begin site.buffer.end h f.begin_fits;
+    begin_fits = forward_delete from to site.buffer.begin site.buffer.end h f.begin_fits;
     end_fits = rw size (after_delete_fits from to site.buffer.end (length site.buffer.text) h k f.end_fits);
-    begin_to_point = after_delete_order from to site.buffer.begin site.buffer.point h f.begin_to_point;
-    point_to_end = after_delete_order from to site.buffer.point site.buffer.end h f.point_to_end;
+    begin_to_point = forward_delete from to site.buffer.begin site.buffer.point h f.begin_to_point;
+    point_to_end = forward_delete from to site.buffer.point site.buffer.end h f.point_to_end;
     marks_fit = record { markers = moved.markers; overlays = all_evaporated id id (length (splice from to [] site.buffer.text)) _ moved.overlays; saved = moved.saved };
   };
   others = λ j size d l. let m : MarksFit j size (move_marks id false (deletion from to) site.marks) = marks_other id false (deletion from to) j size site.marks d l in record { markers = m.markers; overlays = all_evaporated id j size _ m.overlays; saved = m.saved };

@@ -6,6 +6,7 @@ use Rattle.std.proofs.lemmas.Bool.{eq-eqb, ne_eqb, le-leb, lt-leb, and_left, and
 use Rattle.std.proofs.lemmas.List.{get_or_past, take_more, take_all}
 use Rattle.std.proofs.lemmas.List.Elements.{All-head, All-tail, filter_map-append}
 use Rattle.std.proofs.lemmas.List.FromFn.{length-enumerate_from, get_or-enumerate_from}
+use Rattle.text_model.proofs.Rising.{count, one_here, times, total, rising_same, rises_from}
 use Rattle.marker_set.specs.Numbered.{nowhere, numbered_if, spot_within, stands_within, numbers_within}
 use Rattle.marker_set.specs.Blocks.{Block, cell_at, owner_of, spot_in, placed, Lies}
 use Rattle.marker_set.specs.Homes.{no_block, no_slot, block_at, slot_at, owner_at, spot_at, marker_in, IsNotAlone, Kept}
@@ -18,7 +19,7 @@ use Rattle.marker_set.proofs.Lists.{seen_at}
 use Rattle.marker_set.proofs.BlockLemmas.{cells_from}
 use Rattle.marker_set.proofs.HomeLemmas.{no_owner, owned, same_part, same_cell, same_number}
 use Rattle.marker_set.proofs.LooseLemmas.{nowhere_not_packed, alone_not_packed}
-use Rattle.marker_set.proofs.Counting.{count, one_here, one_other, times, times_permutation, times-append, total, total_none, total_at, times-flat_map, hit, times-filter_map, numbers_from, times_numbers, numbers_rise, rising_same, rises_from}
+use Rattle.marker_set.proofs.Counting.{one_other, times_permutation, times-append, total_none, total_at, times-flat_map, hit, times-filter_map, numbers_from, times_numbers, numbers_rise}
 
 -- ONE CELL
 abbrev between : (from to place : ℕ) → Bool

@@ -5,6 +5,7 @@ use Rattle.std.proofs.lemmas.Bool.{eq-eqb, ne_eqb}
 use Rattle.std.proofs.lemmas.List.Elements.{All-nil, All-cons, All-head, All-tail}
 use Rattle.text_model.specs.Marks.{Overlay, Span}
 use Rattle.text_model.specs.OverlayQuestions.{span_passes, ends_of_span, overlay_ends}
+use Rattle.text_model.proofs.Rising.{total, Below, Rises}
 use Rattle.overlay_set.specs.Numbered.{overlay_at, span_at, numbers_of}
 use Rattle.overlay_set.specs.Slots.{test_of, with_span, moved_by, CanMoveIn}
 use Rattle.overlay_set.specs.Entries.{entry_of, entries_from, numbers_in, passes, ends_at, is_same, without}
@@ -14,7 +15,7 @@ use Rattle.overlay_set.specs.declared.slot.Change.{Change}
 use Rattle.overlay_set.specs.declared.slot.Change.TheVariants.{Insertion, Deletion, Killed}
 use Rattle.overlay_set.specs.declared.bounds.Entry.{Entry}
 use Rattle.overlay_set.proofs.Parts.{is_same-true}
-use Rattle.overlay_set.proofs.SameLemmas.{total, Same, total-append, Below, Rises}
+use Rattle.overlay_set.proofs.SameLemmas.{Same, total-append}
 
 -- what is read by number from k on
 abbrev pub Agrees : (all : List Overlay) → (k : ℕ) → (os : List Overlay) → Type 0

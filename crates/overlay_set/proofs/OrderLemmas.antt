@@ -8,6 +8,7 @@ use Rattle.std.proofs.lemmas.Cmp.{nat_cmp_total, int_cmp_total, on_total, then_t
 use Rattle.std.proofs.lemmas.Bool.{eqb-true, eqb-false, ltb-true, ltb-false, ne_eqb, le-leb, lt-leb}
 use Rattle.text_model.specs.Marks.{Overlay}
 use Rattle.text_model.specs.OverlayQuestions.{rank, start_of, end_of, outranks}
+use Rattle.text_model.proofs.Ranks.{nat_below, outranks_is}
 use Rattle.overlay_set.specs.Numbered.{overlay_at}
 use Rattle.overlay_set.proofs.ByNumber.{is_stronger, stronger}
 
@@ -41,59 +42,7 @@ numbers_equal x y h = by_tests (nat_lt x y) (x == y) refl refl h
 pub equal_ranks : (os : List Overlay) (x y : ℕ) → ranking os x y ≡ Equal → x ≡ y
 equal_ranks os x y h = numbers_equal x y (last_equal (places os x y) (nat_cmp x y) h)
 
--- THE TESTS AS ORDERINGS
-pub int_below : (x y : ℤ) → int_lt x y ≡ is_lt (int_cmp x y)
-int_below x y = by_tests (int_lt x y) (int_lt y x) refl
-  where
-    by_tests : (s t : Bool) → int_lt x y ≡ s → int_lt x y ≡ is_lt (if s then Less else (if t then Greater else Equal))
-    by_tests true t p = p
-    by_tests false true p = p
-    by_tests false false p = p
-
-pub nat_below : (x y : ℕ) → nat_lt x y ≡ is_lt (nat_cmp x y)
-nat_below x y = by_tests (nat_lt x y) (x == y) refl
-  where
-    by_tests : (s t : Bool) → nat_lt x y ≡ s → nat_lt x y ≡ is_lt (if s then Less else (if t then Equal else Greater))
-    by_tests true t p = p
-    by_tests false true p = p
-    by_tests false false p = p
-
-pub nat_equal : (x y : ℕ) → (x == y) ≡ is_eq (nat_cmp x y)
-nat_equal x y = by_tests (nat_lt x y) (x == y) refl refl
-  where
-    by_tests : (s t : Bool) → nat_lt x y ≡ s → (x == y) ≡ t → (x == y) ≡ is_eq (if s then Less else (if t then Equal else Greater))
-    by_tests true t p q = let low : x < y = ltb-true x y p in ne_eqb x y (λ e. omega arith)
-    by_tests false true p q = q
-    by_tests false false p q = q
-
-nat_upto : (x y : ℕ) → nat_le x y ≡ not (is_gt (nat_cmp x y))
-nat_upto x y = by_tests (nat_lt x y) (x == y) refl refl
-  where
-    by_tests : (s t : Bool) → nat_lt x y ≡ s → (x == y) ≡ t → nat_le x y ≡ not (is_gt (if s then Less else (if t then Equal else Greater)))
-    by_tests true t p q = let low : x < y = ltb-true x y p in le-leb x y (omega arith)
-    by_tests false true p q = let same : x ≡ y = eqb-true x y q in le-leb x y (omega arith)
-    by_tests false false p q =
-        let high : y ≤ x = ltb-false x y p in
-        let apart : x ≡ y → ⊥ = eqb-false x y q in
-        lt-leb x y (omega arith)
-
-tested : (i s e : Ordering) → (is_lt i || (is_eq i && (is_lt s || (is_eq s && not (is_gt e))))) ≡ not (is_gt (ordering_then i (ordering_then s e)))
-tested Less s e = refl
-tested Greater s e = refl
-tested Equal Less e = refl
-tested Equal Greater e = refl
-tested Equal Equal e = refl
-
-outranks_is : (os : List Overlay) (later earlier : ℕ) → outranks (overlay_at os later) (overlay_at os earlier) ≡ not (is_gt (places os earlier later))
-outranks_is os later earlier =
-    let o = overlay_at os later in
-    let p = overlay_at os earlier in
-    ap (λ t. t || (int_eq (rank p) (rank o) && (nat_lt (start_of p.span) (start_of o.span) || ((start_of p.span == start_of o.span) && nat_le (end_of o.span) (end_of p.span))))) (int_below (rank p) (rank o))
-    ∙ ap (λ t. is_lt (int_cmp (rank p) (rank o)) || (int_eq (rank p) (rank o) && (t || ((start_of p.span == start_of o.span) && nat_le (end_of o.span) (end_of p.span))))) (nat_below (start_of p.span) (start_of o.span))
-    ∙ ap (λ t. is_lt (int_cmp (rank p) (rank o)) || (int_eq (rank p) (rank o) && (is_lt (nat_cmp (start_of p.span) (start_of o.span)) || (t && nat_le (end_of o.span) (end_of p.span))))) (nat_equal (start_of p.span) (start_of o.span))
-    ∙ ap (λ t. is_lt (int_cmp (rank p) (rank o)) || (int_eq (rank p) (rank o) && (is_lt (nat_cmp (start_of p.span) (start_of o.span)) || (is_eq (nat_cmp (start_of p.span) (start_of o.span)) && t)))) (nat_upto (end_of o.span) (end_of p.span))
-    ∙ tested (int_cmp (rank p) (rank o)) (nat_cmp (start_of p.span) (start_of o.span)) (nat_cmp (end_of o.span) (end_of p.span))
-
+-- THE TEST AS AN ORDERING
 reversed : (t : Ordering) → not (not (is_gt (ordering_reverse t))) ≡ is_lt t
 reversed Less = refl
 reversed Equal = refl
@@ -109,8 +58,8 @@ by_number Greater false n h = refl
 
 pub stronger_is : (os : List Overlay) (k other : ℕ) → is_stronger os k other ≡ is_lt (ranking os other k)
 stronger_is os k other =
-    ap (λ t. if nat_lt other k then t else not (outranks (overlay_at os other) (overlay_at os k))) (outranks_is os k other)
-    ∙ ap (λ t. if nat_lt other k then not (is_gt (places os other k)) else not t) (outranks_is os other k)
+    ap (λ t. if nat_lt other k then t else not (outranks (overlay_at os other) (overlay_at os k))) (outranks_is (overlay_at os k) (overlay_at os other))
+    ∙ ap (λ t. if nat_lt other k then not (is_gt (places os other k)) else not t) (outranks_is (overlay_at os other) (overlay_at os k))
     ∙ ap (λ t. if nat_lt other k then not (is_gt (places os other k)) else not (not (is_gt t))) ((places_total os).antisymm k other)
     ∙ ap (λ t. if nat_lt other k then not (is_gt (places os other k)) else t) (reversed (places os other k))
     ∙ by_number (places os other k) (nat_lt other k) (nat_cmp other k) (nat_below other k)

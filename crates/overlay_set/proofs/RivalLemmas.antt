@@ -11,8 +11,9 @@ use Rattle.std.proofs.lemmas.List.Elements.{All-cons, All-nil, All-weaker}
 use Rattle.text_model.specs.Properties.{get}
 use Rattle.text_model.specs.Marks.{Overlay}
 use Rattle.text_model.specs.OverlayQuestions.{span_passes, covers, rank, start_of, end_of, outranks, greater, greatest_of, winner}
+use Rattle.text_model.proofs.Ranks.{int_below, nat_below, nat_equal}
 use Rattle.overlay_set.specs.Rivals.{wins_over, rivals}
-use Rattle.overlay_set.proofs.OrderLemmas.{int_below, nat_below, nat_equal, numbers_equal, last_equal}
+use Rattle.overlay_set.proofs.OrderLemmas.{numbers_equal, last_equal}
 
 abbrev Numbered : Type 0
 Numbered = ℕ × Overlay

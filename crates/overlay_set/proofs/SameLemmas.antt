@@ -1,14 +1,10 @@
 -- Lists that hold the same items, in whatever order.
 use Rattle.std.proofs.Common.{◌≡◌, ℕ, suc, ◌+◌, ◌<◌, ◌≤◌, Bool, true, false, ◌==◌, List, [], ◌∷◌, ◌++◌, map, length, filter, get_or, refl, ap, sym, ◌∙◌, arith, if◌then◌else◌, IsPermutation}
 use Rattle.std.specs.List.{flat_map, fold, sum_by}
-use Rattle.std.specs.List.Sorted.{IsNonDecreasing}
-use Rattle.std.proofs.lemmas.Bool.{eqb-true, eq-eqb}
+use Rattle.std.proofs.lemmas.Bool.{eqb-true}
 use Rattle.std.proofs.lemmas.List.Sums.{sum_by-cons}
 use Rattle.std.proofs.lemmas.List.Sorted.{sum_by-IsPermutation}
-
-abbrev pub total : {X : Type 0} → (X → ℕ) → List X → ℕ
-total f [] = 0
-total f (x ∷ xs) = f x + total f xs
+use Rattle.text_model.proofs.Rising.{total, one, times, first_there, Rises, rising_same}
 
 pub total_is : {X : Type 0} (f : X → ℕ) (xs : List X) → sum_by f xs ≡ total f xs
 total_is f [] = refl
@@ -75,87 +71,40 @@ put_right new all xs x ys more result whole put is = rw (whole, is) (sums_from_s
     omega (arith, part, front, back))))
 
 -- NUMBERS, ONE TAKEN OUT
-abbrev pub is_one : ℕ → ℕ → ℕ
-is_one x y = if y == x then 1 else 0
-
 abbrev pub less_one : ℕ → List ℕ → List ℕ
 less_one x [] = []
 less_one x (y ∷ ys) = if y == x then ys else y ∷ less_one x ys
 
-total-less_one : (f : ℕ → ℕ) (x : ℕ) (ys : List ℕ) → 0 < total (is_one x) ys → f x + total f (less_one x ys) ≡ total f ys
+total-less_one : (f : ℕ → ℕ) (x : ℕ) (ys : List ℕ) → 0 < times x ys → f x + total f (less_one x ys) ≡ total f ys
 total-less_one f x [] h = absurd (omega arith)
 total-less_one f x (y ∷ ys) h = by_test (total-less_one f x ys) (y == x) refl
   where
-    by_test : (0 < total (is_one x) ys → f x + total f (less_one x ys) ≡ total f ys) → (t : Bool) → (y == x) ≡ t → f x + total f (less_one x (y ∷ ys)) ≡ total f (y ∷ ys)
+    by_test : (0 < times x ys → f x + total f (less_one x ys) ≡ total f ys) → (t : Bool) → (y == x) ≡ t → f x + total f (less_one x (y ∷ ys)) ≡ total f (y ∷ ys)
     by_test ih true k = let e : y ≡ x = eqb-true y x k in rw k (ap (λ z. f z + total f ys) (sym e))
     by_test ih false k =
-        let p : total (is_one x) (y ∷ ys) ≡ 0 + total (is_one x) ys = rw k refl in
+        let p : times x (y ∷ ys) ≡ 0 + times x ys = rw k refl in
         let rest = ih (omega arith) in
         rw k (omega arith)
 
-fold-less_one : {B : Type 0} (f : B → ℕ → B) → ((b : B) (x y : ℕ) → f (f b x) y ≡ f (f b y) x) → (x : ℕ) (ys : List ℕ) (b : B) → 0 < total (is_one x) ys → fold f b ys ≡ fold f (f b x) (less_one x ys)
+fold-less_one : {B : Type 0} (f : B → ℕ → B) → ((b : B) (x y : ℕ) → f (f b x) y ≡ f (f b y) x) → (x : ℕ) (ys : List ℕ) (b : B) → 0 < times x ys → fold f b ys ≡ fold f (f b x) (less_one x ys)
 fold-less_one f swap x [] b h = absurd (omega arith)
 fold-less_one f swap x (y ∷ ys) b h = by_test (fold-less_one f swap x ys (f b y)) (y == x) refl
   where
-    by_test : (0 < total (is_one x) ys → fold f (f b y) ys ≡ fold f (f (f b y) x) (less_one x ys)) → (t : Bool) → (y == x) ≡ t → fold f b (y ∷ ys) ≡ fold f (f b x) (less_one x (y ∷ ys))
+    by_test : (0 < times x ys → fold f (f b y) ys ≡ fold f (f (f b y) x) (less_one x ys)) → (t : Bool) → (y == x) ≡ t → fold f b (y ∷ ys) ≡ fold f (f b x) (less_one x (y ∷ ys))
     by_test ih true k = let e : y ≡ x = eqb-true y x k in rw k (ap (λ z. fold f (f b z) ys) e)
     by_test ih false k =
-        let p : total (is_one x) (y ∷ ys) ≡ 0 + total (is_one x) ys = rw k refl in
+        let p : times x (y ∷ ys) ≡ 0 + times x ys = rw k refl in
         rw k (ih (omega arith) ∙ ap (λ c. fold f c (less_one x ys)) (swap b y x))
 
-first_there : (x : ℕ) (xs ys : List ℕ) → Same (x ∷ xs) ys → 0 < total (is_one x) ys
-first_there x xs ys h =
-    let one : is_one x x ≡ 1 = rw (eq-eqb x x refl) refl in
-    let all = h (is_one x) in
-    omega arith
-
 rest_same : (x : ℕ) (xs ys : List ℕ) → Same (x ∷ xs) ys → Same xs (less_one x ys)
-rest_same x xs ys h f = let all = h f in let part = total-less_one f x ys (first_there x xs ys h) in omega arith
+rest_same x xs ys h f = let all = h f in let part = total-less_one f x ys (first_there x xs ys (h (one x))) in omega arith
 
 -- a fold where the order doesn't count
 pub fold-same : {B : Type 0} (f : B → ℕ → B) → ((b : B) (x y : ℕ) → f (f b x) y ≡ f (f b y) x) → (xs ys : List ℕ) → Same xs ys → (b : B) → fold f b xs ≡ fold f b ys
 fold-same f swap [] [] h b = refl
 fold-same f swap [] (y ∷ ys) h b = let all = h (λ x. 1) in absurd (omega arith)
-fold-same f swap (x ∷ xs) ys h b = fold-same f swap xs (less_one x ys) (rest_same x xs ys h) (f b x) ∙ sym (fold-less_one f swap x ys b (first_there x xs ys h))
+fold-same f swap (x ∷ xs) ys h b = fold-same f swap xs (less_one x ys) (rest_same x xs ys h) (f b x) ∙ sym (fold-less_one f swap x ys b (first_there x xs ys (h (one x))))
 
 -- RISING NUMBERS
-abbrev pub Below : ℕ → List ℕ → Type 0
-Below n [] = Unit {0}
-Below n (x ∷ xs) = (n ≤ x) × Below n xs
-
-abbrev pub Rises : List ℕ → Type 0
-Rises [] = Unit {0}
-Rises (x ∷ xs) = Below x xs × Rises xs
-
-below_there : (n x : ℕ) (ys : List ℕ) → Below n ys → 0 < total (is_one x) ys → n ≤ x
-below_there n x [] h k = absurd (omega arith)
-below_there n x (y ∷ ys) h k = by_test (below_there n x ys h.1) (y == x) refl
-  where
-    by_test : (0 < total (is_one x) ys → n ≤ x) → (t : Bool) → (y == x) ≡ t → n ≤ x
-    by_test ih true e = let same : y ≡ x = eqb-true y x e in let low = h.0 in omega arith
-    by_test ih false e = let p : total (is_one x) (y ∷ ys) ≡ 0 + total (is_one x) ys = rw e refl in ih (omega arith)
-
-head_below : (x : ℕ) (xs : List ℕ) (y : ℕ) → Below x xs → 0 < total (is_one y) (x ∷ xs) → x ≤ y
-head_below x xs y h k = below_there x y (x ∷ xs) (omega arith, h) k
-
-pub rising_same : (xs ys : List ℕ) → Rises xs → Rises ys → Same xs ys → xs ≡ ys
-rising_same [] [] h k s = refl
-rising_same [] (y ∷ ys) h k s = let all = s (λ x. 1) in absurd (omega arith)
-rising_same (x ∷ xs) [] h k s = let all = s (λ x. 1) in absurd (omega arith)
-rising_same (x ∷ xs) (y ∷ ys) h k s =
-    let low : y ≤ x = head_below y ys x k.0 (first_there x xs (y ∷ ys) s) in
-    let high : x ≤ y = head_below x xs y h.0 (first_there y ys (x ∷ xs) (λ f. sym (s f))) in
-    let same : x ≡ y = omega arith in
-    let rest : Same xs ys = λ f. (let all = s f in let e : f x ≡ f y = ap f same in omega arith) in
-    rw (same, rising_same xs ys h.1 k.1 rest) refl
-
-below_from : (n : ℕ) (xs : List ℕ) → ((j : ℕ) → j < length xs → n ≤ get_or xs j 0) → Below n xs
-below_from n [] h = tt
-below_from n (x ∷ xs) h = (h 0 (omega arith), below_from n xs (λ j k. h (suc j) (omega arith)))
-
-rises_by : (xs : List ℕ) → ((i j : ℕ) → i ≤ j → j < length xs → get_or xs i 0 ≤ get_or xs j 0) → Rises xs
-rises_by [] h = tt
-rises_by (x ∷ xs) h = (below_from x xs (λ j k. h 0 (suc j) (omega arith) (omega arith)), rises_by xs (λ i j p k. h (suc i) (suc j) (omega arith) (omega arith)))
-
-pub rises_from : (xs : List ℕ) → IsNonDecreasing xs → Rises xs
-rises_from xs h = rises_by xs (λ i j p k. h i j 0 p k)
+pub rising_alike : (xs ys : List ℕ) → Rises xs → Rises ys → Same xs ys → xs ≡ ys
+rising_alike xs ys h k s = rising_same xs ys h k (λ n. s (one n))

@@ -3,13 +3,14 @@ use Rattle.std.proofs.Common.{◌≡◌, ℕ, zero, suc, ◌+◌, ◌<◌, Bool,
 use Rattle.std.proofs.lemmas.Bool.{eqb-true, eqb-false, eq-eqb, ne_eqb}
 use Rattle.std.proofs.lemmas.List.Elements.{All-head, All-tail, All-contains}
 use Rattle.text_model.specs.Marks.{Overlay, Span}
+use Rattle.text_model.proofs.Rising.{total}
 use Rattle.overlay_set.specs.Numbered.{no_overlay, overlay_at, span_at, span_of}
 use Rattle.overlay_set.specs.Slots.{bare_of, bare}
 use Rattle.overlay_set.specs.Entries.{entry_of, entries_from, HoldSame}
 use Rattle.overlay_set.specs.Seen.{span_in, seen_from}
 use Rattle.overlay_set.specs.declared.slot.Slot.{Slot}
 use Rattle.overlay_set.specs.declared.bounds.Entry.{Entry}
-use Rattle.overlay_set.proofs.SameLemmas.{total, total-append, Same, same_from_sums}
+use Rattle.overlay_set.proofs.SameLemmas.{total-append, Same, same_from_sums}
 use Rattle.overlay_set.proofs.EntryLemmas.{Agrees, agrees_all, Matches, entries_match, all_same}
 
 pub length-seen : (es : List Entry) (k : ℕ) (slots : List Slot) → length (seen_from es k slots) ≡ length slots

@@ -1,11 +1,12 @@
 -- One overlay's stretch given, taken or kept: what the tree holds goes on to be what the overlays say.
 use Rattle.std.proofs.Common.{◌≡◌, ℕ, ◌+◌, ◌<◌, List, [], ◌∷◌, ◌++◌, length, slice_set, Option, Some, None, refl, ap, sym, ◌∙◌, arith}
 use Rattle.text_model.specs.Marks.{Overlay, Span}
+use Rattle.text_model.proofs.Rising.{total}
 use Rattle.overlay_set.specs.Numbered.{overlay_at, span_at}
 use Rattle.overlay_set.specs.Slots.{with_span}
 use Rattle.overlay_set.specs.Entries.{entry_of, entries_from, HoldSame, without, without_all}
 use Rattle.overlay_set.specs.declared.bounds.Entry.{Entry}
-use Rattle.overlay_set.proofs.SameLemmas.{total, total-append, Same, same_from_sums, sums_from_same, same-filter}
+use Rattle.overlay_set.proofs.SameLemmas.{total-append, Same, same_from_sums, sums_from_same, same-filter}
 use Rattle.overlay_set.proofs.EntryLemmas.{entries_from-append, entries_kept, total_set, without_set}
 
 abbrev entry_at : ℕ → ℕ × ℕ × ℕ → Entry

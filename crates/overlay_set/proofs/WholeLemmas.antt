@@ -8,6 +8,7 @@ use Rattle.text_model.specs.Properties.{get}
 use Rattle.text_model.specs.Marks.{Overlay, Span}
 use Rattle.text_model.specs.OverlayQuestions.{span_passes, covers, outranks, greater, greatest_of, overlays_where, winner, least, greatest, overlay_ends}
 use Rattle.std.specs.List.Sorted.{IsNonDecreasing}
+use Rattle.text_model.proofs.Rising.{total, rises_from}
 use Rattle.overlay_set.specs.Numbered.{overlay_at, numbers_of}
 use Rattle.overlay_set.specs.Slots.{with_span, moved_by, test_of, bare_of, bare, CanMoveIn}
 use Rattle.overlay_set.specs.declared.slot.Slot.{Slot}
@@ -21,7 +22,7 @@ use Rattle.overlay_set.specs.declared.slot.Question.{Question}
 use Rattle.overlay_set.specs.declared.slot.Change.{Change}
 use Rattle.overlay_set.specs.declared.slot.Change.TheVariants.{Insertion, Deletion, Killed}
 use Rattle.overlay_set.specs.declared.bounds.Entry.{Entry}
-use Rattle.overlay_set.proofs.SameLemmas.{Same, total, rises_from, rising_same, same_from_permutation, sums_from_same, same_from_sums, same-map, same-filter, same-flat_map, fold-same}
+use Rattle.overlay_set.proofs.SameLemmas.{Same, rising_alike, same_from_permutation, sums_from_same, same_from_sums, same-map, same-filter, same-flat_map, fold-same}
 use Rattle.overlay_set.proofs.EntryLemmas.{Agrees, agrees_all, Matches, entries_match, all_same, ends_listed, stretch_back, entries_can_move, entries_moved, kept_rises, found_listed}
 use Rattle.overlay_set.proofs.OrderLemmas.{stronger_swap}
 
@@ -203,4 +204,4 @@ whole_found b q os tree found sorted h all mixed rising =
     let same : Same (numbers_in (filter (passes b q) tree)) (numbers_in (filter (passes b q) es)) =
     same-map (λ (e : Entry). e.number) (filter (passes b q) tree) (filter (passes b q) es) (same-filter (passes b q) tree es (same_from_sums tree es h)) in
     let moved : Same sorted found = same_from_permutation found sorted mixed in
-    rising_same sorted (numbers_in (filter (passes b q) es)) (rises_from sorted rising) (kept_rises (passes b q) 0 os) (λ f. moved f ∙ ap (total f) all ∙ same f) ∙ sym (found_listed b q 0 os)
+    rising_alike sorted (numbers_in (filter (passes b q) es)) (rises_from sorted rising) (kept_rises (passes b q) 0 os) (λ f. moved f ∙ ap (total f) all ∙ same f) ∙ sym (found_listed b q 0 os)

@@ -2,6 +2,9 @@ pub mod Ascii
 pub mod Cases
 pub mod Codings
 pub mod Decodings
+pub mod Forward
 pub mod Lists
+pub mod Ranks
+pub mod Rising
 pub mod Sameness
 pub mod Sets
