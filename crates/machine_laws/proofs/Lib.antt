@@ -52,3 +52,4 @@ pub mod FreeNames
 pub mod Naming
 pub mod Soundness
 pub mod FaultLines
+pub mod FirstNames

@@ -12,3 +12,4 @@ pub mod Rounds
 pub mod Brackets
 pub mod RefusedCalls
 pub mod FaultLines
+pub mod Names

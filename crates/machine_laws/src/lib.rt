@@ -23,6 +23,7 @@ ghost use Rattle.machine_laws.specs.Entries.{EntriesOfChildren, RanEntries, Sent
 ghost use Rattle.machine_laws.specs.Entries.{SentinelsAfterOutput};
 ghost use Rattle.machine_laws.specs.FaultLines.{OneFaultLine};
 ghost use Rattle.machine_laws.specs.Good.{Good};
+ghost use Rattle.machine_laws.specs.Names.{BufferNamesAreFirst, ProcessNamesAreFirst};
 ghost use Rattle.machine_laws.specs.Nesting.{SameDeeper, Shallow};
 ghost use Rattle.machine_laws.specs.OneRun.{ComputedRuns, OneEnd, OneRun, RunStops, RunsAreComputed};
 ghost use Rattle.machine_laws.specs.Refusals.{RefusalsLeave};
@@ -254,6 +255,21 @@ pub fn handlers_bracket()
 pub fn editors_stay_sound()
     ensures { (program : Program) (bound : ℕ) (script : Script) →
         EditorsAreSound program bound (start script) }
+{}
+
+// NAMES
+
+/// The name that is made for a buffer is the name itself, if no live buffer has it, and else the one
+/// with the least number from 2 on that none has.
+#[tactic(auto, using(crate::proofs::FirstNames::buffer_names_are_first))]
+pub fn buffer_names_are_first()
+    ensures { BufferNamesAreFirst }
+{}
+
+/// The same of the name of a new process, by those that are listed, with numbers from 1 on.
+#[tactic(auto, using(crate::proofs::FirstNames::process_names_are_first))]
+pub fn process_names_are_first()
+    ensures { ProcessNamesAreFirst }
 {}
 
 // REFUSALS
