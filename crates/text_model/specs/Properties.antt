@@ -119,6 +119,10 @@ insert_name n [] = n ∷ []
 insert_name n (m ∷ names) =
     if nat_lt n m then n ∷ m ∷ names else (if n == m then m ∷ names else m ∷ insert_name n names)
 
+abbrev pub with_names : (more names : List ℕ) → List ℕ
+with_names [] names = names
+with_names (n ∷ more) names = insert_name n (with_names more names)
+
 abbrev pub names_of : PropSet → List ℕ → List ℕ
 names_of [] names = names
 names_of (p ∷ set) names = insert_name p.0 (names_of set names)
