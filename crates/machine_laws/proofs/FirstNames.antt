@@ -88,6 +88,11 @@ first_name_is_free taken tries first names name few fits is_taken is_there = go 
           };
         }
 
+made_is_free : (taken : Name → Type 0) (first : ℕ) (name made : Name) → IsFirstFree taken first name made → taken made → ⊥
+made_is_free taken first name made f t =
+    let free : taken name → ⊥ = λ n. (f.other n).free t in
+    free (subst taken (f.itself free) t)
+
 -- BUFFERS
 abbrev names_of : List (Option Live) → List Name
 names_of [] = []
@@ -159,6 +164,20 @@ pub buffer_names_are_first : BufferNamesAreFirst
 buffer_names_are_first buffers name fits =
     subst (λ (made : Name). IsFirstFree (BufferHas buffers) 2 name made) (free_name_is buffers name)
     (first_name_is_free (BufferHas buffers) (length buffers) 2 (names_of buffers) name (few_names buffers) (omega arith) (buffer_has buffers) (λ n h. buffer_among buffers n h.id h.buffer h.lives h.named))
+
+-- in the words of the search
+pub name_is_free : (bs : List (Option Live)) (name : Name) → length bs ≤ 256 → find_from 0 bs (free_name bs name) ≡ None
+name_is_free bs name few = go (find_from 0 bs (free_name bs name)) refl
+  where
+    go : (o : Option ℕ) → find_from 0 bs (free_name bs name) ≡ o → o ≡ None
+    go None e = refl
+    go (Some id) e =
+        let has : BufferHas bs (free_name bs name) = buffer_has bs (free_name bs name) (sym (found_among 0 bs (free_name bs name)) ∙ ap (λ (o : Option ℕ). is_some o) e) in
+        absurd (made_is_free (BufferHas bs) 2 name (free_name bs name) (buffer_names_are_first bs name (omega arith)) has)
+
+-- a name that isn't found is the name of no live buffer
+pub not_found : (k : ℕ) (bs : List (Option Live)) (name : Name) (i : ℕ) (l : Live) → find_from k bs name ≡ None → slice_get bs i ≡ Some (Some l) → l.name ≡ name → ⊥
+not_found k bs name i l h e q = false≢true (sym (ap (λ (o : Option ℕ). is_some o) h) ∙ (found_among k bs name ∙ buffer_among bs name i l e q))
 
 -- PROCESSES
 abbrev with_listed : Bool → Name → List Name → List Name

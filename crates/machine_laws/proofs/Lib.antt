@@ -48,7 +48,6 @@ pub mod Currents
 pub mod Carried
 pub mod Lively
 pub mod Parting
-pub mod FreeNames
 pub mod Naming
 pub mod Soundness
 pub mod FaultLines

@@ -22,7 +22,7 @@ use Rattle.plain_machine.specs.Refusals.{is_last, must_be_replaceable, only_wher
 use Rattle.machine_laws.proofs.Advancing.{live_within, live_past, live_set_same, live_set_other, with_buffer_old, with_buffer_new, with_buffer_longer}
 use Rattle.machine_laws.proofs.Basics.{set_length}
 use Rattle.machine_laws.proofs.Committing.{some_of}
-use Rattle.machine_laws.proofs.FreeNames.{not_found, name_is_free}
+use Rattle.machine_laws.proofs.FirstNames.{not_found, name_is_free}
 use Rattle.machine_laws.proofs.Tests.{refuse_ok, no_fault}
 
 pub record Named (e : Editor) : Type 0 where
