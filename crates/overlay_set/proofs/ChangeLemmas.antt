@@ -1,7 +1,7 @@
 -- Changes of a list of entries, part by part.
-use Rattle.std.proofs.Common.{◌≡◌, ℕ, ◌+◌, ◌-◌, ◌%◌, ◌^◌, ◌<◌, ◌≤◌, Bool, true, false, nat_lt, nat_le, ◌==◌, ◌&&◌, ◌||◌, List, [], ◌∷◌, ◌++◌, map, All, refl, ap, sym, ◌∙◌, arith, mod-lt}
+use Rattle.std.proofs.Common.{◌≡◌, ℕ, Bool, true, false, nat_lt, nat_le, ◌==◌, ◌&&◌, ◌||◌, List, [], ◌∷◌, ◌++◌, map, All, refl, ap, sym, ◌∙◌}
 use Rattle.std.specs.List.{flat_map}
-use Rattle.std.proofs.lemmas.Bool.{or_parts, eq-eqb, ne_eqb, lt-ltb, le-leb, leb-false, ltb-false, ltb-true, leb-true}
+use Rattle.std.proofs.lemmas.Bool.{or_parts, lt-ltb, le-leb, leb-false, ltb-false}
 use Rattle.text_model.specs.Places.{after_insert, after_delete}
 use Rattle.overlay_set.proofs.Parts.{flat_map_same}
 use Rattle.overlay_set.proofs.Lists.{alike}
@@ -11,7 +11,7 @@ use Rattle.text_model.specs.Marks.{Overlay, start_advances}
 use Rattle.overlay_set.specs.Numbered.{overlay_at, span_at}
 use Rattle.overlay_set.specs.Slots.{with_span, moved_by, bare_of, bare}
 use Rattle.overlay_set.specs.Entries.{entry_of, raised}
-use Rattle.overlay_set.specs.Moves.{can_touch, touches, moved_entry, CanMoveEntry}
+use Rattle.overlay_set.specs.Moves.{can_touch, touches, moved_entry}
 use Rattle.overlay_set.specs.declared.slot.Slot.{Slot}
 use Rattle.overlay_set.specs.declared.slot.Change.{Change}
 use Rattle.overlay_set.specs.declared.slot.Change.TheVariants.{Insertion, Deletion, Killed}

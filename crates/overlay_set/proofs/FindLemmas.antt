@@ -1,5 +1,5 @@
 -- An overlay sought in a tree by its number.
-use Rattle.std.proofs.Common.{◌≡◌, ℕ, ◌+◌, ◌%◌, ◌^◌, Bool, true, false, ◌&&◌, nat_le, List, [], ◌∷◌, ◌++◌, map, All, Contains, Box, Global, Option, Some, None, is_some, IfSome, refl, ap, sym, ◌∙◌, subst, arith}
+use Rattle.std.proofs.Common.{◌≡◌, ℕ, true, false, ◌&&◌, nat_le, List, [], ◌∷◌, ◌++◌, All, Contains, Box, Global, Option, Some, None, is_some, IfSome, refl, ap, sym, ◌∙◌, subst, arith}
 use Rattle.std.proofs.lemmas.Bool.{le-leb}
 use Rattle.std.proofs.lemmas.List.Elements.{All-append, All-cons, All-map, All-weaker, Contains-get_or, Contains-append_right}
 use Rattle.overlay_set.specs.Entries.{Holds, HasBounds, entries_in, entries_of, raised}

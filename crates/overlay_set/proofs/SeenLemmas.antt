@@ -1,6 +1,6 @@
 -- The overlays that slots and the tree stand for are those whose stretches the tree holds.
 use Rattle.std.proofs.Common.{◌≡◌, ℕ, zero, suc, ◌+◌, ◌<◌, Bool, true, false, ◌==◌, List, [], ◌∷◌, ◌++◌, map, length, All, Contains, Option, Some, None, IfSome, refl, ap, sym, ◌∙◌, subst, arith, if◌then◌else◌}
-use Rattle.std.proofs.lemmas.Bool.{eqb-true, eqb-false, eq-eqb, ne_eqb}
+use Rattle.std.proofs.lemmas.Bool.{eqb-true, eq-eqb, ne_eqb}
 use Rattle.std.proofs.lemmas.List.Elements.{All-head, All-tail, All-contains}
 use Rattle.text_model.specs.Marks.{Overlay, Span}
 use Rattle.text_model.proofs.Rising.{total}
@@ -10,7 +10,7 @@ use Rattle.overlay_set.specs.Entries.{entry_of, entries_from, HoldSame}
 use Rattle.overlay_set.specs.Seen.{span_in, seen_from}
 use Rattle.overlay_set.specs.declared.slot.Slot.{Slot}
 use Rattle.overlay_set.specs.declared.bounds.Entry.{Entry}
-use Rattle.overlay_set.proofs.SameLemmas.{total-append, Same, same_from_sums}
+use Rattle.overlay_set.proofs.SameLemmas.{total-append, same_from_sums}
 use Rattle.overlay_set.proofs.EntryLemmas.{Agrees, agrees_all, Matches, entries_match, all_same}
 
 pub length-seen : (es : List Entry) (k : ℕ) (slots : List Slot) → length (seen_from es k slots) ≡ length slots

@@ -1,8 +1,7 @@
 -- What is done over the tree is what the definitions say of all overlays.
-use Rattle.std.proofs.Common.{◌≡◌, ℕ, ◌+◌, ◌<◌, Bool, true, false, not, nat_lt, ◌==◌, List, [], ◌∷◌, ◌++◌, map, length, filter, slice_set, All, Option, Some, None, option_map, is_some, IfSome, min, max, IsPermutation, append_assoc, refl, ap, sym, ◌∙◌, subst, arith, if◌then◌else◌}
+use Rattle.std.proofs.Common.{◌≡◌, ℕ, ◌+◌, ◌<◌, Bool, true, false, not, nat_lt, List, [], ◌∷◌, ◌++◌, map, length, filter, All, Option, Some, None, option_map, is_some, IfSome, min, max, IsPermutation, refl, ap, sym, ◌∙◌, subst, arith, if◌then◌else◌}
 use Rattle.std.specs.List.{flat_map, fold, enumerate_from}
-use Rattle.std.proofs.lemmas.Bool.{eqb-true, eqb-false, lt-ltb}
-use Rattle.std.proofs.lemmas.List.{set_comm, length-append}
+use Rattle.std.proofs.lemmas.Bool.{lt-ltb}
 use Rattle.std.proofs.lemmas.List.Elements.{All-filter, All-head, All-tail, All-weaker}
 use Rattle.text_model.specs.Properties.{get}
 use Rattle.text_model.specs.Marks.{Overlay, Span}
@@ -10,7 +9,7 @@ use Rattle.text_model.specs.OverlayQuestions.{span_passes, covers, outranks, gre
 use Rattle.std.specs.List.Sorted.{IsNonDecreasing}
 use Rattle.text_model.proofs.Rising.{total, rises_from}
 use Rattle.overlay_set.specs.Numbered.{overlay_at, numbers_of}
-use Rattle.overlay_set.specs.Slots.{with_span, moved_by, test_of, bare_of, bare, CanMoveIn}
+use Rattle.overlay_set.specs.Slots.{moved_by, test_of, bare_of, bare, CanMoveIn}
 use Rattle.overlay_set.specs.declared.slot.Slot.{Slot}
 use Rattle.overlay_set.proofs.Lists.{alike}
 use Rattle.overlay_set.specs.Entries.{entry_of, entries_from, HoldSame, numbers_in, passes, ends_at, IsMade}
@@ -20,10 +19,9 @@ use Rattle.overlay_set.proofs.ByNumber.{is_stronger, stronger, has_property, con
 use Rattle.overlay_set.specs.declared.slot.Question.TheVariants.{At}
 use Rattle.overlay_set.specs.declared.slot.Question.{Question}
 use Rattle.overlay_set.specs.declared.slot.Change.{Change}
-use Rattle.overlay_set.specs.declared.slot.Change.TheVariants.{Insertion, Deletion, Killed}
 use Rattle.overlay_set.specs.declared.bounds.Entry.{Entry}
 use Rattle.overlay_set.proofs.SameLemmas.{Same, rising_alike, same_from_permutation, sums_from_same, same_from_sums, same-map, same-filter, same-flat_map, fold-same}
-use Rattle.overlay_set.proofs.EntryLemmas.{Agrees, agrees_all, Matches, entries_match, all_same, ends_listed, stretch_back, entries_can_move, entries_moved, kept_rises, found_listed}
+use Rattle.overlay_set.proofs.EntryLemmas.{Agrees, agrees_all, Matches, entries_match, all_same, ends_listed, entries_can_move, entries_moved, kept_rises, found_listed}
 use Rattle.overlay_set.proofs.OrderLemmas.{stronger_swap}
 
 -- THE WINNER

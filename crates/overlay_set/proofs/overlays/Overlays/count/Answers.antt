@@ -1,4 +1,4 @@
-use Rattle.std.proofs.Common.{length, arith}
+use Rattle.std.proofs.Common.{arith}
 use Rattle.overlay_set.proofs.SeenLemmas.{length-view}
 use Rattle.overlay_set.proofs.overlays.Overlays.count.Goals as goal
 

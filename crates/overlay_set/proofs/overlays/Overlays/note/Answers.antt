@@ -1,4 +1,4 @@
-use Rattle.std.proofs.Common.{◌≡◌, All, length, map, ap, sym, subst, ◌∙◌, arith}
+use Rattle.std.proofs.Common.{◌≡◌, All, map, ap, sym, subst, ◌∙◌}
 use Rattle.std.specs.List.{flat_map}
 use Rattle.overlay_set.specs.Slots.{bare_of, bare, moved_by}
 use Rattle.overlay_set.specs.Entries.{IsMade, entries_from, HoldSame}

@@ -1,4 +1,4 @@
-use Rattle.std.proofs.Common.{◌<◌, length, ap, sym, ◌∙◌, arith}
+use Rattle.std.proofs.Common.{ap, sym, arith}
 use Rattle.text_model.specs.Marks.{Overlay}
 use Rattle.overlay_set.proofs.Lists.{bare_at}
 use Rattle.overlay_set.proofs.SeenLemmas.{length-view, bare-view}

@@ -1,4 +1,4 @@
-use Rattle.std.proofs.Common.{◌≡◌, ◌<◌, None, length, map, slice_set, refl, ap, sym, ◌∙◌, arith}
+use Rattle.std.proofs.Common.{◌≡◌, None, map, slice_set, refl, ap, sym, ◌∙◌}
 use Rattle.text_model.specs.Marks.{Overlay}
 use Rattle.overlay_set.specs.Numbered.{overlay_at}
 use Rattle.overlay_set.specs.Slots.{bare_of, bare}

@@ -1,5 +1,4 @@
-use Rattle.std.proofs.Common.{◌≡◌, ◌<◌, length, Option, Some, None, ap, sym, ◌∙◌, arith}
-use Rattle.overlay_set.specs.Numbered.{overlay_at, span_of}
+use Rattle.std.proofs.Common.{arith}
 use Rattle.overlay_set.proofs.SeenLemmas.{length-view, held-view, stretch_is}
 use Rattle.overlay_set.proofs.overlays.Overlays.span.Goals as goal
 

@@ -1,4 +1,4 @@
-use Rattle.std.proofs.Common.{◌≡◌, ◌∷◌, ◌<◌, length, map, get_or, slice_set, ap, sym, ◌∙◌, arith}
+use Rattle.std.proofs.Common.{◌≡◌, ◌∷◌, map, get_or, slice_set, sym, arith}
 use Rattle.std.proofs.lemmas.List.{length-set}
 use Rattle.text_model.specs.Marks.{Overlay}
 use Rattle.overlay_set.specs.Numbered.{overlay_at}

@@ -1,5 +1,3 @@
-use Rattle.std.proofs.Common.{◌++◌, filter, ap, sym, ◌∙◌}
-use Rattle.overlay_set.specs.Entries.{numbers_in, passes}
 use Rattle.overlay_set.proofs.Shifts.{whole_tree}
 use Rattle.overlay_set.proofs.tree.Tree.found.Goals as goal
 

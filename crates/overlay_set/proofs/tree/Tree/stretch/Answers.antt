@@ -1,4 +1,3 @@
-use Rattle.std.proofs.Common.{◌≡◌}
 use Rattle.overlay_set.proofs.Shifts.{whole_tree}
 use Rattle.overlay_set.proofs.tree.Tree.stretch.Goals as goal
 

@@ -1,4 +1,4 @@
-use Rattle.std.proofs.Common.{◌≡◌, map, option_map, None, ap, sym, ◌∙◌}
+use Rattle.std.proofs.Common.{map, option_map, None, ap, sym, ◌∙◌}
 use Rattle.overlay_set.specs.Slots.{bare_of}
 use Rattle.overlay_set.specs.Winner.{strongest}
 use Rattle.overlay_set.specs.declared.bounds.Entry.{Entry}
