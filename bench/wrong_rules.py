@@ -23,6 +23,7 @@ READ_ONLY = "editor_model/specs/ReadOnly.antt"
 PROPERTY_CALLS = "editor_model/specs/PropertyCalls.antt"
 EDITOR = "editor_model/specs/Editor.antt"
 BUFFER_CALLS = "editor_model/specs/BufferCalls.antt"
+ARGUMENTS = "plain_machine/specs/Arguments.antt"
 
 COMMIT_RULES = [
     (
@@ -550,6 +551,27 @@ EDITOR_RULES = [
         "(with_buffer (free_name e.buffers (name_of name)) e) (TheBuffer (length e.buffers))",
         "(with_buffer (name_of name) e) (TheBuffer (length e.buffers))",
         ["BufferExamples.names", "editors_stay_sound"],
+    ),
+    (
+        "second buffer of a name has the number 3",
+        EDITOR,
+        "| Some id ↦ first_numbered (length buffers) 2 buffers name",
+        "| Some id ↦ first_numbered (length buffers) 3 buffers name",
+        ["buffer_names_are_first"],
+    ),
+    (
+        "second process of a name has the number 2",
+        ARGUMENTS,
+        "true ↦ free_name (length list) 1 list name",
+        "true ↦ free_name (length list) 2 list name",
+        ["process_names_are_first"],
+    ),
+    (
+        "narrowing leaves point outside",
+        TEXT_CALLS,
+        "narrowed from to b = record b { begin = from; end = to; point = clip from to b.point }",
+        "narrowed from to b = record b { begin = from; end = to }",
+        ["editors_stay_sound"],
     ),
     (
         "overlays of a killed buffer stay",

@@ -34,7 +34,7 @@ unbegun program script sink told undo = record {
   entries = λ p child e. absurd (let never = e in cc);
   sentinels = λ before after x p e entry. absurd (nothing_is_in before after x e);
   ends = λ before after x child e asked. absurd (nothing_is_in before after x e);
-  ends_told = λ before after said c p x e run found entry. (told before said c run p x found entry).1;
+  sentinels_after_output = λ before after said c p x e run found entry. (told before said c run p x found entry).1;
   undo = λ first second later _. undo first second;
   roomy = λ few. refl;
 }

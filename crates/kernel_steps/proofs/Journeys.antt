@@ -171,7 +171,7 @@ module _ (program : Program) where
     run = said_one c n x e said;
     between = between;
     bytes = w.err.0;
-    front = (w.err.1.0, sym w.err.1.1 ∙ sym (lines_of_one x));
+    front = (w.err.1.0, w.err.1.1 ∙ sym (lines_of_one x));
     came = stops_here c [] n x w.err.0 e said;
     written = w.err.2;
     adds = adds_nothing past;
@@ -228,7 +228,7 @@ module _ (program : Program) where
     run = said_asked c ask answer next n x e k said;
     between = between;
     bytes = w.err.0;
-    front = (w.err.1.0, sym w.err.1.1 ∙ sym (lines_of_one x));
+    front = (w.err.1.0, w.err.1.1 ∙ sym (lines_of_one x));
     came = stops_here c (record { ask = ask; answer = answer } ∷ []) n x w.err.0 (next, e, k) said;
     written = w.err.2;
     adds = exchange;

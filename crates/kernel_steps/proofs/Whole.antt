@@ -51,7 +51,7 @@ module _ (program : Program) (script : Script) where
               entries = hear gone.made (lines gone.said) run;
               sentinels = come gone.made gone.said last gone.run;
               ends = ends gone.made gone.said last gone.run;
-              ends_told = sentinels_after told gone.made;
+              sentinels_after_output = sentinels_after told gone.made;
               undo = λ first second later _. undo first second;
               roomy = λ few. (gone.roomy few).faults;
             },
@@ -82,7 +82,7 @@ module _ (program : Program) (script : Script) where
             entries = hear_broken (k.made ++ k.kills) k.bytes broken;
             sentinels = come k.made k.said k.last k.run;
             ends = ends k.made k.said k.last k.run;
-            ends_told = sentinels_after told k.made;
+            sentinels_after_output = sentinels_after told k.made;
             undo = λ first second later _. undo first second;
             roomy = k.roomy;
           },

@@ -38,7 +38,7 @@ pub record RanScript (program : Program) (script : Script) (exchanges : List Exc
   pub entries : AreHeard ran.last.state exchanges ran.said
   pub sentinels : SentinelsComeLast ran.said
   pub ends : EndsComeAfterOutput exchanges
-  pub ends_told : SentinelsComeAfterOutput program script exchanges
+  pub sentinels_after_output : SentinelsComeAfterOutput program script exchanges
   pub undo : UndoGivesBack program script exchanges
   pub roomy : length written ≤ before.room → now.faults ≡ before.faults
 
@@ -54,7 +54,7 @@ pub record StoppedScript (why : Stop) (program : Program) (script : Script) (exc
   pub entries : AreHeard broken.last.state broken.made broken.said
   pub sentinels : SentinelsComeLast broken.said
   pub ends : EndsComeAfterOutput broken.made
-  pub ends_told : SentinelsComeAfterOutput program script broken.made
+  pub sentinels_after_output : SentinelsComeAfterOutput program script broken.made
   pub undo : UndoGivesBack program script broken.made
   pub roomy : length (lines broken.said) ≤ before.room → now.faults ≡ before.faults
 

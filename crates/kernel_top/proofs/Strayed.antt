@@ -158,7 +158,7 @@ module _ (program : Program) (script : Script) (journal : List Exchange) where
       let bytes : whole.lines ≡ lines broken.said ++ lines further = whole.ran.bytes ∙ ap lines said_is ∙ flat_map-append (λ x. x.line) broken.said further in
       record {
         whole = whole;
-        front = (cut ++ lines further, bytes ∙ ap (λ l. l ++ lines further) (sym front) ∙ append_assoc written cut (lines further));
+        front = (cut ++ lines further, sym (append_assoc written cut (lines further)) ∙ ap (λ l. l ++ lines further) front ∙ sym bytes);
         roomy = λ few. stopped.roomy (omega (arith, few, ap length bytes, length-append (lines broken.said) (lines further)));
       }
 

@@ -1,4 +1,4 @@
-use Rattle.std.proofs.Common.{◌≡◌, ◌<◌, length, arith, sym}
+use Rattle.std.proofs.Common.{◌<◌, length, arith, sym}
 use Rattle.std.proofs.lemmas.List.{map-append}
 use Rattle.ek_types.specs.Listing.{items_of}
 use Rattle.host_link.specs.Meaning.{exchanges_of, exchange_of}

@@ -1,11 +1,11 @@
-use Rattle.std.proofs.Common.{◌≡◌, ◌+◌, ◌-◌, ◌≤◌, length, arith, refl, sym, subst}
+use Rattle.std.proofs.Common.{◌≡◌, ◌+◌, ◌≤◌, length, arith, refl, sym, subst}
 use Rattle.std.proofs.lemmas.List.{length-map}
 use Rattle.ek_types.specs.Listing.{items_of}
 use Rattle.host_link.specs.Meaning.{exchanges_of, exchange_of}
 use Rattle.plain_machine.specs.Grammar.{line_feeds}
 use Rattle.journal_text.specs.Transcripts.{IsTranscriptFault}
 use Rattle.journal_text.proofs.Journals.{answered_from, same_line}
-use Rattle.journal_text.proofs.Transcripts.{Places, so_far, sizes, script_size, transcript_to, same_transcript, unclaimed_none, unended_none, unclaimed_fault, unended_fault}
+use Rattle.journal_text.proofs.Transcripts.{so_far, sizes, script_size, transcript_to, same_transcript, unclaimed_none, unended_none, unclaimed_fault, unended_fault}
 use Rattle.journal_text.proofs.journal.read_transcript.Goals as goal
 
 pub overflow_cast-line : goal.overflow_cast-line
