@@ -1,7 +1,7 @@
 -- A parenthesis is told by its byte alone.
 use Rattle.std.proofs.Common.{◌≡◌, ℕ, zero, suc, ◌==◌, Bool, List, [], ◌∷◌, true, false, take, drop, refl, arith, Some, None}
 use Rattle.std.proofs.lemmas.Bool.Decides.{nat_tests}
-use Rattle.std.specs.Prelude.{Option, if◌then◌else◌}
+use Rattle.std.specs.Prelude.{if◌then◌else◌}
 use Rattle.std.specs.Str.{bytes_eq}
 use Rattle.script_read.specs.Parentheses.{is_parenthesis, behind_byte}
 use Rattle.script_read.specs.Lexing.{skipped, word_length, behind}
