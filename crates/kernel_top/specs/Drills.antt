@@ -1,11 +1,11 @@
 -- What a drill comes to: its script is run, and what the run says is counted and not written.
-use Rattle.std.specs.Prelude.{◌≡◌, ℕ, ◌%◌, ◌^◌, ◌++◌, List, codes, decimal, length, Result, Ok, Err}
+use Rattle.std.specs.Prelude.{◌≡◌, ℕ, ◌%◌, ◌^◌, List, length, Result, Ok, Err}
 use Rattle.editor_model.specs.Editor.{characters_in}
 use Rattle.plain_machine.specs.Exchanges.{Exchange}
 use Rattle.plain_machine.specs.State.{State, Program}
 use Rattle.plain_machine.specs.Items.{Said}
 use Rattle.plain_machine.specs.Run.{lines}
-use Rattle.plain_machine.specs.Drill.{drill_script, summary}
+use Rattle.plain_machine.specs.Drill.{drill_script, summary, summary_line}
 use Rattle.plain_machine.specs.Grammar.{line_feeds}
 use Rattle.kernel_steps.specs.declared.stop.Stop.{Stop}
 use Rattle.kernel_top.specs.declared.summing.Counts.{Counts}
@@ -26,10 +26,7 @@ pub record AreCounts (said : List Said) (made : List Exchange) (last : State) (c
 
 -- the line that tells them
 abbrev pub line_of : (count : ℕ) → Counts → List ℕ
-line_of count counts =
-    codes "drill " ++ (decimal count ++ (codes ": " ++ (decimal counts.lines ++ (codes " lines, " ++
-    (decimal counts.exchanges ++ (codes " exchanges, " ++
-    (decimal counts.characters ++ codes " characters\n")))))))
+line_of count counts = summary_line count counts.lines counts.exchanges counts.characters
 
 -- the drill's script was run and counted, or that run was broken off
 abbrev pub Counted : Result Counts Stop → Program → (count : ℕ) → List Exchange → Type 0

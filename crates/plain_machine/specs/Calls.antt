@@ -6,7 +6,7 @@ use Rattle.std.specs.Prelude.{filter, length, drop, if◌then◌else◌, Option,
 use Rattle.std.specs.List.{list_any, enumerate_from}
 use Rattle.text_model.specs.Marks.{Spot}
 use Rattle.text_model.specs.Codings.{Coding, Utf8}
-use Rattle.editor_model.specs.Values.{Value, Nil, Int, Sym, Str, TheBuffer, TheMarker, TheProcess, list}
+use Rattle.editor_model.specs.Values.{Value, Nil, Int, Sym, Str, TheMarker, TheProcess, list}
 use Rattle.editor_model.specs.Values.{is_nil, plain, truth, Fault, BrokenPipe, SpawnFailed, Reply}
 use Rattle.editor_model.specs.Values.{Answered, Prim, KillBuffer, AddHook, RemoveHook, StartProcess}
 use Rattle.editor_model.specs.Values.{ProcessList, GetProcess, ProcessName, ProcessStatus}

@@ -1,7 +1,7 @@
 -- The words of the command line, and the drill: a script and a child that the program brings along to
 -- measure itself.
-use Rattle.std.specs.Prelude.{ℕ, zero, suc, ◌+◌, ◌%◌, Bool, true, false, ◌&&◌, ◌==◌, nat_le, List, []}
-use Rattle.std.specs.Prelude.{◌∷◌, ◌++◌, map, filter, take, drop, length, replicate, codes, decimal}
+use Rattle.std.specs.Prelude.{ℕ, zero, suc, ◌+◌, ◌%◌, ◌^◌, Bool, true, false, ◌&&◌, nat_le, List, []}
+use Rattle.std.specs.Prelude.{◌∷◌, ◌++◌, map, take, drop, length, replicate, codes, decimal}
 use Rattle.std.specs.Prelude.{Option, Some, None}
 use Rattle.std.specs.List.{list_all}
 use Rattle.text_model.specs.Characters.{Scalar}
@@ -17,6 +17,7 @@ use Rattle.plain_machine.specs.State.{State}
 use Rattle.plain_machine.specs.Items.{Said}
 use Rattle.plain_machine.specs.Words.{is_digit, digits_value}
 use Rattle.plain_machine.specs.Run.{lines}
+use Rattle.plain_machine.specs.Grammar.{line_feeds}
 
 -- THE WORDS
 abbrev pub is_run : List (List ℕ) → Bool
@@ -121,13 +122,17 @@ drill_script count = record {
 }
 
 -- THE SUMMARY
-abbrev pub in_64_bits : ℕ → List ℕ
-in_64_bits k = decimal (k % 18446744073709551616)
+abbrev pub summary_line : (count lines exchanges characters : ℕ) → List ℕ
+summary_line count lines exchanges characters =
+    codes "drill " ++ (decimal count ++ (codes ": " ++ (decimal lines ++ (codes " lines, " ++
+    (decimal exchanges ++ (codes " exchanges, " ++
+    (decimal characters ++ codes " characters\n")))))))
+
+abbrev in_64_bits : ℕ → ℕ
+in_64_bits n = n % 2 ^ 64
 
 -- the lines that a run has said, with its dump, its exchanges, and the characters of all live buffers
 abbrev pub summary : ℕ → List Said → List Exchange → State → List ℕ
 summary count said exchanges last =
-    codes "drill " ++ (decimal count ++
-    (codes ": " ++ (in_64_bits (length (filter (λ c. c == 10) (lines said))) ++ (codes " lines, " ++
-    (in_64_bits (length exchanges) ++
-    (codes " exchanges, " ++ (in_64_bits (characters_in last.editor.buffers) ++ codes " characters\n")))))))
+    summary_line count (in_64_bits (line_feeds (lines said))) (in_64_bits (length exchanges))
+    (in_64_bits (characters_in last.editor.buffers))

@@ -2,7 +2,7 @@
 use Rattle.std.proofs.Common.{◌≡◌, ℕ, zero, suc, ◌<◌, ◌≤◌, ◌⊎◌, inl, inr, Bool, true, false, nat_le, nat_lt, ◌&&◌, map, List, [], ◌∷◌, ◌++◌, length, drop, refl, ap, sym, ◌∙◌, arith}
 use Rattle.std.proofs.lemmas.Bool.{and_parts}
 use Rattle.std.proofs.lemmas.Bool.Decides.{nat_tests}
-use Rattle.text_model.specs.Characters.{Ch, Scalar, Raw}
+use Rattle.text_model.specs.Characters.{Scalar, Raw}
 use Rattle.text_model.specs.Decoding.{Range, range, within, Front, Whole, Part, Neither, longer, against, against_any, front, well_formed, scalar_of, following, characters_after, tail_after, characters, tail, all_characters}
 use Rattle.text_model.proofs.Decodings.{characters-whole, characters-part, characters-neither, tail-whole, tail-part, tail-neither, front-append-whole, front-append-neither, front-length, following-length}
 
