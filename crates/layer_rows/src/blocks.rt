@@ -88,7 +88,7 @@ fn a_part_is_copied_over_itself(rt: HostRuntime) {
 fn a_part_is_copied_to_another_block(rt: HostRuntime) {
     let mut pool = Pool::new(rt.alloc());
     let (first, second) = two(&rt, &mut pool);
-    pool.set_cells(&first, 1, &[10]);
+    pool.set_cell(&first, 1, 10);
     pool.copy_cells(&first, 1, &second, 255, 1);
     is(&rt, pool.cell(&second, 255), 10);
     pool.give(first);

@@ -1,6 +1,6 @@
 //! The pool, and the blocks that it lends out.
 ghost use Rattle.std.specs.Prelude.{◌≡◌, ◌↔◌, ℕ, ◌+◌, ◌<◌, ◌≤◌, [], ◌++◌, length, take, drop, max, Some};
-ghost use Rattle.std.specs.Prelude.{None, OnOk, OnErr, IsNone, IfNone, IfSome, OnSome, slice_index};
+ghost use Rattle.std.specs.Prelude.{None, OnOk, OnErr, IsNone, IfNone, IfSome, OnSome, slice_index, slice_set};
 ghost use Rattle.slab.specs.Slab.{HasRoomFor};
 ghost use Rattle.text_pool.specs.Pool.{Pooled, cells_at, cells, IsLive, live, SameOthers};
 
@@ -137,6 +137,20 @@ impl Pool {
         ensures { result.now ≡ cells self.now block.now }
     {
         &self.blocks[block.number]
+    }
+
+    /// Sets cell `i` of a block that is live in this pool, counted from 0 and below 256, and no other cell.
+    pub fn set_cell(&mut self, block: &Block, i: usize, value: u32)
+        requires live { IsLive self.old block.now }
+        requires range { i < 256 }
+        ensures cell { cells self.new block.now ≡ slice_set (cells self.old block.now) i value }
+        ensures is_live { IsLive self.new block.now }
+        ensures others { SameOthers self.old self.new block.now }
+        ensures spare { self.new.spare ≡ self.old.spare }
+        ensures count { live self.new ≡ live self.old }
+    {
+        let cells = self.blocks.get_mut(block.number).unwrap();
+        cells[i] = value;
     }
 
     /// Sets the cells of a block that is live in this pool to some values, from cell `at` on, and no other cells.
