@@ -1,5 +1,5 @@
 -- Runs of refused calls: what is left so far, whether a handler runs in the call or not.
-use Rattle.std.proofs.Common.{◌≡◌, ℕ, suc, ◌+◌, ◌-◌, ◌≤◌, Bool, true, false, List, [], ◌∷◌, ◌++◌, drop, refl, ap, sym, ◌∙◌, subst, arith}
+use Rattle.std.proofs.Common.{◌≡◌, ℕ, suc, ◌+◌, ◌-◌, ◌≤◌, Bool, true, false, List, [], ◌∷◌, ◌++◌, drop, refl, ap, sym, ◌∙◌, subst, arith, append_assoc}
 use Rattle.std.specs.Prelude.{Option, Some, None, ◌&&◌}
 use Rattle.std.specs.List.{list_all}
 use Rattle.std.proofs.lemmas.List.{append-nil}
@@ -19,7 +19,7 @@ use Rattle.plain_machine.specs.Forms.{if_live, current}
 use Rattle.plain_machine.specs.Handling.{enter, exit, body_of, named_body, default_handler, output_in, put_in, process_buffer_of, mark_of_process, plain_text, second, sentinel_words, left_state, ended_handler, without_hooks_item, unlisted}
 use Rattle.plain_machine.specs.Step.{step}
 use Rattle.plain_machine.specs.Run.{Reaches, stays, goes, asks, start}
-use Rattle.plain_machine.proofs.Composed.{over_runs}
+use Rattle.plain_machine.proofs.Composed.{reaches_then, over_runs}
 use Rattle.machine_laws.specs.Brackets.{Levels, levels}
 use Rattle.machine_laws.specs.RefusedCalls.{Handled, without_change, LeftByCall, nothing, exchanged, ended, handled, hooked, is_within, RefusedCallsLeave}
 use Rattle.machine_laws.proofs.GoodConfig.{GoodConfig}
@@ -133,16 +133,12 @@ module _ (program : Program) (s : State) (kind : Kind) (name : Option ℕ) (c : 
 
 -- RUNS ONE STEP LONGER
 module _ (program : Program) (bound : ℕ) where
-  goes_more : {c d : Config} {xs : List Exchange} {said : List Said} → Reaches program bound c xs said d → (n : Next) → step program bound d ≡ Goes n → (more : List Said) × Reaches program bound c xs more n.config
-  goes_more stays n h = (n.said ++ [], goes h stays)
-  goes_more (goes {n = m} g r) n h = let k : (more : List Said) × Reaches program bound m.config _ more n.config = goes_more r n h in (m.said ++ k.0, goes g k.1)
-  goes_more (asks {n = m} g e r) n h = let k : (more : List Said) × Reaches program bound m.config _ more n.config = goes_more r n h in (m.said ++ k.0, asks g e k.1)
+  goes_more : {c d : Config} {xs : List Exchange} {said : List Said} → Reaches program bound c xs said d → (n : Next) → step program bound d ≡ Goes n → Reaches program bound c xs (said ++ n.said) n.config
+  goes_more {c} {d} {xs} {said} r n h = rw (append-nil xs, append-nil n.said) at (reaches_then program bound c d n.config xs [] said (n.said ++ []) r (goes h stays))
 
   asks_more : {c d : Config} {xs : List Exchange} {said : List Said} → Reaches program bound c xs said d → (ask : Ask) (answer : Answer) (k : Answer → Option Next) (n : Next) → step program bound d ≡ Asks ask k → k answer ≡ Some n →
-      (more : List Said) × Reaches program bound c (xs ++ record { ask = ask; answer = answer } ∷ []) more n.config
-  asks_more stays ask answer k n h e = (n.said ++ [], asks h e stays)
-  asks_more (goes {n = m} g r) ask answer k n h e = let j : (more : List Said) × Reaches program bound m.config _ more n.config = asks_more r ask answer k n h e in (m.said ++ j.0, goes g j.1)
-  asks_more (asks {n = m} g f r) ask answer k n h e = let j : (more : List Said) × Reaches program bound m.config _ more n.config = asks_more r ask answer k n h e in (m.said ++ j.0, asks g f j.1)
+      Reaches program bound c (xs ++ record { ask = ask; answer = answer } ∷ []) (said ++ n.said) n.config
+  asks_more {c} {d} {xs} {said} r ask answer k n h e = rw (append-nil n.said) at (reaches_then program bound c d n.config xs (record { ask = ask; answer = answer } ∷ []) said (n.said ++ []) r (asks h e stays))
 
 -- LINES
 all_front : {A : Type 0} (f : A → Bool) (xs ys : List A) → list_all f xs ≡ false → list_all f (xs ++ ys) ≡ false
@@ -161,9 +157,12 @@ all_last f (y ∷ xs) x h = go (f y) (all_last f xs x h)
     go true more = more
     go false more = refl
 
-appended : {A : Type 0} (first second : List A) (x : A) → (first ++ second) ++ x ∷ [] ≡ first ++ (second ++ x ∷ [])
-appended [] second x = refl
-appended (y ∷ first) second x = ap (λ l. y ∷ l) (appended first second x)
+appended : {A : Type 0} (first second last all : List A) → all ≡ first ++ second → all ++ last ≡ first ++ (second ++ last)
+appended first second last all e = ap (λ l. l ++ last) e ∙ append_assoc first second last
+
+-- a step that says nothing
+said_same : (said more : List Said) → more ≡ [] → said ++ more ≡ said
+said_same said more e = ap (λ l. said ++ l) e ∙ append-nil said
 
 -- BEHIND A HANDLER
 standing_of : (rest : List Item) → Resumes rest → Standing rest
@@ -218,23 +217,26 @@ answering_resumed (OfAfter b) true t rest r = answering_unhooked rest r
 answering_resumed (OfAfter b) false t rest r = r
 
 module _ (program : Program) (bound : ℕ) (s : State) where
-  abbrev Left : List Exchange → State → Type 0
-  Left xs t = LeftByCall program bound s xs t
+  abbrev Left : List Exchange → List Said → State → Type 0
+  Left xs said t = LeftByCall program bound s xs said t
+
+  left_same : (xs ys : List Exchange) (said more : List Said) (t : State) → xs ≡ ys → said ≡ more → Left ys more t → Left xs said t
+  left_same xs ys said more t p q l = subst (λ (zs : List Exchange). Left zs said t) (sym p) (subst (λ (zs : List Said). Left ys zs t) (sym q) l)
 
   -- a handler's part of what is left
-  handled_left : (rest : List Item) (first second : List Exchange) (u e t : State) → Resumes rest → Left first u → based rest e ≡ u → Handled program bound e t second → Left (first ++ second) (based rest t)
-  handled_left (Hooks kind names args ∷ work) first second u e t r l q h = hooked first second u e t l q h
-  handled_left (Wait w target ∷ work) first second u e t r l q h = handled first second e t (subst (λ (z : State). Left first z) (sym q) l) h
-  handled_left (Item.KillBuffer b target ∷ work) first second u e t r l q h = handled first second e t (subst (λ (z : State). Left first z) (sym q) l) h
-  handled_left (Delete p ∷ work) first second u e t r l q h = handled first second e t (subst (λ (z : State). Left first z) (sym q) l) h
-  handled_left _ first second u e t r l q h = absurd r
+  handled_left : (rest : List Item) (first second : List Exchange) (said more : List Said) (u e t : State) → Resumes rest → Left first said u → based rest e ≡ u → Handled program bound e t second more → Left (first ++ second) (said ++ more) (based rest t)
+  handled_left (Hooks kind names args ∷ work) first second said more u e t r l q h = hooked first second said more u e t l q h
+  handled_left (Wait w target ∷ work) first second said more u e t r l q h = handled first second said more e t (subst (λ (z : State). Left first said z) (sym q) l) h
+  handled_left (Item.KillBuffer b target ∷ work) first second said more u e t r l q h = handled first second said more e t (subst (λ (z : State). Left first said z) (sym q) l) h
+  handled_left (Delete p ∷ work) first second said more u e t r l q h = handled first second said more e t (subst (λ (z : State). Left first said z) (sym q) l) h
+  handled_left _ first second said more u e t r l q h = absurd r
 
   -- WHERE A RUN FROM THE CALL STANDS: behind its reply; at the call's own depth; in a handler that was entered in it
   data Phase (xs : List Exchange) (said : List Said) (c : Config) : Type 0 where
     over : list_all (λ x. is_within s.depth x.event) said ≡ false → Phase xs said c
-    calls : (u : State) → Left xs u → u.depth ≡ s.depth → c.state.depth ≡ s.depth → Own u c → Phase xs said c
-    entering : (u : State) (kind : Kind) (name : Option ℕ) (args : List Value) (rest : List Item) → Left xs u → u.depth ≡ s.depth → c.state.depth ≡ s.depth → c.work ≡ Enter kind name args ∷ rest → Resumes rest → based rest c.state ≡ u → Phase xs said c
-    inside : (u e : State) (first second : List Exchange) (kind : Kind) (name : Option ℕ) (args : List Value) (rest : List Item) (more : List Said) → xs ≡ first ++ second → Left first u → e.depth ≡ s.depth → Resumes rest → based rest e ≡ u →
+    calls : (u : State) → Left xs said u → u.depth ≡ s.depth → c.state.depth ≡ s.depth → Own u c → Phase xs said c
+    entering : (u : State) (kind : Kind) (name : Option ℕ) (args : List Value) (rest : List Item) → Left xs said u → u.depth ≡ s.depth → c.state.depth ≡ s.depth → c.work ≡ Enter kind name args ∷ rest → Resumes rest → based rest c.state ≡ u → Phase xs said c
+    inside : (u e : State) (first second : List Exchange) (earlier : List Said) (kind : Kind) (name : Option ℕ) (args : List Value) (rest : List Item) (more : List Said) → xs ≡ first ++ second → said ≡ earlier ++ more → Left first earlier u → e.depth ≡ s.depth → Resumes rest → based rest e ≡ u →
         Reaches program bound (record { state = e; work = Enter kind name args ∷ rest }) second more c → Above (one_deeper (levels e)) (exit_of kind name e.editor.current rest) c → Phase xs said c
     answering : c.state.depth ≡ s.depth → Answering c.work → Phase xs said c
     answering_entry : (kind : Kind) (name : Option ℕ) (args : List Value) (rest : List Item) → c.state.depth ≡ s.depth → c.work ≡ Enter kind name args ∷ rest → Answering rest → Phase xs said c
@@ -247,15 +249,15 @@ module _ (program : Program) (bound : ℕ) (s : State) where
   own_depth : (u : State) (c : Config) → u.depth ≡ s.depth → Own u c → c.state.depth ≡ s.depth
   own_depth u c q (own work e r h) = sym (based_depth work c.state) ∙ ap (λ (t : State). t.depth) h ∙ q
 
-  comes_phase : (xs : List Exchange) (said : List Said) (u : State) (n : Next) → Left xs u → u.depth ≡ s.depth → Comes u s.depth n → Phase xs (said ++ n.said) n.config
-  comes_phase xs said u n l q (stands e o) = calls u l q (own_depth u n.config q o) o
-  comes_phase xs said u n l q (enters kind name args rest e w r h) = entering u kind name args rest l q (sym (based_depth rest n.config.state) ∙ ap (λ (t : State). t.depth) h ∙ q) w r h
+  comes_phase : (xs : List Exchange) (said : List Said) (u : State) (n : Next) → Left xs said u → u.depth ≡ s.depth → Comes u s.depth n → Phase xs (said ++ n.said) n.config
+  comes_phase xs said u n l q (stands e o) = calls u (left_same xs xs (said ++ n.said) said u refl (said_same said n.said e) l) q (own_depth u n.config q o) o
+  comes_phase xs said u n l q (enters kind name args rest e w r h) = entering u kind name args rest (left_same xs xs (said ++ n.said) said u refl (said_same said n.said e) l) q (sym (based_depth rest n.config.state) ∙ ap (λ (t : State). t.depth) h ∙ q) w r h
   comes_phase xs said u n l q (answers e r k) = answering k r
   comes_phase xs said u n l q (replies x e w) = over (subst (λ (more : List Said). Lines (said ++ more) ≡ false) (sym e) (all_last (λ x. is_within s.depth x.event) said x w))
 
-  behind_phase : (xs : List Exchange) (said : List Said) (u : State) (ask : Ask) (answer : Answer) (n : Next) → Left xs u → u.depth ≡ s.depth → Behind u s.depth ask answer n → Phase (xs ++ record { ask = ask; answer = answer } ∷ []) (said ++ n.said) n.config
-  behind_phase xs said u ask answer n l q (leaves v x e c) = comes_phase _ said v n (exchanged (record { ask = ask; answer = answer }) xs u v l x) (e ∙ q) c
-  behind_phase xs said u ask answer n l q (ends_one v x e c) = comes_phase _ said v n (ended (record { ask = ask; answer = answer }) xs u v l x) (e ∙ q) c
+  behind_phase : (xs : List Exchange) (said : List Said) (u : State) (ask : Ask) (answer : Answer) (n : Next) → Left xs said u → u.depth ≡ s.depth → Behind u s.depth ask answer n → Phase (xs ++ record { ask = ask; answer = answer } ∷ []) (said ++ n.said) n.config
+  behind_phase xs said u ask answer n l q (leaves v x e c) = comes_phase _ said v n (exchanged (record { ask = ask; answer = answer }) xs said u v l x) (e ∙ q) c
+  behind_phase xs said u ask answer n l q (ends_one v x e c) = comes_phase _ said v n (ended (record { ask = ask; answer = answer }) xs said u v l x) (e ∙ q) c
   behind_phase xs said u ask answer n l q (to_answer e r k) = answering k r
 
   follows_phase : (xs : List Exchange) (said : List Said) (n : Next) → Follows s.depth n → Phase xs (said ++ n.said) n.config
@@ -287,14 +289,15 @@ module _ (program : Program) (bound : ℕ) (s : State) where
 
   -- a handler is left
   left_handled : (e : State) (second : List Exchange) (kind : Kind) (name : Option ℕ) (args : List Value) (rest : List Item) (more : List Said) (c : Config) (faulted : Bool) → Reaches program bound (record { state = e; work = Enter kind name args ∷ rest }) second more c →
-      c.work ≡ Exit kind name e.editor.current faulted ∷ rest → levels c.state ≡ one_deeper (levels e) → Handled program bound e (ended_handler kind faulted (left_state c.state e.editor.current) rest).state second
+      c.work ≡ Exit kind name e.editor.current faulted ∷ rest → levels c.state ≡ one_deeper (levels e) → Handled program bound e (ended_handler kind faulted (left_state c.state e.editor.current) rest).state second (more ++ (exit program c.state kind name e.editor.current faulted rest).said)
   left_handled e second kind name args rest more c faulted r w u = record {
     kind = kind;
     handler = name;
     args = args;
     faulted = faulted;
     rest = rest;
-    said = more;
+    before_exit = more;
+    says = refl;
     last = c.state;
     way = subst (λ (work : List Item). Reaches program bound (record { state = e; work = Enter kind name args ∷ rest }) second more (record { state = c.state; work = work })) w r;
     end = refl;
@@ -307,21 +310,20 @@ module _ (program : Program) (bound : ℕ) (s : State) where
   goes_phase xs said c n g (over e) h = over (all_front (λ x. is_within s.depth x.event) said n.said e)
   goes_phase xs said c n g (calls u l q k o) h = comes_phase xs said u n l q (subst (λ t. StepOwn u s.depth t) h (own_step program bound u s.depth c k o))
   goes_phase xs said c n g (entering u kind name args rest l q k w r b) h =
-      inside u c.state xs [] kind name args rest (n.said ++ []) (sym (append-nil xs)) l k r b
+      inside u c.state xs [] said kind name args rest (n.said ++ []) (sym (append-nil xs)) (ap (λ (l : List Said). said ++ l) (sym (append-nil n.said))) l k r b
       (subst (λ (work : List Item). Reaches program bound (record { state = c.state; work = work }) [] (n.said ++ []) n.config) w (goes h stays)) (entered_inside c n kind name args rest w h)
-  goes_phase xs said c n g (inside u e first second kind name args rest more p l k r b way (above (item ∷ front) faulted w v y)) h =
-      let next : (more : List Said) × Reaches program bound (record { state = e; work = Enter kind name args ∷ rest }) second more n.config = goes_more program bound way n h in
-      inside u e first second kind name args rest next.0 p l k r b next.1
+  goes_phase xs said c n g (inside u e first second earlier kind name args rest more p q l k r b way (above (item ∷ front) faulted w v y)) h =
+      inside u e first second earlier kind name args rest (more ++ n.said) p (appended earlier more n.said said q) l k r b (goes_more program bound way n h)
       (subst (λ t. StepStays (one_deeper (levels e)) (exit_of kind name e.editor.current rest) t) h (step_stays (one_deeper (levels e)) (exit_of kind name e.editor.current rest) program bound c item front faulted g w v y))
-  goes_phase xs said c n g (inside u e first second kind name args rest more p l k r b way (above [] faulted w v y)) h =
+  goes_phase xs said c n g (inside u e first second earlier kind name args rest more p q l k r b way (above [] faulted w v y)) h =
       let t : State = left_state c.state e.editor.current in
-      let x : Handled program bound e (ended_handler kind faulted t rest).state second = left_handled e second kind name args rest more c faulted way w v in
+      let m : Next = exit program c.state kind name e.editor.current faulted rest in
+      let x : Handled program bound e (ended_handler kind faulted t rest).state second (more ++ m.said) = left_handled e second kind name args rest more c faulted way w v in
       let after : Resumed rest (ended_handler kind faulted t rest).work (ended_handler kind faulted t rest).state = resumed kind faulted t rest r in
       let z : State = (ended_handler kind faulted t rest).state in
-      let m : Next = exit program c.state kind name e.editor.current faulted rest in
       let d : z.depth ≡ s.depth = ap (λ (l : Levels). l.depth) x.bracket ∙ k in
       subst (λ (n : Next). Phase xs (said ++ n.said) n.config) (goes_is c (Exit kind name e.editor.current faulted ∷ rest) m n w refl h)
-      (calls (based rest z) (subst (λ (ys : List Exchange). Left ys (based rest z)) (sym p) (handled_left rest first second u e z r l b x)) (based_depth rest z ∙ d) d (own (ended_handler kind faulted t rest).work refl after.standing after.same))
+      (calls (based rest z) (left_same xs (first ++ second) (said ++ m.said) (earlier ++ (more ++ m.said)) (based rest z) p (appended earlier more m.said said q) (handled_left rest first second earlier (more ++ m.said) u e z r l b x)) (based_depth rest z ∙ d) d (own (ended_handler kind faulted t rest).work refl after.standing after.same))
   goes_phase xs said c n g (answering k r) h = follows_phase xs said n (subst (λ t. StepFollows s.depth t) h (follows_step program bound s.depth c k r))
   goes_phase xs said c n g (answering_entry kind name args rest k w r) h = answering_inside c.state kind name rest k r (entered_inside c n kind name args rest w h)
   goes_phase xs said c n g (answering_inside e kind name rest k r (above (item ∷ front) faulted w v y)) h =
@@ -339,13 +341,12 @@ module _ (program : Program) (bound : ℕ) (s : State) where
       let a : StepOwn u s.depth (Asks ask k) = subst (λ t. StepOwn u s.depth t) h (own_step program bound u s.depth c d o) in
       behind_phase xs said u ask answer n l q (subst (λ o. AnswerOwn u s.depth ask answer o) f (a answer))
   asks_phase xs said c ask answer k n g (entering u kind name args rest l q d w r b) h f = absurd (never_asks c (Enter kind name args ∷ rest) (enter program c.state kind name args rest) ask k w refl h)
-  asks_phase xs said c ask answer k n g (inside u e first second kind name args rest more p l d r b way (above (item ∷ front) faulted w v y)) h f =
+  asks_phase xs said c ask answer k n g (inside u e first second earlier kind name args rest more p q l d r b way (above (item ∷ front) faulted w v y)) h f =
       let x : Exchange = record { ask = ask; answer = answer } in
-      let next : (more : List Said) × Reaches program bound (record { state = e; work = Enter kind name args ∷ rest }) (second ++ x ∷ []) more n.config = asks_more program bound way ask answer k n h f in
       let a : StepStays (one_deeper (levels e)) (exit_of kind name e.editor.current rest) (Asks ask k) = subst (λ t. StepStays (one_deeper (levels e)) (exit_of kind name e.editor.current rest) t) h (step_stays (one_deeper (levels e)) (exit_of kind name e.editor.current rest) program bound c item front faulted g w v y) in
-      inside u e first (second ++ x ∷ []) kind name args rest next.0 (ap (λ (l : List Exchange). l ++ x ∷ []) p ∙ appended first second x) l d r b next.1
+      inside u e first (second ++ x ∷ []) earlier kind name args rest (more ++ n.said) (appended first second (x ∷ []) xs p) (appended earlier more n.said said q) l d r b (asks_more program bound way ask answer k n h f)
       (subst (λ o. AnswerStays (one_deeper (levels e)) (exit_of kind name e.editor.current rest) o) f (a answer))
-  asks_phase xs said c ask answer k n g (inside u e first second kind name args rest more p l d r b way (above [] faulted w v y)) h f = absurd (never_asks c (Exit kind name e.editor.current faulted ∷ rest) (exit program c.state kind name e.editor.current faulted rest) ask k w refl h)
+  asks_phase xs said c ask answer k n g (inside u e first second earlier kind name args rest more p q l d r b way (above [] faulted w v y)) h f = absurd (never_asks c (Exit kind name e.editor.current faulted ∷ rest) (exit program c.state kind name e.editor.current faulted rest) ask k w refl h)
   asks_phase xs said c ask answer k n g (answering d r) h f =
       let a : StepFollows s.depth (Asks ask k) = subst (λ t. StepFollows s.depth t) h (follows_step program bound s.depth c d r) in
       follows_phase _ said n (subst (λ o. AnswerFollows s.depth o) f (a answer))
@@ -364,11 +365,11 @@ module _ (program : Program) (bound : ℕ) (s : State) where
       let a : e.depth + 1 ≤ t.depth = above_depth (one_deeper (levels e)) floor (record { state = t; work = work }) x in
       absurd (omega arith)
 
-  refusal_left : (xs : List Exchange) (said : List Said) (t : State) (fault : Fault) (more : List Item) → Lines said ≡ true → t.depth ≡ s.depth → Phase xs said (record { state = t; work = Refuse fault ∷ more }) → Left xs t
+  refusal_left : (xs : List Exchange) (said : List Said) (t : State) (fault : Fault) (more : List Item) → Lines said ≡ true → t.depth ≡ s.depth → Phase xs said (record { state = t; work = Refuse fault ∷ more }) → Left xs said t
   refusal_left xs said t fault more w k (over e) = absurd (false≢true (sym e ∙ w))
-  refusal_left xs said t fault more w k (calls u l q d (own work e r h)) = subst (λ (z : State). Left xs z) (sym (subst (λ (work : List Item). based work t ≡ u) (sym e) h)) l
+  refusal_left xs said t fault more w k (calls u l q d (own work e r h)) = subst (λ (z : State). Left xs said z) (sym (subst (λ (work : List Item). based work t ≡ u) (sym e) h)) l
   refusal_left xs said t fault more w k (entering u kind name args rest l q d e r b) = absurd (not_entering fault more rest kind name args e)
-  refusal_left xs said t fault more w k (inside u e first second kind name args rest others p l d r b way x) = absurd (inside_is_deeper e t (exit_of kind name e.editor.current rest) (Refuse fault ∷ more) d k x)
+  refusal_left xs said t fault more w k (inside u e first second earlier kind name args rest others p m l d r b way x) = absurd (inside_is_deeper e t (exit_of kind name e.editor.current rest) (Refuse fault ∷ more) d k x)
   refusal_left xs said t fault more w k (answering d r) = absurd r
   refusal_left xs said t fault more w k (answering_entry kind name args rest d e r) = absurd (not_entering fault more rest kind name args e)
   refusal_left xs said t fault more w k (answering_inside e kind name rest d r x) = absurd (inside_is_deeper e t (exit_of kind name e.editor.current rest) (Refuse fault ∷ more) d k x)

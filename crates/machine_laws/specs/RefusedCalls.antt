@@ -1,5 +1,5 @@
 -- Refused calls, with whatever handlers between: what is left of one is what these did, and the exchanges,
--- and nothing else.
+-- and nothing else. The lines of the call are those of these handlers.
 use Rattle.std.specs.Prelude.{◌≡◌, ℕ, Bool, true, false, nat_lt, nat_le, List, [], ◌∷◌, ◌++◌, Option, Some}
 use Rattle.std.specs.List.{list_all}
 use Rattle.editor_model.specs.Values.{Value, Fault, Prim}
@@ -10,26 +10,28 @@ use Rattle.plain_machine.specs.State.{change_process}
 use Rattle.plain_machine.specs.Lines.{Kind, Event, Replied, Entered, Left}
 use Rattle.plain_machine.specs.Items.{Item, MakeCall, Refuse, Enter, Exit, Target, Said, Config}
 use Rattle.plain_machine.specs.Forms.{popped}
-use Rattle.plain_machine.specs.Handling.{left_state, ended_handler}
+use Rattle.plain_machine.specs.Handling.{left_state, ended_handler, exit}
 use Rattle.plain_machine.specs.Waits.{asked_more}
 use Rattle.plain_machine.specs.Run.{Reaches}
 use Rattle.machine_laws.specs.Brackets.{levels}
 use Rattle.machine_laws.specs.Refusals.{Leaves}
 
 -- HANDLERS
--- A handler that was entered in the one state and left in the other, whatever it did. Its end makes the
--- buffer of its entry current again, if this lives, and takes back what the entry raised; a hook list that
--- a fault emptied is empty.
-pub record Handled (program : Program) (bound : ℕ) (s t : State) (exchanges : List Exchange) : Type 0 where
+-- A handler that was entered in the one state and left in the other, whatever it did. Its lines begin with
+-- that of its entry and end with that of its exit. Its end makes the buffer of its entry current again,
+-- if this lives, and takes back what the entry raised; a hook list that a fault emptied is empty.
+pub record Handled (program : Program) (bound : ℕ) (s t : State) (exchanges : List Exchange)
+      (said : List Said) : Type 0 where
   pub kind : Kind
   pub handler : Option ℕ
   pub args : List Value
   pub faulted : Bool
   pub rest : List Item
-  pub said : List Said
+  pub before_exit : List Said
   pub last : State
   pub way : Reaches program bound (record { state = s; work = Enter kind handler args ∷ rest })
-      exchanges said (record { state = last; work = Exit kind handler s.editor.current faulted ∷ rest })
+      exchanges before_exit (record { state = last; work = Exit kind handler s.editor.current faulted ∷ rest })
+  pub says : said ≡ before_exit ++ (exit program last kind handler s.editor.current faulted rest).said
   pub end : t ≡ (ended_handler kind faulted (left_state last s.editor.current) rest).state
   pub bracket : levels t ≡ levels s
   pub current : is_live t.editor s.editor.current ≡ true → t.editor.current ≡ s.editor.current
@@ -54,22 +56,24 @@ Ends _ _ s t = ⊥
 abbrev pub without_change : State → State
 without_change s = popped (record s { inhibited = false })
 
--- What a call that isn't answered yet has made of a state, over these exchanges: what exchanges left, and
--- what handlers did that were entered in it; the functions before a change are entered with this change
--- under way.
-pub data LeftByCall (program : Program) (bound : ℕ) (s : State) : List Exchange → State → Type 0 where
-  nothing : LeftByCall program bound s [] s
-  exchanged : (x : Exchange) (exchanges : List Exchange) (u t : State) →
-      LeftByCall program bound s exchanges u → Leaves x.ask x.answer u t →
-      LeftByCall program bound s (exchanges ++ x ∷ []) t
-  ended : (x : Exchange) (exchanges : List Exchange) (u t : State) →
-      LeftByCall program bound s exchanges u → Ends x.ask x.answer u t →
-      LeftByCall program bound s (exchanges ++ x ∷ []) t
-  handled : (first second : List Exchange) (u t : State) → LeftByCall program bound s first u →
-      Handled program bound u t second → LeftByCall program bound s (first ++ second) t
-  hooked : (first second : List Exchange) (u v w : State) → LeftByCall program bound s first u →
-      without_change v ≡ u → Handled program bound v w second →
-      LeftByCall program bound s (first ++ second) (without_change w)
+-- What a call that isn't answered yet has made of a state, over these exchanges and lines: what exchanges
+-- left, and what handlers did that were entered in it; the functions before a change are entered with this
+-- change under way. All the lines are those of the handlers, one after the other.
+pub data LeftByCall (program : Program) (bound : ℕ) (s : State) : List Exchange → List Said → State → Type 0 where
+  nothing : LeftByCall program bound s [] [] s
+  exchanged : (x : Exchange) (exchanges : List Exchange) (said : List Said) (u t : State) →
+      LeftByCall program bound s exchanges said u → Leaves x.ask x.answer u t →
+      LeftByCall program bound s (exchanges ++ x ∷ []) said t
+  ended : (x : Exchange) (exchanges : List Exchange) (said : List Said) (u t : State) →
+      LeftByCall program bound s exchanges said u → Ends x.ask x.answer u t →
+      LeftByCall program bound s (exchanges ++ x ∷ []) said t
+  handled : (first second : List Exchange) (said more : List Said) (u t : State) →
+      LeftByCall program bound s first said u → Handled program bound u t second more →
+      LeftByCall program bound s (first ++ second) (said ++ more) t
+  hooked : (first second : List Exchange) (said more : List Said) (u v w : State) →
+      LeftByCall program bound s first said u → without_change v ≡ u →
+      Handled program bound v w second more →
+      LeftByCall program bound s (first ++ second) (said ++ more) (without_change w)
 
 -- a line of a handler that was entered at this depth, or of what ran in it
 abbrev pub is_within : (depth : ℕ) → Event → Bool
@@ -78,7 +82,8 @@ is_within d (Entered depth kind handler args) = nat_le d depth
 is_within d (Left depth handler) = nat_le d depth
 is_within d _ = false
 
--- From a call that a run comes to, to its refusal: all lines between are those of handlers that ran in it.
+-- From a call that a run comes to, to its refusal, whose own line comes next: all lines between are of
+-- handlers that ran in it. The state is left by pieces that say just these lines.
 abbrev pub RefusedCallsLeave : Program → ℕ → Config → Type 0
 RefusedCallsLeave program bound from =
     (before exchanges : List Exchange) (earlier said : List Said) (s t : State) (prim : Prim)
@@ -87,4 +92,4 @@ RefusedCallsLeave program bound from =
     Reaches program bound (record { state = s; work = MakeCall prim args target ∷ rest }) exchanges said
     (record { state = t; work = Refuse fault ∷ more }) →
     list_all (λ x. is_within s.depth x.event) said ≡ true → t.depth ≡ s.depth →
-    LeftByCall program bound s exchanges t
+    LeftByCall program bound s exchanges said t

@@ -282,9 +282,10 @@ pub fn refusals_leave_the_state()
 {}
 
 /// The same of a whole refused call that a run comes to, with whatever handlers between: what is
-/// left of it is what exchanges left, and what the handlers did that were entered in it. The end of
-/// a handler makes the buffer of its entry current again, if this lives, and empties the hook list
-/// of a function that a fault ended.
+/// left of it is what exchanges left, and what the handlers did that were entered in it. The lines
+/// of these handlers are just the lines of the call before that of its refusal. The end of a handler
+/// makes the buffer of its entry current again, if this lives, and empties the hook list of a
+/// function that a fault ended.
 pub fn refused_calls_leave_the_state()
     ensures { (program : Program) (bound : ℕ) (script : Script) →
         RefusedCallsLeave program bound (start script) }
