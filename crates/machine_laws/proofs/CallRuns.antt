@@ -9,6 +9,7 @@ use Rattle.editor_model.specs.Editor.{Editor, is_live}
 use Rattle.editor_model.specs.Answers.{Prepared, Changes, Quiet, Nothing, Barred}
 use Rattle.editor_model.specs.TextCalls.{prepare_output}
 use Rattle.text_model.specs.Properties.{Cell}
+use Rattle.text_model.specs.Marks.{Saved, Excursion, Restriction, Pending}
 use Rattle.plain_machine.specs.Exchanges.{Exchange, Ask, Answer}
 use Rattle.plain_machine.specs.State.{State, Program}
 use Rattle.plain_machine.specs.Lines.{Kind, OfBefore, OfAfter, OfFilter, OfSentinel}
@@ -20,14 +21,14 @@ use Rattle.plain_machine.specs.Handling.{enter, exit, body_of, named_body, defau
 use Rattle.plain_machine.specs.Step.{step}
 use Rattle.plain_machine.specs.Run.{Reaches, stays, goes, asks, start}
 use Rattle.plain_machine.proofs.Composed.{reaches_then, over_runs}
-use Rattle.machine_laws.specs.Brackets.{Levels, levels}
-use Rattle.machine_laws.specs.RefusedCalls.{Handled, without_change, LeftByCall, nothing, exchanged, ended, handled, hooked, is_within, RefusedCallsLeave}
-use Rattle.machine_laws.proofs.GoodConfig.{GoodConfig}
+use Rattle.machine_laws.specs.Brackets.{Levels, levels, shapes}
+use Rattle.machine_laws.specs.RefusedCalls.{Handled, without_change, ChangeUnderWay, LeftByCall, nothing, exchanged, ended, handled, hooked, is_within, RefusedCallsLeave}
+use Rattle.machine_laws.proofs.GoodConfig.{GoodConfig, IsPendingIn, Stacked}
 use Rattle.machine_laws.proofs.Returning.{goes_good, asks_good, start_good, reaches_good}
 use Rattle.machine_laws.proofs.LevelStates.{behind_handler, behind_place, behind_block, live_levels, change_levels, left_levels}
 use Rattle.machine_laws.proofs.Working.{change_editor}
 use Rattle.machine_laws.proofs.Levels.{unwound, Floor, exit_of, Above, above, AnswerStays, StepStays, step_stays}
-use Rattle.machine_laws.proofs.RefusedCalls.{Answering, Calming, Standing, Resumes, based, based_depth, Own, own, Comes, stands, enters, answers, replies, Behind, leaves, ends_one, to_answer, AnswerOwn, StepOwn, own_step, Follows, goes_on, enters_one, has_replied, AnswerFollows, StepFollows, follows_step}
+use Rattle.machine_laws.proofs.RefusedCalls.{Answering, Committing, Calming, Standing, Resumes, based, based_depth, Own, own, Comes, stands, enters, answers, replies, Behind, leaves, ends_one, to_answer, AnswerOwn, StepOwn, own_step, Follows, goes_on, enters_one, has_replied, AnswerFollows, StepFollows, follows_step}
 
 -- LEVELS
 abbrev pub one_deeper : Levels → Levels
@@ -216,6 +217,36 @@ answering_resumed (OfBefore b) false t rest r = r
 answering_resumed (OfAfter b) true t rest r = answering_unhooked rest r
 answering_resumed (OfAfter b) false t rest r = r
 
+-- A CHANGE UNDER WAY
+not_pending : (n : ℕ) → n ≤ 1 → n ≡ 2 → ⊥
+not_pending n l e = absurd (omega arith)
+
+kept_change : (b : ℕ) (saved : List Saved) → IsPendingIn b (shapes saved) → (a : ℕ) × (from : ℕ) × (to : ℕ) × (saved ≡ Pending a from to ∷ drop 1 saved)
+kept_change b [] h = absurd h
+kept_change b (Excursion a p ∷ ks) h = absurd (not_pending 0 (omega arith) (ap (λ (k : ℕ × ℕ). k.0) h))
+kept_change b (Restriction a ends ∷ ks) h = absurd (not_pending 1 (omega arith) (ap (λ (k : ℕ × ℕ). k.0) h))
+kept_change b (Pending a from to ∷ ks) h = (a, from, to, refl)
+
+committing_change : (work : List Item) (t : State) → Committing work → Stacked work (shapes t.editor.marks.saved) → ChangeUnderWay t
+committing_change (CommitChange c ∷ work) t r k = kept_change c.buffer t.editor.marks.saved k.0
+committing_change _ t r k = absurd r
+
+calming_change : (work : List Item) (t : State) → Calming work → Stacked work (shapes t.editor.marks.saved) → ChangeUnderWay t
+calming_change (Calm old ∷ work) t r k = committing_change work t r.1 k
+calming_change _ t r k = absurd r
+
+-- hook functions that are entered in a call are those before a change
+abbrev Under : List Item → State → Type 0
+Under (Hooks kind names args ∷ work) t = ChangeUnderWay t
+Under _ t = Unit {0}
+
+under : (rest : List Item) (t : State) → Resumes rest → Stacked rest (shapes t.editor.marks.saved) → Under rest t
+under (Hooks kind names args ∷ work) t r k = calming_change work t r k
+under (Wait w target ∷ work) t r k = tt
+under (Item.KillBuffer b target ∷ work) t r k = tt
+under (Delete p ∷ work) t r k = tt
+under _ t r k = absurd r
+
 module _ (program : Program) (bound : ℕ) (s : State) where
   abbrev Left : List Exchange → List Said → State → Type 0
   Left xs said t = LeftByCall program bound s xs said t
@@ -224,19 +255,19 @@ module _ (program : Program) (bound : ℕ) (s : State) where
   left_same xs ys said more t p q l = subst (λ (zs : List Exchange). Left zs said t) (sym p) (subst (λ (zs : List Said). Left ys zs t) (sym q) l)
 
   -- a handler's part of what is left
-  handled_left : (rest : List Item) (first second : List Exchange) (said more : List Said) (u e t : State) → Resumes rest → Left first said u → based rest e ≡ u → Handled program bound e t second more → Left (first ++ second) (said ++ more) (based rest t)
-  handled_left (Hooks kind names args ∷ work) first second said more u e t r l q h = hooked first second said more u e t l q h
-  handled_left (Wait w target ∷ work) first second said more u e t r l q h = handled first second said more e t (subst (λ (z : State). Left first said z) (sym q) l) h
-  handled_left (Item.KillBuffer b target ∷ work) first second said more u e t r l q h = handled first second said more e t (subst (λ (z : State). Left first said z) (sym q) l) h
-  handled_left (Delete p ∷ work) first second said more u e t r l q h = handled first second said more e t (subst (λ (z : State). Left first said z) (sym q) l) h
-  handled_left _ first second said more u e t r l q h = absurd r
+  handled_left : (rest : List Item) (first second : List Exchange) (said more : List Said) (u e t : State) → Resumes rest → Left first said u → based rest e ≡ u → Under rest e → Handled program bound e t second more → Left (first ++ second) (said ++ more) (based rest t)
+  handled_left (Hooks kind names args ∷ work) first second said more u e t r l q x h = hooked first second said more u e t l q x h
+  handled_left (Wait w target ∷ work) first second said more u e t r l q x h = handled first second said more e t (subst (λ (z : State). Left first said z) (sym q) l) h
+  handled_left (Item.KillBuffer b target ∷ work) first second said more u e t r l q x h = handled first second said more e t (subst (λ (z : State). Left first said z) (sym q) l) h
+  handled_left (Delete p ∷ work) first second said more u e t r l q x h = handled first second said more e t (subst (λ (z : State). Left first said z) (sym q) l) h
+  handled_left _ first second said more u e t r l q x h = absurd r
 
   -- WHERE A RUN FROM THE CALL STANDS: behind its reply; at the call's own depth; in a handler that was entered in it
   data Phase (xs : List Exchange) (said : List Said) (c : Config) : Type 0 where
     over : list_all (λ x. is_within s.depth x.event) said ≡ false → Phase xs said c
     calls : (u : State) → Left xs said u → u.depth ≡ s.depth → c.state.depth ≡ s.depth → Own u c → Phase xs said c
     entering : (u : State) (kind : Kind) (name : Option ℕ) (args : List Value) (rest : List Item) → Left xs said u → u.depth ≡ s.depth → c.state.depth ≡ s.depth → c.work ≡ Enter kind name args ∷ rest → Resumes rest → based rest c.state ≡ u → Phase xs said c
-    inside : (u e : State) (first second : List Exchange) (earlier : List Said) (kind : Kind) (name : Option ℕ) (args : List Value) (rest : List Item) (more : List Said) → xs ≡ first ++ second → said ≡ earlier ++ more → Left first earlier u → e.depth ≡ s.depth → Resumes rest → based rest e ≡ u →
+    inside : (u e : State) (first second : List Exchange) (earlier : List Said) (kind : Kind) (name : Option ℕ) (args : List Value) (rest : List Item) (more : List Said) → xs ≡ first ++ second → said ≡ earlier ++ more → Left first earlier u → e.depth ≡ s.depth → Resumes rest → based rest e ≡ u → Under rest e →
         Reaches program bound (record { state = e; work = Enter kind name args ∷ rest }) second more c → Above (one_deeper (levels e)) (exit_of kind name e.editor.current rest) c → Phase xs said c
     answering : c.state.depth ≡ s.depth → Answering c.work → Phase xs said c
     answering_entry : (kind : Kind) (name : Option ℕ) (args : List Value) (rest : List Item) → c.state.depth ≡ s.depth → c.work ≡ Enter kind name args ∷ rest → Answering rest → Phase xs said c
@@ -311,11 +342,12 @@ module _ (program : Program) (bound : ℕ) (s : State) where
   goes_phase xs said c n g (calls u l q k o) h = comes_phase xs said u n l q (subst (λ t. StepOwn u s.depth t) h (own_step program bound u s.depth c k o))
   goes_phase xs said c n g (entering u kind name args rest l q k w r b) h =
       inside u c.state xs [] said kind name args rest (n.said ++ []) (sym (append-nil xs)) (ap (λ (l : List Said). said ++ l) (sym (append-nil n.said))) l k r b
+      (under rest c.state r (subst (λ (work : List Item). Stacked work (shapes c.state.editor.marks.saved)) w g.stack))
       (subst (λ (work : List Item). Reaches program bound (record { state = c.state; work = work }) [] (n.said ++ []) n.config) w (goes h stays)) (entered_inside c n kind name args rest w h)
-  goes_phase xs said c n g (inside u e first second earlier kind name args rest more p q l k r b way (above (item ∷ front) faulted w v y)) h =
-      inside u e first second earlier kind name args rest (more ++ n.said) p (appended earlier more n.said said q) l k r b (goes_more program bound way n h)
+  goes_phase xs said c n g (inside u e first second earlier kind name args rest more p q l k r b j way (above (item ∷ front) faulted w v y)) h =
+      inside u e first second earlier kind name args rest (more ++ n.said) p (appended earlier more n.said said q) l k r b j (goes_more program bound way n h)
       (subst (λ t. StepStays (one_deeper (levels e)) (exit_of kind name e.editor.current rest) t) h (step_stays (one_deeper (levels e)) (exit_of kind name e.editor.current rest) program bound c item front faulted g w v y))
-  goes_phase xs said c n g (inside u e first second earlier kind name args rest more p q l k r b way (above [] faulted w v y)) h =
+  goes_phase xs said c n g (inside u e first second earlier kind name args rest more p q l k r b j way (above [] faulted w v y)) h =
       let t : State = left_state c.state e.editor.current in
       let m : Next = exit program c.state kind name e.editor.current faulted rest in
       let x : Handled program bound e (ended_handler kind faulted t rest).state second (more ++ m.said) = left_handled e second kind name args rest more c faulted way w v in
@@ -323,7 +355,7 @@ module _ (program : Program) (bound : ℕ) (s : State) where
       let z : State = (ended_handler kind faulted t rest).state in
       let d : z.depth ≡ s.depth = ap (λ (l : Levels). l.depth) x.bracket ∙ k in
       subst (λ (n : Next). Phase xs (said ++ n.said) n.config) (goes_is c (Exit kind name e.editor.current faulted ∷ rest) m n w refl h)
-      (calls (based rest z) (left_same xs (first ++ second) (said ++ m.said) (earlier ++ (more ++ m.said)) (based rest z) p (appended earlier more m.said said q) (handled_left rest first second earlier (more ++ m.said) u e z r l b x)) (based_depth rest z ∙ d) d (own (ended_handler kind faulted t rest).work refl after.standing after.same))
+      (calls (based rest z) (left_same xs (first ++ second) (said ++ m.said) (earlier ++ (more ++ m.said)) (based rest z) p (appended earlier more m.said said q) (handled_left rest first second earlier (more ++ m.said) u e z r l b j x)) (based_depth rest z ∙ d) d (own (ended_handler kind faulted t rest).work refl after.standing after.same))
   goes_phase xs said c n g (answering k r) h = follows_phase xs said n (subst (λ t. StepFollows s.depth t) h (follows_step program bound s.depth c k r))
   goes_phase xs said c n g (answering_entry kind name args rest k w r) h = answering_inside c.state kind name rest k r (entered_inside c n kind name args rest w h)
   goes_phase xs said c n g (answering_inside e kind name rest k r (above (item ∷ front) faulted w v y)) h =
@@ -341,12 +373,12 @@ module _ (program : Program) (bound : ℕ) (s : State) where
       let a : StepOwn u s.depth (Asks ask k) = subst (λ t. StepOwn u s.depth t) h (own_step program bound u s.depth c d o) in
       behind_phase xs said u ask answer n l q (subst (λ o. AnswerOwn u s.depth ask answer o) f (a answer))
   asks_phase xs said c ask answer k n g (entering u kind name args rest l q d w r b) h f = absurd (never_asks c (Enter kind name args ∷ rest) (enter program c.state kind name args rest) ask k w refl h)
-  asks_phase xs said c ask answer k n g (inside u e first second earlier kind name args rest more p q l d r b way (above (item ∷ front) faulted w v y)) h f =
+  asks_phase xs said c ask answer k n g (inside u e first second earlier kind name args rest more p q l d r b j way (above (item ∷ front) faulted w v y)) h f =
       let x : Exchange = record { ask = ask; answer = answer } in
       let a : StepStays (one_deeper (levels e)) (exit_of kind name e.editor.current rest) (Asks ask k) = subst (λ t. StepStays (one_deeper (levels e)) (exit_of kind name e.editor.current rest) t) h (step_stays (one_deeper (levels e)) (exit_of kind name e.editor.current rest) program bound c item front faulted g w v y) in
-      inside u e first (second ++ x ∷ []) earlier kind name args rest (more ++ n.said) (appended first second (x ∷ []) xs p) (appended earlier more n.said said q) l d r b (asks_more program bound way ask answer k n h f)
+      inside u e first (second ++ x ∷ []) earlier kind name args rest (more ++ n.said) (appended first second (x ∷ []) xs p) (appended earlier more n.said said q) l d r b j (asks_more program bound way ask answer k n h f)
       (subst (λ o. AnswerStays (one_deeper (levels e)) (exit_of kind name e.editor.current rest) o) f (a answer))
-  asks_phase xs said c ask answer k n g (inside u e first second earlier kind name args rest more p q l d r b way (above [] faulted w v y)) h f = absurd (never_asks c (Exit kind name e.editor.current faulted ∷ rest) (exit program c.state kind name e.editor.current faulted rest) ask k w refl h)
+  asks_phase xs said c ask answer k n g (inside u e first second earlier kind name args rest more p q l d r b j way (above [] faulted w v y)) h f = absurd (never_asks c (Exit kind name e.editor.current faulted ∷ rest) (exit program c.state kind name e.editor.current faulted rest) ask k w refl h)
   asks_phase xs said c ask answer k n g (answering d r) h f =
       let a : StepFollows s.depth (Asks ask k) = subst (λ t. StepFollows s.depth t) h (follows_step program bound s.depth c d r) in
       follows_phase _ said n (subst (λ o. AnswerFollows s.depth o) f (a answer))
@@ -369,7 +401,7 @@ module _ (program : Program) (bound : ℕ) (s : State) where
   refusal_left xs said t fault more w k (over e) = absurd (false≢true (sym e ∙ w))
   refusal_left xs said t fault more w k (calls u l q d (own work e r h)) = subst (λ (z : State). Left xs said z) (sym (subst (λ (work : List Item). based work t ≡ u) (sym e) h)) l
   refusal_left xs said t fault more w k (entering u kind name args rest l q d e r b) = absurd (not_entering fault more rest kind name args e)
-  refusal_left xs said t fault more w k (inside u e first second earlier kind name args rest others p m l d r b way x) = absurd (inside_is_deeper e t (exit_of kind name e.editor.current rest) (Refuse fault ∷ more) d k x)
+  refusal_left xs said t fault more w k (inside u e first second earlier kind name args rest others p m l d r b j way x) = absurd (inside_is_deeper e t (exit_of kind name e.editor.current rest) (Refuse fault ∷ more) d k x)
   refusal_left xs said t fault more w k (answering d r) = absurd r
   refusal_left xs said t fault more w k (answering_entry kind name args rest d e r) = absurd (not_entering fault more rest kind name args e)
   refusal_left xs said t fault more w k (answering_inside e kind name rest d r x) = absurd (inside_is_deeper e t (exit_of kind name e.editor.current rest) (Refuse fault ∷ more) d k x)

@@ -1,7 +1,9 @@
 -- Refused calls, with whatever handlers between: what is left of one is what these did, and the exchanges,
 -- and nothing else. The lines of the call are those of these handlers.
-use Rattle.std.specs.Prelude.{◌≡◌, ℕ, Bool, true, false, nat_lt, nat_le, List, [], ◌∷◌, ◌++◌, Option, Some}
+use Rattle.std.specs.Prelude.{◌≡◌, ℕ, Bool, true, false, nat_lt, nat_le, List, [], ◌∷◌, ◌++◌, drop}
+use Rattle.std.specs.Prelude.{Option, Some}
 use Rattle.std.specs.List.{list_all}
+use Rattle.text_model.specs.Marks.{Pending}
 use Rattle.editor_model.specs.Values.{Value, Fault, Prim}
 use Rattle.editor_model.specs.Editor.{is_live}
 use Rattle.plain_machine.specs.Exchanges.{Ask, AskEnd, Kill, Answer, Code, Signal, Killed, Failed, Exchange}
@@ -9,7 +11,7 @@ use Rattle.plain_machine.specs.State.{State, Process, Status, Exited, Signalled,
 use Rattle.plain_machine.specs.State.{change_process}
 use Rattle.plain_machine.specs.Lines.{Kind, Event, Replied, Entered, Left}
 use Rattle.plain_machine.specs.Items.{Item, MakeCall, Refuse, Enter, Exit, Target, Said, Config}
-use Rattle.plain_machine.specs.Forms.{popped}
+use Rattle.plain_machine.specs.Forms.{saved_of, popped}
 use Rattle.plain_machine.specs.Handling.{left_state, ended_handler, exit}
 use Rattle.plain_machine.specs.Waits.{asked_more}
 use Rattle.plain_machine.specs.Run.{Reaches}
@@ -56,9 +58,13 @@ Ends _ _ s t = ⊥
 abbrev pub without_change : State → State
 without_change s = popped (record s { inhibited = false })
 
+-- the kept ends of a change are the uppermost of the kept places
+abbrev pub ChangeUnderWay : State → Type 0
+ChangeUnderWay s = (b : ℕ) × (from : ℕ) × (to : ℕ) × (saved_of s ≡ Pending b from to ∷ drop 1 (saved_of s))
+
 -- What a call that isn't answered yet has made of a state, over these exchanges and lines: what exchanges
--- left, and what handlers did that were entered in it; the functions before a change are entered with this
--- change under way. All the lines are those of the handlers, one after the other.
+-- left, and what handlers did that were entered in it. The functions before a change are entered while its
+-- ends are kept. All the lines are those of the handlers, one after the other.
 pub data LeftByCall (program : Program) (bound : ℕ) (s : State) : List Exchange → List Said → State → Type 0 where
   nothing : LeftByCall program bound s [] [] s
   exchanged : (x : Exchange) (exchanges : List Exchange) (said : List Said) (u t : State) →
@@ -71,7 +77,7 @@ pub data LeftByCall (program : Program) (bound : ℕ) (s : State) : List Exchang
       LeftByCall program bound s first said u → Handled program bound u t second more →
       LeftByCall program bound s (first ++ second) (said ++ more) t
   hooked : (first second : List Exchange) (said more : List Said) (u v w : State) →
-      LeftByCall program bound s first said u → without_change v ≡ u →
+      LeftByCall program bound s first said u → without_change v ≡ u → ChangeUnderWay v →
       Handled program bound v w second more →
       LeftByCall program bound s (first ++ second) (said ++ more) (without_change w)
 
