@@ -23,7 +23,7 @@ use Rattle.machine_laws.specs.Refusals.{Leaves}
 -- that of its entry and end with that of its exit. Its end makes the buffer of its entry current again,
 -- if this lives, and takes back what the entry raised; a hook list that a fault emptied is empty.
 pub record Handled (program : Program) (bound : ℕ) (s t : State) (exchanges : List Exchange)
-      (said : List Said) : Type 0 where
+    (said : List Said) : Type 0 where
   pub kind : Kind
   pub handler : Option ℕ
   pub args : List Value
