@@ -1,7 +1,7 @@
 //! A sink that counts what it is given.
-ghost use Rattle.std.specs.Prelude.{◌≡◌, ◌-◌, ◌%◌, ◌^◌, min, length, [], ◌∷◌, ◌++◌};
+ghost use Rattle.std.specs.Prelude.{◌≡◌, ◌-◌, ◌%◌, ◌^◌, min, length, [], ◌++◌};
 ghost use Rattle.plain_machine.specs.Grammar.{line_feeds};
-ghost use Rattle.run_counters.specs.Counting.{counting_state};
+ghost use Rattle.run_counters.specs.Counting.{counting_state, bytes_given};
 
 use ek_types::{Sink, Wrote};
 use http_server::Log;
@@ -27,6 +27,28 @@ impl Model for CountingSink {
 
     ghost invariant = { λ s. (s.lines ≡ line_feeds (bytes_given s.given.items) % 2 ^ 64) ×
         (s.bytes ≡ min (length (bytes_given s.given.items)) (2 ^ 64 - 1)) };
+}
+
+/// How many line feeds stand among the bytes.
+fn feeds(bytes: &[u8]) -> u64
+    ensures { result ≡ line_feeds bytes.now }
+{
+    let mut count = 0;
+    for byte in bytes {
+        if *byte == b'\n' {
+            count += 1;
+        }
+    }
+    count
+}
+
+/// Puts bytes into the history; at run time this does nothing.
+fn note(given: &mut Log<u8, ()>, bytes: &[u8])
+    ensures { bytes_given given.new.items ≡ bytes_given given.old.items ++ bytes.now }
+{
+    for byte in bytes {
+        *given = given.and(byte, &());
+    }
 }
 
 impl CountingSink {
@@ -55,14 +77,12 @@ impl CountingSink {
         self.bytes
     }
 
-    fn take(&mut self, byte: u8)
-        ensures { self.new ≡ self.old ++ byte ∷ [] }
+    fn take(&mut self, bytes: &[u8])
+        ensures { self.new ≡ self.old ++ bytes.now }
     {
-        if byte == b'\n' {
-            self.lines = self.lines.wrapping_add(1);
-        }
-        self.bytes = self.bytes.saturating_add(1);
-        self.given = self.given.and(&byte, &());
+        self.lines = self.lines.wrapping_add(feeds(bytes));
+        self.bytes = self.bytes.saturating_add(bytes.len() as u64);
+        note(&mut self.given, bytes);
     }
 }
 
@@ -70,9 +90,7 @@ impl Sink for CountingSink {
     ghost state = { counting_state };
 
     fn write(&mut self, from: &[u8]) -> Wrote {
-        for byte in from {
-            self.take(*byte);
-        }
+        self.take(from);
         Wrote::Bytes(from.len())
     }
 }
