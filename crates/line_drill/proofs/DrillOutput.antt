@@ -1,7 +1,9 @@
 -- The output of the drill's child, line by line, and its pieces.
 use Rattle.std.proofs.Common.{◌≡◌, ℕ, zero, suc, ◌+◌, ◌-◌, ◌%◌, ◌<◌, ◌≤◌, min, List, [], ◌∷◌, ◌++◌, length, take, drop, map, refl, sym, ap, ◌∙◌, append_assoc, arith}
+use Rattle.std.specs.Ordering.{ord_min, nat_cmp}
+use Rattle.std.proofs.lemmas.Bool.Decides.{nat_tests}
 use Rattle.std.specs.Prelude.{decimal, Bool, true, false, ◌==◌}
-use Rattle.std.proofs.lemmas.List.{length-drop, take_min, drop_min, map-append}
+use Rattle.std.proofs.lemmas.List.{length-append, length-drop, drop-drop, take_min, drop_min, map-append}
 use Rattle.plain_machine.specs.Exchanges.{Answer, Bytes}
 use Rattle.plain_machine.specs.Drill.{output_from, pieces}
 use Rattle.ek_types.specs.Listing.{items_of}
@@ -23,7 +25,17 @@ line_more k lines all output less so_far =
     append_assoc ((all ++ letter) ++ decimal k) (10 ∷ []) rest ∙ append_assoc (all ++ letter) (decimal k) (10 ∷ rest) ∙ append_assoc all letter (decimal k ++ 10 ∷ rest) ∙
     ap (λ l. all ++ l) (sym (first_line k lines less)) ∙ so_far
 
+-- one line more takes its number and four bytes
+pub line_longer : (k lines : ℕ) → k < lines → length (output_from k (lines - k)) ≡ length (decimal k) + 4 + length (output_from (k + 1) (lines - (k + 1)))
+line_longer k lines less =
+    let rest : List ℕ = output_from (k + 1) (lines - (k + 1)) in
+    ap length (first_line k lines less) ∙ rw (length-append (decimal k) (10 ∷ rest)) (omega arith)
+
 -- PIECES
+-- the lesser of two numbers, as the code has it
+pub lesser_is : (a b : ℕ) → ord_min nat_cmp a b ≡ min a b
+lesser_is a b = grind (arith, nat_tests)
+
 -- the number of turns doesn't matter, where there are enough
 enough : (a b size : ℕ) (bytes : List ℕ) → length bytes ≤ a → length bytes ≤ b → 1 ≤ size → pieces a size bytes ≡ pieces b size bytes
 enough zero zero size bytes h k p = refl
@@ -47,6 +59,18 @@ piece_more : (size : ℕ) (left : List ℕ) (given all : List Answer) → 1 ≤ 
 piece_more size left given all p some so_far =
     rw (take_min size left, drop_min size left)
     (append_assoc given (Bytes (take size left) ∷ []) (map Bytes (pieces (length (drop size left)) (size % 7 + 1) (drop size left))) ∙ ap (λ l. given ++ map Bytes l) (sym (first_piece size left p some)) ∙ so_far)
+
+-- one piece fewer is counted, where what it takes is gone from what is left
+pub piece_fewer : (size n left bytes : ℕ) (output : List ℕ) → 1 ≤ size → 1 ≤ left → left ≤ bytes → bytes ≡ length output → n ≡ min size left →
+    length (pieces left size (drop (bytes - left) output)) ≡ suc (length (pieces (left - n) (size % 7 + 1) (drop (bytes - (left - n)) output)))
+piece_fewer size n left bytes output p some within long few =
+    let rest : List ℕ = drop (bytes - left) output in
+    let remains : length rest ≡ left = omega (arith, length-drop (bytes - left) output) in
+    let first : length (pieces (length rest) size rest) ≡ suc (length (pieces (length (drop size rest)) (size % 7 + 1) (drop size rest))) = ap length (first_piece size rest p (omega arith)) in
+    let behind : drop (bytes - (left - n)) output ≡ drop size rest =
+    ap (λ i. drop i output) (omega arith) ∙ sym (drop-drop n (bytes - left) output) ∙ ap (λ i. drop i rest) (few ∙ ap (min size) (sym remains)) ∙ drop_min size rest in
+    let less : left - n ≡ length (drop size rest) = omega (arith, length-drop size rest) in
+    ap (λ i. length (pieces i size rest)) (sym remains) ∙ first ∙ rw (behind, less) refl
 
 pub read_more : (size n : ℕ) (left front back : List ℕ) (old new : ListOf declared.Answer) (x : declared.Answer) (all : List Answer) →
     n ≡ min size (length left) → front ≡ take n left → back ≡ drop n left → answer_of x ≡ Bytes front → items_of new ≡ items_of old ++ x ∷ [] → 1 ≤ size → 1 ≤ length left →

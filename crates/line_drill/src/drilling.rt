@@ -5,6 +5,7 @@ ghost use Rattle.ek_call.specs.Meaning.{script_of};
 ghost use Rattle.host_link.specs.Cursors.{whole_play};
 ghost use Rattle.line_drill.specs.DrillHost.{drill_host, host_over};
 
+use crate::counted_reads::waits;
 use crate::drill_child::child;
 use crate::drill_script::script;
 use ek_call::Script;
@@ -25,8 +26,7 @@ fn host(alloc: Global, child: Play) -> Mem<MemoryHost>
 pub fn script_of_drill(alloc: Global, lines: u32) -> Mem<Script>
     ensures { IfOk result (λ script. script_of script ≡ drill_script lines) }
 {
-    let child = child(alloc, lines)?;
-    script(alloc, child.reads.len())
+    script(alloc, waits(lines))
 }
 
 /// A new host with the one child of the drill of so many lines, of which no call fails.

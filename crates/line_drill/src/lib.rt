@@ -1,6 +1,7 @@
 //! The drill by which the program measures itself: a script, and a host in memory with its one child.
 #![tactic(auto)]
 
+mod counted_reads;
 mod drill_child;
 mod drill_script;
 mod drilling;

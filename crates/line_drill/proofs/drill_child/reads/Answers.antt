@@ -1,16 +1,10 @@
-use Rattle.std.proofs.Common.{◌≡◌, ℕ, length, map, min, ap, ◌∙◌, arith}
-use Rattle.std.specs.Ordering.{ord_min, nat_cmp}
-use Rattle.std.proofs.lemmas.Bool.Decides.{nat_tests}
+use Rattle.std.proofs.Common.{length, map, ap, ◌∙◌, arith}
 use Rattle.std.proofs.lemmas.Nat.{mod_below}
 use Rattle.plain_machine.specs.Exchanges.{Bytes}
 use Rattle.plain_machine.specs.Drill.{pieces}
 use Rattle.host_link.specs.declared.asking.Answer.TheVariants as answer
-use Rattle.line_drill.proofs.DrillOutput.{read_more, is_some}
+use Rattle.line_drill.proofs.DrillOutput.{lesser_is, read_more, is_some}
 use Rattle.line_drill.proofs.drill_child.reads.Goals as goal
-
--- the lesser of two numbers, as the code has it
-lesser_is : (a b : ℕ) → ord_min nat_cmp a b ≡ min a b
-lesser_is a b = grind (arith, nat_tests)
 
 pub loop-left-preserved : goal.loop-left-preserved
 loop-left-preserved c = record {
