@@ -4,7 +4,7 @@ use Rattle.std.specs.Prelude.{Option}
 use Rattle.std.proofs.lemmas.List.{length-append, take_at, drop_at}
 use Rattle.plain_machine.specs.Exchanges.{Exchange, children_started}
 use Rattle.plain_machine.specs.Grammar.{line_feeds}
-use Rattle.journal_text.specs.Lines.{line, journal, claim, transcript}
+use Rattle.journal_text.specs.Lines.{line, journal, claim, transcript, longest_session}
 use Rattle.journal_text.specs.Allowed.{IsLine, IsJournal}
 use Rattle.journal_text.specs.Transcripts.{between, IsTranscriptTo, IsPlaced, HasNoTranscript, IsLinedFront, IsTranscriptFault, unclaimed, unended}
 use Rattle.journal_text.specs.Reading.{behind, line_at, claim_at}
@@ -115,7 +115,7 @@ pub script_size : (last script : List ℕ) → behind last_line last ≡ Some sc
 script_size last script e = omega (arith, ap length (behind_is last_line last script e), length-append last_line script)
 
 pub one_claim : (bytes : List ℕ) (list : List Exchange) (rest : List ℕ) (other : List Exchange) (claimed script : List ℕ)
-    → length bytes ≤ 268435456 → IsLinedFront bytes list rest → IsJournal other → bytes ≡ transcript other claimed script → Claimed list other rest claimed (last_line ++ script)
+    → length bytes ≤ longest_session → IsLinedFront bytes list rest → IsJournal other → bytes ≡ transcript other claimed script → Claimed list other rest claimed (last_line ++ script)
 one_claim bytes list rest other claimed script short h k e =
     let none = unlined bytes list rest h in
     let zero_more : length (children_started list) ≡ 0 + length (children_started list) = omega arith in
@@ -124,7 +124,7 @@ one_claim bytes list rest other claimed script short h k e =
     record { lists = same.lists; there = ap claim_at same.rests ∙ claim_there claimed (last_line ++ script) small }
 
 pub same_transcript : (bytes : List ℕ) (list : List Exchange) (rest claimed last script : List ℕ) (from to at : ℕ) (other : List Exchange) (lines end : List ℕ)
-    → length bytes ≤ 268435456 → IsLinedFront bytes list rest → claim_at rest ≡ Some (claimed, last) → behind last_line last ≡ Some script → Places bytes claimed last script from to at
+    → length bytes ≤ longest_session → IsLinedFront bytes list rest → claim_at rest ≡ Some (claimed, last) → behind last_line last ≡ Some script → Places bytes claimed last script from to at
     → IsJournal other → bytes ≡ transcript other lines end → IsPlaced bytes list from to at other lines end
 same_transcript bytes list rest claimed last script from to at other lines end short h e f p k g =
     let one = one_claim bytes list rest other lines end short h k g in
@@ -139,19 +139,19 @@ same_transcript bytes list rest claimed last script from to at other lines end s
     }
 
 -- WHERE THERE IS NONE
-pub unclaimed_none : (bytes : List ℕ) (list : List Exchange) (rest : List ℕ) → length bytes ≤ 268435456 → IsLinedFront bytes list rest → claim_at rest ≡ None → HasNoTranscript bytes
+pub unclaimed_none : (bytes : List ℕ) (list : List Exchange) (rest : List ℕ) → length bytes ≤ longest_session → IsLinedFront bytes list rest → claim_at rest ≡ None → HasNoTranscript bytes
 unclaimed_none bytes list rest short h none = λ other claimed script k e.
     let one = one_claim bytes list rest other claimed script short h k e in
     none_is_some (claim_at rest) (claimed, last_line ++ script) none one.there
 
-pub unended_none : (bytes : List ℕ) (list : List Exchange) (rest claimed last : List ℕ) → length bytes ≤ 268435456 → IsLinedFront bytes list rest
+pub unended_none : (bytes : List ℕ) (list : List Exchange) (rest claimed last : List ℕ) → length bytes ≤ longest_session → IsLinedFront bytes list rest
     → claim_at rest ≡ Some (claimed, last) → behind last_line last ≡ None → HasNoTranscript bytes
 unended_none bytes list rest claimed last short h e none = λ other lines script k g.
     let one = one_claim bytes list rest other lines script short h k g in
     let second : last ≡ last_line ++ script = ap (λ (x : List ℕ × List ℕ). x.1) (same_some (claimed, last) (lines, last_line ++ script) (sym e ∙ one.there)) in
     none_is_some (behind last_line last) script none (ap (behind last_line) second ∙ behind_there last_line script)
 
-pub unclaimed_fault : (bytes : List ℕ) (list : List Exchange) (rest : List ℕ) → length bytes ≤ 268435456 → IsLinedFront bytes list rest → claim_at rest ≡ None
+pub unclaimed_fault : (bytes : List ℕ) (list : List Exchange) (rest : List ℕ) → length bytes ≤ longest_session → IsLinedFront bytes list rest → claim_at rest ≡ None
     → IsTranscriptFault bytes (length list + 1)
 unclaimed_fault bytes list rest short h none =
     unclaimed list rest h

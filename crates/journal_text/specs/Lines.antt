@@ -62,6 +62,10 @@ journal list = flat_map line list
 abbrev pub session : List Exchange → (script : List ℕ) → List ℕ
 session list script = journal list ++ (codes "script\n" ++ script)
 
+-- how many bytes a session may have, and a transcript
+abbrev pub longest_session : ℕ
+longest_session = 268435456
+
 -- CLAIMED LINES, behind a line with the number of their bytes
 abbrev pub claim : (claimed : List ℕ) → List ℕ
 claim claimed = codes "lines " ++ (decimal (length claimed) ++ 10 ∷ claimed)

@@ -31,7 +31,7 @@ fn hex_value(c: u8) -> u8
     ensures value { result ≡ hex_value c }
     ensures small { result < 16 }
 {
-    if c < 58 { c - 48 } else { c - 87 }
+    if c <= b'9' { c - b'0' } else { c - (b'a' - 10) }
 }
 
 /// Whether there is an even number of digits.

@@ -3,7 +3,7 @@ ghost use Rattle.std.specs.Prelude.{◌≡◌, ◌<◌, ◌≤◌, ◌+◌, ◌-
 ghost use Rattle.plain_machine.specs.Exchanges.{Exchange as Meant, started_by};
 ghost use Rattle.host_link.specs.Meaning.{answer_of, exchanges_of};
 ghost use Rattle.plain_machine.specs.Grammar.{line_feeds};
-ghost use Rattle.journal_text.specs.Lines.{session, transcript};
+ghost use Rattle.journal_text.specs.Lines.{session, transcript, longest_session};
 ghost use Rattle.journal_text.specs.Allowed.{IsJournal, AreAnswered};
 ghost use Rattle.journal_text.specs.Journals.{IsReadTo, HasNoJournal, IsFaultLine};
 ghost use Rattle.journal_text.specs.Transcripts.{IsTranscriptTo, IsPlaced, HasNoTranscript};
@@ -51,7 +51,7 @@ fn next_child(next: u32, answer: &Answer) -> u32
 
 /// The exchanges of the good lines at the front of the bytes, and the bytes behind them.
 fn good_lines(alloc: Global, bytes: &[u8]) -> Mem<(Exchanges, &[u8])>
-    requires { length bytes.now ≤ 268435456 }
+    requires { length bytes.now ≤ longest_session }
     ensures { IfOk result (λ r. IsLinedFront bytes.now (exchanges_of r.0) r.1.now) }
 {
     let mut list = ListOf::new(alloc);
@@ -70,7 +70,7 @@ fn good_lines(alloc: Global, bytes: &[u8]) -> Mem<(Exchanges, &[u8])>
 /// The exchanges of the journal at the front of the bytes, and the place where the script behind it begins. At most
 /// 268,435,456 bytes are given. They are read in one go from left to right.
 pub fn read_journal(alloc: Global, bytes: &[u8]) -> Result<(Exchanges, usize), JournalFault>
-    requires { length bytes.now ≤ 268435456 }
+    requires { length bytes.now ≤ longest_session }
     ensures read { IfOk result (λ r. IsReadTo bytes.now (exchanges_of r.0) r.1) }
     ensures within { IfOk result (λ r. r.1 ≤ length bytes.now) }
     ensures answered { IfOk result (λ r. AreAnswered 0 (exchanges_of r.0)) }
@@ -103,7 +103,7 @@ pub struct Transcript {
 /// The parts of a transcript. Behind its journal stand the line `lines N`, N bytes of claimed lines, the line
 /// `script` and the script. At most 268,435,456 bytes are given. They are read in one go from left to right.
 pub fn read_transcript(alloc: Global, bytes: &[u8]) -> Result<Transcript, JournalFault>
-    requires { length bytes.now ≤ 268435456 }
+    requires { length bytes.now ≤ longest_session }
     ensures read { IfOk result (λ t. IsTranscriptTo bytes.now (exchanges_of t.journal) t.from t.to t.script) }
     ensures answered { IfOk result (λ t. AreAnswered 0 (exchanges_of t.journal)) }
     ensures line { (n : ℕ) → result ≡ Err (JournalFault.Line n) → IsTranscriptFault bytes.now n }
@@ -132,7 +132,7 @@ pub fn read_transcript(alloc: Global, bytes: &[u8]) -> Result<Transcript, Journa
 
 /// How many line feeds stand among the bytes.
 fn line_feeds(bytes: &[u8]) -> u32
-    requires { length bytes.now ≤ 268435456 }
+    requires { length bytes.now ≤ longest_session }
     ensures exact { result ≡ line_feeds bytes.now }
     ensures few { result ≤ length bytes.now }
 {

@@ -19,18 +19,18 @@ fn hex_digit(n: u8) -> u8
     if n < 10 { b'0' + n } else { b'a' - 10 + n }
 }
 
-fn hex_byte<K: Sink>(out: &mut Printer<'_, K>, byte: u8)
-    ensures { Prints K.state out.old out.new (hex_byte byte) }
+/// The two digits of a byte.
+fn hex_byte(byte: u8) -> [u8; 2]
+    ensures { result ≡ hex_byte byte }
 {
-    out.put_byte(hex_digit(byte / 16));
-    out.put_byte(hex_digit(byte % 16));
+    [hex_digit(byte / 16), hex_digit(byte % 16)]
 }
 
 fn hex<K: Sink>(out: &mut Printer<'_, K>, bytes: &[u8])
     ensures { Prints K.state out.old out.new (hex bytes.now) }
 {
     'bytes: for i in 0..bytes.len() {
-        hex_byte(out, bytes[i]);
+        out.put(&hex_byte(bytes[i]));
     }
 }
 

@@ -6,7 +6,8 @@ use ek_types::Mem;
 use host_link::{Ended, Exchanges, Got, Host, KillAnswer, SendAnswer, Spawned};
 
 /// Hands each call on to another host. It says of each exchange, besides what that host says, that it has a line in a
-/// journal, if it asks for a program with a name and words without the byte 0, or to send one byte or more.
+/// journal. Left out are a program without a name or with the byte 0 in its name or words, a send of no bytes, and a
+/// read with room for more than 4,096 bytes.
 #[derive(Drop)]
 pub struct LinedHost<'a, H> {
     inner: &'a mut H,

@@ -9,13 +9,7 @@ ghost use Rattle.journal_text.specs.Reading.{behind, is_number, number_at, code_
 pub(crate) fn behind<'a>(text: &[u8], bytes: &'a [u8]) -> Option<&'a [u8]>
     ensures { option_map (λ rest. rest.now) result ≡ behind text.now bytes.now }
 {
-    match text {
-        [] => Some(bytes),
-        [first, more @ ..] => match bytes {
-            [byte, rest @ ..] if first == byte => behind(more, rest),
-            _ => None,
-        },
-    }
+    bytes.strip_prefix(text)
 }
 
 fn is_digit(c: u8) -> bool

@@ -7,9 +7,8 @@ use Rattle.plain_machine.specs.Exchanges.{Exchange}
 use Rattle.plain_machine.specs.State.{Program}
 use Rattle.plain_machine.specs.Grammar.{IsScript}
 use Rattle.ek_types.specs.Io.{SinkState, Writes}
-use Rattle.journal_text.specs.Lines.{journal, claim}
+use Rattle.journal_text.specs.Lines.{journal, claim, longest_session}
 use Rattle.journal_text.specs.Transcripts.{between, IsTranscriptTo}
-use Rattle.kernel_top.specs.Sessions.{longest_session}
 use Rattle.kernel_top.specs.Scripts.{IsNoScript}
 use Rattle.kernel_top.specs.Checking.{Judged, Checked, yes, Told}
 use Rattle.kernel_top.specs.Outcomes.{written_status}

@@ -11,6 +11,7 @@ use Rattle.plain_machine.specs.Grammar.{longest_script, IsScript}
 use Rattle.plain_machine.specs.Drill.{drill_script}
 use Rattle.ek_types.specs.Io.{SourceState, SinkState, Rose, Writes}
 use Rattle.host_link.specs.Hosts.{HostState}
+use Rattle.journal_text.specs.Lines.{longest_session}
 use Rattle.kernel_steps.specs.Outcomes.{EndsAs}
 use Rattle.kernel_steps.specs.declared.stop.Stop.{Stop}
 use Rattle.kernel_steps.specs.declared.stop.Stop.TheVariants as stop
@@ -19,7 +20,6 @@ use Rattle.kernel_top.specs.Reading.{HasEnded, IsAll}
 use Rattle.kernel_top.specs.Scripts.{HasNoScript, IsNoScript, IsUnreadScript, IsLeftUnread}
 use Rattle.kernel_top.specs.Drills.{SumsUp}
 use Rattle.kernel_top.specs.Checking.{OfCheck}
-use Rattle.kernel_top.specs.Sessions.{longest_session}
 use Rattle.kernel_top.specs.Replaying.{ReadAnd, SourceSettled}
 use Rattle.kernel_top.specs.Outcomes.{status_of, written_status, Seen, seen, IsQuiet, OnScript, OnRun, OnRecord, OnReplay, OnCheck, OnView, OnDrill, OnSession, IsUnread, Outcome, most_read, Came, CameSo, OfBytes, Ends, EndsOrOverflows, EndsOrFills, EndsOrRefuses, EndsOrJudges, UnlessFaults, OnScriptUnlessFaults, Completes}
 use Rattle.command_words.specs.declared.commands.Command.{Command}

@@ -7,7 +7,7 @@ use Rattle.plain_machine.specs.Exchanges.{Exchange}
 use Rattle.plain_machine.specs.State.{State, Program}
 use Rattle.plain_machine.specs.Grammar.{IsScript}
 use Rattle.ek_types.specs.Io.{SourceState, SinkState}
-use Rattle.journal_text.specs.Lines.{ask_words, answer_words, line, journal}
+use Rattle.journal_text.specs.Lines.{ask_words, answer_words, line, journal, longest_session}
 use Rattle.journal_text.specs.Allowed.{AreAnswered}
 use Rattle.journal_text.specs.Journals.{IsReadTo}
 use Rattle.journal_text.specs.Replayed.{ReplayState, host_state, new_replay, Replays}
@@ -17,7 +17,6 @@ use Rattle.kernel_steps.specs.declared.stop.Stop.{Stop}
 use Rattle.kernel_steps.specs.declared.stop.Stop.TheVariants as stop
 use Rattle.kernel_top.specs.Reading.{IsAll, IsGivenUp}
 use Rattle.kernel_top.specs.Scripts.{IsNoScript}
-use Rattle.kernel_top.specs.Sessions.{longest_session}
 use Rattle.kernel_top.specs.Unseen.{IsWhole}
 use Rattle.kernel_top.specs.Replaying.{Followed, IsUnreadSession, ReplayedOn, Replayed, SourceSettled, HasNoSession}
 use Rattle.kernel_top.specs.Outcomes.{status_of}

@@ -7,7 +7,8 @@ use Rattle.text_model.proofs.Cases.{same_tests}
 use Rattle.ek_types.specs.Io.{SinkState, Writes, Continues}
 use Rattle.ek_types.proofs.Printing.{continues_then, writes_of}
 use Rattle.run_counters.specs.Counting.{counting_state}
-use Rattle.kernel_top.specs.Sessions.{longest_session, fits, Written, IsTooLong}
+use Rattle.journal_text.specs.Lines.{longest_session}
+use Rattle.kernel_top.specs.Sessions.{fits, Written, IsTooLong}
 use Rattle.kernel_top.specs.Outcomes.{written_status}
 use Rattle.kernel_top.proofs.Writing.{all_written, front_written}
 

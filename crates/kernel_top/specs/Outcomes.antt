@@ -9,6 +9,7 @@ use Rattle.plain_machine.specs.Grammar.{longest_script, IsScript}
 use Rattle.plain_machine.specs.Drill.{drill_script}
 use Rattle.ek_types.specs.Io.{SourceState, SinkState, Rose}
 use Rattle.host_link.specs.Hosts.{HostState}
+use Rattle.journal_text.specs.Lines.{longest_session}
 use Rattle.session_laws.specs.Sessions.{StartsInTurn}
 use Rattle.kernel_steps.specs.HostCalls.{CallsSince, TellsBehind}
 use Rattle.kernel_steps.specs.Outcomes.{RanScript, StoppedScript}
@@ -19,7 +20,7 @@ use Rattle.kernel_top.specs.Reading.{HasEnded}
 use Rattle.kernel_top.specs.Scripts.{HasNoScript}
 use Rattle.kernel_top.specs.Writing.{IsWhollyWritten, IsFrontWritten}
 use Rattle.kernel_top.specs.Drills.{SumsUp}
-use Rattle.kernel_top.specs.Sessions.{longest_session, Records, BreaksOffUnseen}
+use Rattle.kernel_top.specs.Sessions.{Records, BreaksOffUnseen}
 use Rattle.kernel_top.specs.Replaying.{ReadAnd, Replayed}
 use Rattle.kernel_top.specs.Checking.{Told}
 use Rattle.kernel_top.specs.Viewing.{Viewed}

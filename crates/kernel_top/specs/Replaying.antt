@@ -9,11 +9,10 @@ use Rattle.plain_machine.specs.Run.{lines}
 use Rattle.plain_machine.specs.Grammar.{IsScript}
 use Rattle.std.specs.Io.KnownBytes.{Consumes, Appends}
 use Rattle.ek_types.specs.Io.{SourceState, SinkState}
-use Rattle.journal_text.specs.Lines.{session}
+use Rattle.journal_text.specs.Lines.{session, longest_session}
 use Rattle.journal_text.specs.Allowed.{IsJournal}
 use Rattle.journal_text.specs.Journals as journals
 use Rattle.kernel_steps.specs.Outcomes.{RanScript}
-use Rattle.kernel_top.specs.Sessions.{longest_session}
 use Rattle.kernel_top.specs.Reading.{HasEnded}
 use Rattle.kernel_top.specs.Scripts.{HasNoScript}
 use Rattle.kernel_top.specs.Unseen.{IsWhole}

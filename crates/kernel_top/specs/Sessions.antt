@@ -5,16 +5,12 @@ use Rattle.editor_model.specs.Values.{Script}
 use Rattle.plain_machine.specs.Exchanges.{Exchange}
 use Rattle.plain_machine.specs.State.{Program}
 use Rattle.ek_types.specs.Io.{SinkState}
-use Rattle.journal_text.specs.Lines.{session}
+use Rattle.journal_text.specs.Lines.{session, longest_session}
 use Rattle.journal_text.specs.Allowed.{AreLines}
 use Rattle.kernel_top.specs.Unseen.{IsWhole, IsBrokenOff}
 use Rattle.kernel_top.specs.Writing.{IsWhollyWritten, IsFrontWritten}
 use Rattle.kernel_top.specs.declared.status.Status.{Status}
 use Rattle.kernel_top.specs.declared.status.Status.TheVariants as status
-
--- how many bytes a session may have
-abbrev pub longest_session : ℕ
-longest_session = 268435456
 
 abbrev pub fits : List ℕ → Bool
 fits bytes = nat_le (length bytes) longest_session

@@ -5,9 +5,9 @@ ghost use Rattle.std.specs.Io.KnownBytes.{Appends};
 ghost use Rattle.ek_types.specs.Io.{HasCause};
 ghost use Rattle.ek_call.specs.Meaning.{script_of};
 ghost use Rattle.host_link.specs.Meaning.{exchanges_of};
+ghost use Rattle.journal_text.specs.Lines.{longest_session};
 ghost use Rattle.journal_text.specs.Transcripts.{IsTranscriptTo};
 ghost use Rattle.kernel_state.specs.Whole.{program_with};
-ghost use Rattle.kernel_top.specs.Sessions.{longest_session};
 ghost use Rattle.kernel_top.specs.Checking.{Judged, Checked, Told};
 ghost use Rattle.kernel_top.specs.Replaying.{SourceSettled};
 

@@ -3,10 +3,10 @@ ghost use Rattle.std.specs.Prelude.{◌≡◌, ◌<◌, ◌^◌, IfOk, IfErr, Is
 ghost use Rattle.plain_machine.specs.Grammar.{longest_script, IsScript};
 ghost use Rattle.ek_types.specs.Io.{HasCause};
 ghost use Rattle.ek_call.specs.Meaning.{script_of};
+ghost use Rattle.journal_text.specs.Lines.{longest_session};
 ghost use Rattle.kernel_top.specs.Reading.{IsAll, IsGivenUp};
 ghost use Rattle.kernel_top.specs.Scripts.{IsNoScript, IsLeftUnread};
 ghost use Rattle.kernel_top.specs.Replaying.{HasNoSession};
-ghost use Rattle.kernel_top.specs.Sessions.{longest_session};
 
 use crate::status::Status;
 use ek_call::Script;

@@ -5,10 +5,10 @@ ghost use Rattle.plain_machine.specs.Exchanges.{Exchange};
 ghost use Rattle.ek_types.specs.Io.{HasCause};
 ghost use Rattle.ek_call.specs.Meaning.{script_of};
 ghost use Rattle.host_link.specs.Meaning.{exchanges_of};
+ghost use Rattle.journal_text.specs.Lines.{longest_session};
 ghost use Rattle.journal_text.specs.Allowed.{IsJournal, AreAnswered};
 ghost use Rattle.journal_text.specs.Replayed.{new_replay};
 ghost use Rattle.kernel_state.specs.Whole.{program_with};
-ghost use Rattle.kernel_top.specs.Sessions.{longest_session};
 ghost use Rattle.kernel_top.specs.Unseen.{IsWhole};
 ghost use Rattle.kernel_top.specs.Replaying.{Followed, ReplayedOn, Replayed, SourceSettled};
 

@@ -3,6 +3,7 @@ use Rattle.std.proofs.lemmas.List.{length-map}
 use Rattle.ek_types.specs.Listing.{items_of}
 use Rattle.host_link.specs.Meaning.{exchanges_of, exchange_of}
 use Rattle.plain_machine.specs.Grammar.{line_feeds}
+use Rattle.journal_text.specs.Lines.{longest_session}
 use Rattle.journal_text.specs.Transcripts.{IsTranscriptFault}
 use Rattle.journal_text.proofs.Journals.{answered_from, same_line}
 use Rattle.journal_text.proofs.Transcripts.{so_far, sizes, script_size, transcript_to, same_transcript, unclaimed_none, unended_none, unclaimed_fault, unended_fault}
@@ -38,7 +39,7 @@ returns-in_default-clause-found c = λ list claimed script k e. absurd (unclaime
 pub line_feeds-requires : goal.line_feeds-requires
 line_feeds-requires c =
     let size = sizes c.args.bytes.now (exchanges_of c.in_ok-journal.journal) c.in_ok-journal.rest.now c.in-Some.claimed.now c.in-Some.last.now c.in_ok-journal.ensures (sym c.in-Some.ensures) in
-    let few : length c.in-Some.claimed.now ≤ 268435456 = omega (arith, size, c.requires) in
+    let few : length c.in-Some.claimed.now ≤ longest_session = omega (arith, size, c.requires) in
     few
 
 pub overflow_add-result : goal.overflow_add-result

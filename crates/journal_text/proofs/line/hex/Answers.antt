@@ -10,7 +10,7 @@ bytes-init g c = prints_nothing
 
 pub bytes-preserved : goal.bytes-preserved
 bytes-preserved g c =
-    prints_same (one_on hex_byte c.args.bytes.now c.bytes.i (get_or c.args.bytes.now c.bytes.i 0) (slice_get-get_or c.args.bytes.now c.bytes.i 0 c.bytes-test.true)) (prints_then c.bytes.invariant c.hex_byte.ensures)
+    prints_same (one_on hex_byte c.args.bytes.now c.bytes.i (get_or c.args.bytes.now c.bytes.i 0) (slice_get-get_or c.args.bytes.now c.bytes.i 0 c.bytes-test.true)) (prints_then c.bytes.invariant (prints_same c.hex_byte.ensures c.put.ensures))
 
 pub returns : goal.returns
 returns g c = prints_same (all_of hex_byte c.args.bytes.now c.bytes.i c.bytes-test.false) c.bytes.invariant

@@ -1,8 +1,8 @@
 use Rattle.std.proofs.Common.{sym, subst, ap, Err, arith}
 use Rattle.std.proofs.KnownBytes.{Appends-nil}
+use Rattle.journal_text.specs.Lines.{longest_session}
 use Rattle.kernel_state.specs.Whole.{program_with}
 use Rattle.kernel_top.specs.Reading.{IsAll}
-use Rattle.kernel_top.specs.Sessions.{longest_session}
 use Rattle.kernel_top.specs.Replaying.{Replayed, IsUnreadSession}
 use Rattle.kernel_top.proofs.Replays.{source_settled, source_unread, no_read_fault}
 use Rattle.kernel_top.proofs.replaying.replay_source.Goals as goal
