@@ -1,5 +1,5 @@
 -- When a native's call is made, by its three tests.
-use Rattle.std.proofs.Common.{◌≡◌, Bool, true, false, ◌&&◌, List, length, map, refl, ap, ◌∙◌}
+use Rattle.std.proofs.Common.{◌≡◌, Bool, true, false, ◌&&◌, List, length, map, ap, ◌∙◌}
 use Rattle.std.specs.Prelude.{Option, Some, None}
 use Rattle.std.specs.List.{list_all}
 use Rattle.editor_model.specs.Values.{Value, Prim}

@@ -1,11 +1,11 @@
 -- Lists of values: their normal form, and whether all in them was made.
-use Rattle.std.proofs.Common.{◌≡◌, ◌<◌, ℕ, Bool, ◌&&◌, ◌+◌, List, [], ◌∷◌, ◌++◌, length, map, take, refl, ap, sym, ◌∙◌, slice_get, Some, arith}
+use Rattle.std.proofs.Common.{◌≡◌, ◌<◌, ℕ, ◌&&◌, ◌+◌, List, [], ◌∷◌, ◌++◌, length, map, take, refl, ap, sym, ◌∙◌, slice_get, Some, arith}
 use Rattle.std.specs.List.{list_all}
 use Rattle.std.proofs.lemmas.List.{map-append}
 use Rattle.text_model.proofs.Lists.{take_one_more}
 use Rattle.ek_call.specs.Meaning.{view}
 use Rattle.ek_call.specs.declared.value.Value.{Value as Written}
-use Rattle.editor_model.specs.Values.{Value, Values, Items, More, End, values}
+use Rattle.editor_model.specs.Values.{Value, Items, More, values}
 use Rattle.plain_machine.specs.State.{State, Program}
 use Rattle.plain_machine.specs.Natives.{normal, normal_each, was_made, each_was_made}
 

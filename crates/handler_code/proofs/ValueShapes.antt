@@ -1,6 +1,5 @@
 -- What each kind of value stands for that is or holds an object or other values.
-use Rattle.std.proofs.Common.{◌≡◌, ℕ, Bool, ◌&&◌, nat_lt, map, ap, sym, ◌∙◌}
-use Rattle.std.specs.Prelude.{replicate, length}
+use Rattle.std.proofs.Common.{◌≡◌, ℕ, ◌&&◌, nat_lt, map, ap, sym, ◌∙◌}
 use Rattle.std.specs.List.{list_all}
 use Rattle.std.specs.declared.alloc.Global.{Global}
 use Rattle.std.proofs.Common.{Box}

@@ -9,23 +9,26 @@ ghost use Rattle.handler_code.specs.Counts.{AreMade};
 
 use crate::made::{Made, are_made};
 use crate::native::NativeCall;
-use crate::normal::normal_values;
+use crate::normal::{are_normal, normal_values};
 use ek_call::Primitive;
 use ek_types::Mem;
 
 /// A native's call as it is made, with nil in the place of each empty list. There is none where the number of its
 /// arguments is wrong, or where an argument is or contains a buffer, marker, overlay, process or symbol that was
 /// never made. Such a call is refused as one of a wrong type, before anything else is tested. `made` has the counts
-/// of the run as it stands.
-pub fn allowed(made: &Made, asked: &NativeCall) -> Mem<Option<NativeCall>>
+/// of the run as it stands. Where no empty list is in the arguments, the call itself is given back, with no copy.
+pub fn allowed(made: &Made, asked: NativeCall) -> Mem<Option<NativeCall>>
     ensures { IfOk result (λ call. (program : Program) (s : State) → AreMade made.now program s →
-        option_map call_asked call ≡ may program s (call_asked asked.now)) }
+        option_map call_asked call ≡ may program s (call_asked asked)) }
 {
     if !may_take(asked.prim, asked.args.len()) {
         return Ok(None);
     }
     if !are_made(&asked.args, made) {
         return Ok(None);
+    }
+    if are_normal(&asked.args) {
+        return Ok(Some(asked));
     }
     Ok(Some(NativeCall {
         prim: asked.prim,

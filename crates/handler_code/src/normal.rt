@@ -1,5 +1,5 @@
 //! Values in which each empty list is nil.
-ghost use Rattle.std.specs.Prelude.{◌≡◌, ◌<◌, map, length, IfOk};
+ghost use Rattle.std.specs.Prelude.{◌≡◌, ◌<◌, map, length, IfOk, IsTrue};
 ghost use Rattle.plain_machine.specs.Natives.{normal};
 ghost use Rattle.ek_types.specs.Listing.{items_of};
 ghost use Rattle.ek_call.specs.Meaning.{view};
@@ -38,4 +38,40 @@ pub(crate) fn normal_values(values: &Values) -> Mem<Values>
         copies.push(normal_value(values.at(i))?)?;
     }
     Ok(copies)
+}
+
+/// Whether no empty list is in a value.
+#[cycle(test)]
+fn is_normal(value: &Value) -> bool
+    ensures { IsTrue result → view value.now ≡ normal (view value.now) }
+{
+    match value {
+        Value::List(items) => {
+            if items.len() == 0 {
+                return false;
+            }
+            are_normal(items)
+        }
+        Value::Dot(items, tail) => {
+            if !are_normal(items) {
+                return false;
+            }
+            is_normal(tail)
+        }
+        _ => true,
+    }
+}
+
+/// Whether no empty list is in some values.
+#[cycle(test)]
+pub(crate) fn are_normal(values: &Values) -> bool
+    ensures { IsTrue result →
+        map view (items_of values.now) ≡ map normal (map view (items_of values.now)) }
+{
+    for i in 0..values.len() {
+        if !is_normal(values.at(i)) {
+            return false;
+        }
+    }
+    true
 }

@@ -112,10 +112,10 @@ fn made<P: Program>(kernel: &KernelState, program: &P) -> Made
 pub(crate) fn allow<P: Program>(
     kernel: &KernelState,
     program: &P,
-    asked: &NativeCall,
+    asked: NativeCall,
 ) -> Mem<Option<NativeCall>>
     ensures { IfOk result (λ call. option_map call_asked call ≡
-        may (P.meant program.now) (state_of kernel.now) (call_asked asked.now)) }
+        may (P.meant program.now) (state_of kernel.now) (call_asked asked)) }
 {
     allowed(&made(kernel, program), asked)
 }

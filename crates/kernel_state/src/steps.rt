@@ -145,7 +145,7 @@ impl kernel_steps::Kernel for KernelState {
     }
 
     fn allowed<P: Program>(&self, program: &P, asked: NativeCall) -> Mem<Option<NativeCall>> {
-        handlers::allow(self, program, &asked)
+        handlers::allow(self, program, asked)
     }
 
     fn tell_entry<K: Sink>(

@@ -53,7 +53,7 @@ fn text(rt: &impl Abort, alloc: Global, value: &PropVal) -> Value {
 /// Whether a call with this argument is made.
 fn is_made(rt: &impl Abort, alloc: Global, prim: Primitive, arg: Value) -> bool {
     let asked = call(rt, alloc, prim, arg);
-    allowed(&FEW, &asked).expect(rt, "memory").is_some()
+    allowed(&FEW, asked).expect(rt, "memory").is_some()
 }
 
 /// A call of `set-buffer` with this argument is made, or it isn't.
@@ -101,7 +101,7 @@ fn are_list_of_nil(args: &[Value]) -> bool {
 /// A call of `set-buffer` with this argument is made with a list of nil.
 fn is_made_with_nil(rt: &impl Abort, alloc: Global, arg: Value) {
     let asked = call(rt, alloc, Primitive::SetBuffer, arg);
-    let made = allowed(&FEW, &asked).expect(rt, "memory");
+    let made = allowed(&FEW, asked).expect(rt, "memory");
     let made = made.expect(rt, "a call");
     holds(rt, are_list_of_nil(made.args.as_slice()));
 }

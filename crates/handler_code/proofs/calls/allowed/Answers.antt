@@ -12,15 +12,20 @@ use Rattle.handler_code.proofs.calls.allowed.Goals as goal
 
 pub returns-then-not-may_take : goal.returns-then-not-may_take
 returns-then-not-may_take c =
-    let count : takes (prim_of c.args.asked.now.prim) (length (map view (items_of c.args.asked.now.args))) ≡ false = ap (takes (prim_of c.args.asked.now.prim)) (length-map (items_of c.args.asked.now.args) view ∙ sym c.len.ensures) ∙ sym c.may_take.ensures ∙ c.if-not-may_take.true in
-    λ program s counts. sym (wrong_count program s (call_asked c.args.asked.now) count)
+    let count : takes (prim_of c.args.asked.prim) (length (map view (items_of c.args.asked.args))) ≡ false = ap (takes (prim_of c.args.asked.prim)) (length-map (items_of c.args.asked.args) view ∙ sym c.len.ensures) ∙ sym c.may_take.ensures ∙ c.if-not-may_take.true in
+    λ program s counts. sym (wrong_count program s (call_asked c.args.asked) count)
 
 pub returns-then-not-are_made : goal.returns-then-not-are_made
 returns-then-not-are_made c =
-    let count : takes (prim_of c.args.asked.now.prim) (length (map view (items_of c.args.asked.now.args))) ≡ true = ap (takes (prim_of c.args.asked.now.prim)) (length-map (items_of c.args.asked.now.args) view ∙ sym c.len.ensures) ∙ sym c.may_take.ensures ∙ c.if-not-may_take.false in
-    λ program s counts. sym (never_made program s (call_asked c.args.asked.now) count (sym (all_made_same c.args.made.now program s counts (map view (items_of c.args.asked.now.args))) ∙ sym c.are_made.ensures ∙ c.if-not-are_made.true))
+    let count : takes (prim_of c.args.asked.prim) (length (map view (items_of c.args.asked.args))) ≡ true = ap (takes (prim_of c.args.asked.prim)) (length-map (items_of c.args.asked.args) view ∙ sym c.len.ensures) ∙ sym c.may_take.ensures ∙ c.if-not-may_take.false in
+    λ program s counts. sym (never_made program s (call_asked c.args.asked) count (sym (all_made_same c.args.made.now program s counts (map view (items_of c.args.asked.args))) ∙ sym c.are_made.ensures ∙ c.if-not-are_made.true))
+
+pub returns-then-are_normal : goal.returns-then-are_normal
+returns-then-are_normal c =
+    let count : takes (prim_of c.args.asked.prim) (length (map view (items_of c.args.asked.args))) ≡ true = ap (takes (prim_of c.args.asked.prim)) (length-map (items_of c.args.asked.args) view ∙ sym c.len.ensures) ∙ sym c.may_take.ensures ∙ c.if-not-may_take.false in
+    λ program s counts. ap (λ vs. Some (prim_of c.args.asked.prim, vs)) (c.are_normal.ensures c.if-are_normal.true) ∙ sym (may_be program s (call_asked c.args.asked) count (sym (all_made_same c.args.made.now program s counts (map view (items_of c.args.asked.args))) ∙ sym c.are_made.ensures ∙ c.if-not-are_made.false))
 
 pub returns : goal.returns
 returns c =
-    let count : takes (prim_of c.args.asked.now.prim) (length (map view (items_of c.args.asked.now.args))) ≡ true = ap (takes (prim_of c.args.asked.now.prim)) (length-map (items_of c.args.asked.now.args) view ∙ sym c.len.ensures) ∙ sym c.may_take.ensures ∙ c.if-not-may_take.false in
-    λ program s counts. ap (λ vs. Some (prim_of c.args.asked.now.prim, vs)) c.in_ok-normal_values.ensures ∙ sym (may_be program s (call_asked c.args.asked.now) count (sym (all_made_same c.args.made.now program s counts (map view (items_of c.args.asked.now.args))) ∙ sym c.are_made.ensures ∙ c.if-not-are_made.false))
+    let count : takes (prim_of c.args.asked.prim) (length (map view (items_of c.args.asked.args))) ≡ true = ap (takes (prim_of c.args.asked.prim)) (length-map (items_of c.args.asked.args) view ∙ sym c.len.ensures) ∙ sym c.may_take.ensures ∙ c.if-not-may_take.false in
+    λ program s counts. ap (λ vs. Some (prim_of c.args.asked.prim, vs)) c.in_ok-normal_values.ensures ∙ sym (may_be program s (call_asked c.args.asked) count (sym (all_made_same c.args.made.now program s counts (map view (items_of c.args.asked.args))) ∙ sym c.are_made.ensures ∙ c.if-not-are_made.false))
