@@ -1,12 +1,11 @@
 use Rattle.std.proofs.Common.{◌≡◌, true, false, length, map, ap, sym, ◌∙◌}
-use Rattle.std.specs.Prelude.{Some}
 use Rattle.std.proofs.lemmas.List.{length-map}
 use Rattle.plain_machine.specs.Natives.{takes}
 use Rattle.ek_types.specs.Listing.{items_of}
 use Rattle.ek_call.specs.Meaning.{view}
 use Rattle.ek_call.specs.Primitives.{prim_of}
 use Rattle.handler_code.specs.Calls.{call_asked}
-use Rattle.handler_code.proofs.Allowing.{wrong_count, never_made, may_be}
+use Rattle.handler_code.proofs.Allowing.{wrong_count, never_made, made_with}
 use Rattle.handler_code.proofs.Counting.{all_made_same}
 use Rattle.handler_code.proofs.calls.allowed.Goals as goal
 
@@ -23,9 +22,9 @@ returns-then-not-are_made c =
 pub returns-then-are_normal : goal.returns-then-are_normal
 returns-then-are_normal c =
     let count : takes (prim_of c.args.asked.prim) (length (map view (items_of c.args.asked.args))) ≡ true = ap (takes (prim_of c.args.asked.prim)) (length-map (items_of c.args.asked.args) view ∙ sym c.len.ensures) ∙ sym c.may_take.ensures ∙ c.if-not-may_take.false in
-    λ program s counts. ap (λ vs. Some (prim_of c.args.asked.prim, vs)) (c.are_normal.ensures c.if-are_normal.true) ∙ sym (may_be program s (call_asked c.args.asked) count (sym (all_made_same c.args.made.now program s counts (map view (items_of c.args.asked.args))) ∙ sym c.are_made.ensures ∙ c.if-not-are_made.false))
+    made_with c.args.made.now (call_asked c.args.asked) _ count (sym c.are_made.ensures ∙ c.if-not-are_made.false) (c.are_normal.ensures c.if-are_normal.true)
 
 pub returns : goal.returns
 returns c =
     let count : takes (prim_of c.args.asked.prim) (length (map view (items_of c.args.asked.args))) ≡ true = ap (takes (prim_of c.args.asked.prim)) (length-map (items_of c.args.asked.args) view ∙ sym c.len.ensures) ∙ sym c.may_take.ensures ∙ c.if-not-may_take.false in
-    λ program s counts. ap (λ vs. Some (prim_of c.args.asked.prim, vs)) c.in_ok-normal_values.ensures ∙ sym (may_be program s (call_asked c.args.asked) count (sym (all_made_same c.args.made.now program s counts (map view (items_of c.args.asked.args))) ∙ sym c.are_made.ensures ∙ c.if-not-are_made.false))
+    made_with c.args.made.now (call_asked c.args.asked) _ count (sym c.are_made.ensures ∙ c.if-not-are_made.false) c.in_ok-normal_values.ensures
