@@ -1,5 +1,5 @@
 //! Asking the children of processes, and killing them.
-ghost use Rattle.std.specs.Prelude.{◌≡◌, ◌<◌, true, List, IsSome, IfOk, OnOk};
+ghost use Rattle.std.specs.Prelude.{◌≡◌, ◌<◌, true, List, IsSome, IfOk, OnOk, OnErr};
 ghost use Rattle.plain_machine.specs.Items.{Item, Waiting};
 ghost use Rattle.plain_machine.specs.Arguments.{is_running};
 ghost use Rattle.ek_types.specs.Io.{SinkState};
@@ -35,7 +35,8 @@ pub(crate) fn entry_of(p: u32, entered: Entered) -> Option<Entry>
     }
 }
 
-/// Asks a process for its output, or for its end once that has ended. All memory is taken before it is asked.
+/// Asks a process for its output, or for its end once that has ended. All memory is taken before it is asked: want of it
+/// leaves all as it was, the host too.
 pub(crate) fn hear<P: Program, H: Host>(
     kernel: &mut KernelState,
     program: &P,
@@ -51,6 +52,8 @@ pub(crate) fn hear<P: Program, H: Host>(
         Between state_of H.state H.made kernel.old kernel.new host.old host.new sink sink (Stays (lifted result)) }
     ensures heard { IfOk result (λ heard. IsHeardIf heard.entry) }
     ensures asked { OnOk result ((state_of kernel.old).asked < (state_of kernel.new).asked) }
+    ensures err { OnErr result (state_of kernel.new ≡ state_of kernel.old) }
+    ensures host { OnErr result (host.new ≡ host.old) }
 {
     let heard = handler_run::hear(kernel.alloc, &mut kernel.processes, host, p)?;
     kernel.asked += 1;
@@ -67,7 +70,8 @@ pub(crate) fn is_running(kernel: &KernelState, p: u32) -> bool
     p < kernel.processes.count() && matches!(kernel.processes.get(p).status(), Status::Run)
 }
 
-/// Kills a process that runs, and says what is to be entered then. All memory is taken before it is killed.
+/// Kills a process that runs, and says what is to be entered then. All memory is taken before it is killed: want of it
+/// leaves all as it was, the host too. Where the process doesn't run, nothing is asked, and `None` is answered.
 pub(crate) fn kill<P: Program, H: Host>(
     kernel: &mut KernelState,
     program: &P,
@@ -80,6 +84,8 @@ pub(crate) fn kill<P: Program, H: Host>(
         (lifted result) (P.meant program.now) p) }
     ensures heard { IfOk result IsHeardIf }
     ensures running { IfOk result (λ entry. IsSome entry → is_running (state_of kernel.old) p ≡ true) }
+    ensures err { OnErr result (state_of kernel.new ≡ state_of kernel.old) }
+    ensures host { OnErr result (host.new ≡ host.old) }
 {
     if !is_running(kernel, p) {
         return Ok(None);

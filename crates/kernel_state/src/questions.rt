@@ -53,7 +53,7 @@ pub(crate) fn process_buffer(editor: &Editor, v: &Value) -> Option<u32>
     }
 }
 
-/// How many rounds a value gives. More than a wait may have count as want of memory.
+/// How many rounds a value gives, also where a wait may have fewer. More than a `u32` holds counts as want of memory.
 fn rounds(v: &Value) -> Mem<u32>
     ensures { IfOk result (λ n. n ≡ rounds_of (view v.now)) }
 {

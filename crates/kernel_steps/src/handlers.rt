@@ -81,7 +81,7 @@ fn run_handler<M: Kernel, P: Program, H: Host, K: Sink>(
     }
 }
 
-/// Whether a handler ended by a fault, by how its code ended.
+/// Whether a handler or a form of the top level ended by a fault, which ends it alone. A stop goes on.
 pub(crate) fn has_faulted(ran: Result<(), Halt>) -> Result<bool, Stop>
     ensures { result ≡ ended_by ran }
 {

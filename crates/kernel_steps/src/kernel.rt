@@ -63,8 +63,11 @@ pub enum Block {
 pub enum Kept {
     Excursion,
     Restriction,
+    /// The number of the buffer that was current before.
     Buffer(u32),
+    /// Whether hooks were inhibited before.
     Hooks(bool),
+    /// Whether what is read-only was lifted before.
     Lifting(bool),
 }
 
@@ -81,9 +84,13 @@ pub enum Manner {
 /// behind a change of a buffer.
 #[derive(Clone, Copy, Debug, PartialEq, Eq)]
 pub enum Kind {
+    /// The filter of the process of this number.
     Filter(u32),
+    /// The sentinel of the process of this number.
     Sentinel(u32),
+    /// A function of the hook before a change of the buffer of this number.
     Before(u32),
+    /// A function of the hook behind a change of the buffer of this number.
     After(u32),
 }
 
@@ -247,11 +254,12 @@ pub trait Kernel {
             (state self.old) { depth = (state self.old).depth + 1 })) }
         ensures err { OnErr result (state self.new ≡ state self.old) };
 
-    /// A handler is left, and the buffer that was current before it is put back.
+    /// A handler is left, and the buffer that was current before it is put back, if it lives.
     fn leave(&mut self, current: u32)
         ensures { state self.new ≡ left_state (state self.old) current };
 
-    /// What the end of a handler does besides.
+    /// What the end of a handler does besides: a process leaves the list behind its sentinel, and a
+    /// hook function that ended by a fault empties the list that it stands on, if its buffer lives.
     fn end_handler(&mut self, kind: Kind, faulted: bool)
         ensures { state self.new ≡ ended_state (kind_of kind) faulted (state self.old) };
 
@@ -303,7 +311,7 @@ pub trait Kernel {
         ensures { Writes (K.state sink.old) (K.state sink.new) result (line symbols.now
             (state self.now) Dumped) };
 
-    /// Why a call on processes is refused.
+    /// Why a call on hooks or processes, or a `kill-buffer`, is refused, if it is.
     fn refusal<P: Program>(&self, program: &P, prim: Primitive, args: &Values) -> Option<Fault>
         ensures { option_map fault_of result ≡
             refusal_of (P.meant program.now) (state self.now) (prim_of prim) (map view (items_of args.now)) };
@@ -323,7 +331,7 @@ pub trait Kernel {
         ensures room { IfOk result (λ w. w.room ≡ 256) };
 
     /// Asks a process for its output, or for its end once that has ended. All memory is taken
-    /// before it is asked.
+    /// before it is asked: want of it leaves all as it was, the host too.
     fn hear<P: Program, H: Host>(
         &mut self,
         program: &P,
@@ -338,10 +346,13 @@ pub trait Kernel {
         ensures stays { (sink : SinkState) →
             Between state H.state H.made self.old self.new host.old host.new sink sink (Stays (lifted result)) }
         ensures heard { IfOk result (λ heard. IsHeardIf heard.entry) }
-        ensures asked { OnOk result ((state self.old).asked < (state self.new).asked) };
+        ensures asked { OnOk result ((state self.old).asked < (state self.new).asked) }
+        ensures err { OnErr result (state self.new ≡ state self.old) }
+        ensures host { OnErr result (host.new ≡ host.old) };
 
     /// Kills a process that runs, and says what is to be entered then. All memory is taken before
-    /// it is killed.
+    /// it is killed: want of it leaves all as it was, the host too. Where the process doesn't run,
+    /// nothing is asked, and `None` is answered.
     fn kill<P: Program, H: Host>(
         &mut self,
         program: &P,
@@ -353,7 +364,9 @@ pub trait Kernel {
             Between state H.state H.made self.old self.new host.old host.new sink sink (Kills
             (lifted result) (P.meant program.now) p) }
         ensures heard { IfOk result IsHeardIf }
-        ensures running { IfOk result (λ entry. IsSome entry → is_running (state self.old) p ≡ true) };
+        ensures running { IfOk result (λ entry. IsSome entry → is_running (state self.old) p ≡ true) }
+        ensures err { OnErr result (state self.new ≡ state self.old) }
+        ensures host { OnErr result (host.new ≡ host.old) };
 
     /// The process that the first argument gives.
     fn process_given(&self, args: &Values) -> u32

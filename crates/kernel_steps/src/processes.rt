@@ -18,7 +18,7 @@ use ek_call::{Fault, Primitive, Reply, Value, Values};
 use ek_types::Sink;
 use host_link::{Host, SendAnswer, Spawned};
 
-/// A call that enters no handler, and isn't refused before it is made.
+/// A call that enters no handler, and passed its tests.
 pub(crate) fn call_other<M: Kernel, P: Program, H: Host, K: Sink>(
     kernel: &mut M,
     program: &P,
@@ -64,6 +64,7 @@ fn call_silent<M: Kernel, P: Program, K: Sink>(
     tell(kernel, program, sink, Reply::Value(value))
 }
 
+/// Whether there are no bytes to be sent.
 fn holds_nothing(bytes: &[u8]) -> bool
     ensures { result ≡ (length bytes.now == 0) }
 {

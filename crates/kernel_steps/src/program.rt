@@ -17,6 +17,7 @@ use handler_code::Next;
 pub trait Program {
     ghost meant: { Self → Plain };
 
+    /// All names of the run by their numbers, for the lines that are written.
     fn symbols(&self) -> &Symbols
         ensures { result.now ≡ (meant self.now).symbols };
 

@@ -30,7 +30,8 @@ pub(crate) fn tell<M: Kernel, P: Program, K: Sink>(
     }
 }
 
-/// Writes the line of a refusal that no call came to, and says why the work is left.
+/// Writes the line of a refusal by a fault, whatever was refused, and says why the work is left: by
+/// that fault, or because the line couldn't be written.
 pub(crate) fn refuse<M: Kernel, P: Program, K: Sink>(
     kernel: &M,
     program: &P,

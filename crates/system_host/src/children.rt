@@ -166,7 +166,8 @@ fn got_from<R: Read, W: Write + Drop>(
 }
 
 /// Puts all bytes into a child's input, and answers whether they went there. They didn't where it was closed, here or by
-/// the child.
+/// the child; a part may have gone then. They didn't either where the lines that gather can't be handed on: then the child
+/// wasn't asked.
 fn is_sent<I: Write, W: Write + Drop>(
     output: &Output<W>,
     input: &mut Option<I>,

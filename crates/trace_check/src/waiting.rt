@@ -63,7 +63,7 @@ impl Model for Waiting {
     ghost invariant = { λ w. w.at ≤ length w.asking.items };
 }
 
-/// How many rounds a value gives: the most, where it gives none.
+/// How many rounds a value gives: the most for nil, and 0 for a number below 0 and for what is no number.
 fn rounds(v: &Value) -> u64
     ensures { result ≡ rounds_of (view v.now) }
 {
