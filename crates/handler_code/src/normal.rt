@@ -41,7 +41,7 @@ pub(crate) fn normal_values(values: &Values) -> Mem<Values>
 }
 
 /// Whether no empty list is in a value.
-#[cycle(test)]
+#[cycle(look)]
 fn is_normal(value: &Value) -> bool
     ensures { IsTrue result → view value.now ≡ normal (view value.now) }
 {
@@ -63,7 +63,7 @@ fn is_normal(value: &Value) -> bool
 }
 
 /// Whether no empty list is in some values.
-#[cycle(test)]
+#[cycle(look)]
 pub(crate) fn are_normal(values: &Values) -> bool
     ensures { IsTrue result →
         map view (items_of values.now) ≡ map normal (map view (items_of values.now)) }

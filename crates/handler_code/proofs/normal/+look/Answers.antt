@@ -7,7 +7,7 @@ use Rattle.ek_types.specs.Listing.{items_of}
 use Rattle.ek_call.specs.Meaning.{view}
 use Rattle.handler_code.proofs.ValueLists.{one_more_normal, normal_items, normal_list}
 use Rattle.handler_code.proofs.ValueShapes.{list_is, dot_is}
-use Rattle.handler_code.proofs.normal.+test.Goals as goal
+use Rattle.handler_code.proofs.normal.+look.Goals as goal
 
 pub are_normal-loop-i-preserved : goal.are_normal-loop-i-preserved
 are_normal-loop-i-preserved t c =
