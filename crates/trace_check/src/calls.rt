@@ -75,7 +75,7 @@ pub(crate) fn change_text<M: Kernel>(
     match kernel.prepare(prim, args)? {
         Prepared::Change(change) => put_change(work, change, target),
         Prepared::Quiet(change) => change_quietly(kernel, work, &change, target),
-        Prepared::Nothing(value) => work.put(Item::GiveAnswer(value, target)),
+        Prepared::Nothing(value) => work.put(Item::GiveAnswer { value, target }),
         Prepared::Fault(fault) => work.put(Item::Refuse(fault)),
     }
 }
@@ -112,8 +112,8 @@ fn put_answer(work: &mut Work, change: &Change, target: Target) -> Mem<()>
     ensures { OnOk result (list_of work.new ≡
         GiveAnswer (change_of change.now).reply (target_of target) ∷ (list_of work.old)) }
 {
-    let reply = change.reply.copy()?;
-    work.put(Item::GiveAnswer(reply, target))
+    let value = change.reply.copy()?;
+    work.put(Item::GiveAnswer { value, target })
 }
 
 /// A call on hooks or processes that asks and enters nothing.
@@ -134,7 +134,7 @@ pub(crate) fn call_silently<M: Kernel, P: Program>(
         (list_of work.new)) }
 {
     let value = kernel.call_silently(program, prim, args)?;
-    work.put(Item::GiveAnswer(value, target))
+    work.put(Item::GiveAnswer { value, target })
 }
 
 /// A wait for output.
@@ -151,7 +151,7 @@ pub(crate) fn accept_output<M: Kernel, P: Program>(
         (list_of work.new)) }
 {
     let waiting = Waiting::new(kernel, args);
-    work.put(Item::Wait(waiting, target))
+    work.put(Item::Wait { waiting, target })
 }
 
 /// The deletion of a process.
@@ -167,9 +167,12 @@ pub(crate) fn delete_process<M: Kernel, P: Program>(
         (MakeCall DeleteProcess (map view (items_of args.now)) (target_of target) ∷ (list_of work.old))
         (list_of work.new)) }
 {
-    let p = kernel.process_given(args);
-    work.put(Item::GiveAnswer(Value::Nil, target))?;
-    work.put(Item::Delete(p))
+    let process = kernel.process_given(args);
+    work.put(Item::GiveAnswer {
+        value: Value::Nil,
+        target,
+    })?;
+    work.put(Item::Delete { process })
 }
 
 /// The killing of a buffer, behind the deletions of its processes.
@@ -187,10 +190,10 @@ pub(crate) fn kill_buffer<M: Kernel, P: Program>(
 {
     let buffer = kernel.buffer_given(args);
     let doomed = kernel.running_in(buffer)?;
-    work.put(Item::KillBuffer(buffer, target))?;
+    work.put(Item::KillBuffer { buffer, target })?;
     for i in 0..doomed.len() {
-        let last = doomed[doomed.len() - 1 - i];
-        work.put(Item::Delete(last))?;
+        let process = doomed[doomed.len() - 1 - i];
+        work.put(Item::Delete { process })?;
     }
     Ok(())
 }

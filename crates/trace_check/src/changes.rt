@@ -51,7 +51,12 @@ fn put_hooks<M: Kernel>(kernel: &mut M, work: &mut Work, kind: Kind, args: Value
         return Ok(());
     }
     let names = begin_hooks(kernel, work, kind)?;
-    work.put(Item::Hooks(kind, names, 0, args))
+    work.put(Item::Hooks {
+        kind,
+        names,
+        at: 0,
+        args,
+    })
 }
 
 /// Inhibits hooks, puts the end of that in front, and gives the functions of a kind.
@@ -62,7 +67,7 @@ fn begin_hooks<M: Kernel>(kernel: &mut M, work: &mut Work, kind: Kind) -> Mem<Sy
     ensures work { OnOk result (list_of work.new ≡ Calm false ∷ (list_of work.old)) }
 {
     let names = kernel.hooks(kind)?;
-    work.put(Item::Calm(false))?;
+    work.put(Item::Calm { old: false })?;
     kernel.inhibit(true);
     Ok(names)
 }
@@ -99,8 +104,17 @@ pub(crate) fn enter_hooks(
     }
     let name = *names.at(at);
     let copies = args.copy()?;
-    work.put_back(Item::Hooks(kind, names, at + 1, args));
-    work.put(Item::Enter(kind, Some(name), copies))
+    work.put_back(Item::Hooks {
+        kind,
+        names,
+        at: at + 1,
+        args,
+    });
+    work.put(Item::Enter {
+        kind,
+        handler: Some(name),
+        args: copies,
+    })
 }
 
 /// Hooks are inhibited as before.

@@ -46,25 +46,25 @@ pub(crate) fn finish<M: Kernel, P: Program, K: Sink>(
     }
     let child = kernel.processes().get(p).child();
     if !is_running(kernel, p) {
-        leave_only(work, Item::Finish(p + 1));
+        leave_only(work, Item::Finish { process: p + 1 });
         return Ok(Done::Alone);
     }
     match meet(next, &Question::Kill(child)) {
         Met::Nothing => {
-            work.put_back(Item::Finish(p));
+            work.put_back(Item::Finish { process: p });
             Ok(Done::Waits)
         }
         Met::Another => {
-            work.put_back(Item::Finish(p));
+            work.put_back(Item::Finish { process: p });
             Ok(Done::Off)
         }
         Met::Answer(answer) => {
             if !may_kill(answer) {
-                work.put_back(Item::Finish(p));
+                work.put_back(Item::Finish { process: p });
                 return Ok(Done::Off);
             }
             kernel.tell_kill(program.symbols(), p, sink)?;
-            leave_only(work, Item::Finish(p + 1));
+            leave_only(work, Item::Finish { process: p + 1 });
             Ok(Done::Answered)
         }
     }

@@ -27,7 +27,7 @@ pub(crate) fn do_body(work: &mut Work, forms: Forms, at: usize) -> Mem<()>
         return Ok(());
     }
     let form = forms.at(at).copy()?;
-    work.put_back(Item::Body(forms, at + 1));
+    work.put_back(Item::Body { forms, at: at + 1 });
     work.put(Item::DoForm(form))
 }
 
@@ -39,10 +39,10 @@ pub(crate) fn do_top(work: &mut Work, forms: Forms, at: usize) -> Mem<()>
 {
     if at >= forms.len() {
         work.clear();
-        return work.put(Item::Finish(0));
+        return work.put(Item::Finish { process: 0 });
     }
     let form = forms.at(at).copy()?;
-    work.put_back(Item::Top(forms, at + 1));
+    work.put_back(Item::Top { forms, at: at + 1 });
     work.put(Item::DoForm(form))
 }
 
@@ -72,7 +72,11 @@ fn do_call<M: Kernel>(kernel: &mut M, work: &mut Work, call: Call, target: Targe
 {
     match values(kernel, &call.args)? {
         None => work.put(Item::Refuse(Fault::VoidVariable)),
-        Some(args) => work.put(Item::MakeCall(call.prim, args, target)),
+        Some(args) => work.put(Item::MakeCall {
+            prim: call.prim,
+            args,
+            target,
+        }),
     }
 }
 
@@ -85,7 +89,7 @@ fn do_block<M: Kernel>(kernel: &mut M, work: &mut Work, block: Block, forms: For
 {
     let kept = kernel.open(block)?;
     work.put_back(Item::Leave(kept));
-    work.put(Item::Body(forms, 0))
+    work.put(Item::Body { forms, at: 0 })
 }
 
 /// Forms are done where two arguments are equal.
@@ -96,7 +100,7 @@ fn do_when<M: Kernel>(kernel: &M, work: &mut Work, a: &Arg, b: &Arg, forms: Form
 {
     match are_equal(kernel, a, b) {
         None => work.put(Item::Refuse(Fault::VoidVariable)),
-        Some(true) => work.put(Item::Body(forms, 0)),
+        Some(true) => work.put(Item::Body { forms, at: 0 }),
         Some(false) => Ok(()),
     }
 }

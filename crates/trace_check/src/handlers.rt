@@ -44,7 +44,12 @@ pub(crate) fn enter<M: Kernel, P: Program, K: Sink>(
     let current = kernel.current();
     kernel.tell_entry(program.symbols(), kind, handler, &args, sink)?;
     kernel.enter(program.params(handler), &args)?;
-    work.put_back(Item::Exit(kind, handler, current, false));
+    work.put_back(Item::Exit {
+        kind,
+        handler,
+        current,
+        faulted: false,
+    });
     put_code(kernel, program, work, kind, handler, args)?;
     Ok(())
 }
@@ -82,11 +87,15 @@ fn put_named<M: Kernel, P: Program>(
     match program.body(name) {
         Some(body) => {
             let copy = body.copy()?;
-            work.put(Item::Body(copy, 0))
+            work.put(Item::Body { forms: copy, at: 0 })
         }
         None => {
             let past = ListOf::new(kernel.allocator());
-            work.put(Item::Native(program.native(name), args, past))
+            work.put(Item::Native {
+                native: program.native(name),
+                args,
+                past,
+            })
         }
     }
 }
@@ -124,7 +133,7 @@ pub(crate) fn go_on<M: Kernel, P: Program>(
     match program.next(native, &args, &past)? {
         Next::Done => Ok(()),
         Next::Call(asked) => {
-            work.put_back(Item::Called(native, args, past));
+            work.put_back(Item::Called { native, args, past });
             put_call(kernel, program, work, asked)
         }
     }
@@ -141,7 +150,11 @@ fn put_call<M: Kernel, P: Program>(
         (call_asked asked) ∷ (list_of work.old)) }
 {
     match kernel.allowed(program, asked)? {
-        Some(made) => work.put(Item::MakeCall(made.prim, made.args, Target::Native)),
+        Some(made) => work.put(Item::MakeCall {
+            prim: made.prim,
+            args: made.args,
+            target: Target::Native,
+        }),
         None => work.put(Item::Refuse(Fault::WrongType)),
     }
 }
@@ -190,7 +203,7 @@ fn drop_hooks(work: &mut Work)
 {
     match work.take() {
         None => {}
-        Some(Item::Hooks(_, _, _, _)) => {}
+        Some(Item::Hooks { .. }) => {}
         Some(item) => work.put_back(item),
     }
 }

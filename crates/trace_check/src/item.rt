@@ -17,31 +17,78 @@ pub enum Target {
 /// first one that is left.
 #[derive(Drop)]
 pub enum Item {
-    Top(Forms, usize),
-    Body(Forms, usize),
+    Top {
+        forms: Forms,
+        at: usize,
+    },
+    Body {
+        forms: Forms,
+        at: usize,
+    },
     DoForm(Form),
-    MakeCall(Primitive, Values, Target),
+    MakeCall {
+        prim: Primitive,
+        args: Values,
+        target: Target,
+    },
     /// The end of a block.
     Leave(Kept),
-    GiveAnswer(Value, Target),
+    GiveAnswer {
+        value: Value,
+        target: Target,
+    },
     /// A fault, which drops what stands in front of the handler or form that it ends.
     Refuse(Fault),
     MakeChange(Change),
-    Hooks(Kind, SymList, usize, Values),
-    /// The end of the inhibition of hooks.
-    Calm(bool),
+    Hooks {
+        kind: Kind,
+        names: SymList,
+        at: usize,
+        args: Values,
+    },
+    /// The end of the inhibition of hooks, and whether they were inhibited before.
+    Calm {
+        old: bool,
+    },
     CommitChange(Change),
     /// A handler to be entered, or the default one.
-    Enter(Kind, Option<Sym>, Values),
-    Native(u32, Values, Replies),
+    Enter {
+        kind: Kind,
+        handler: Option<Sym>,
+        args: Values,
+    },
+    Native {
+        native: u32,
+        args: Values,
+        past: Replies,
+    },
     /// A native while a call of it is under way.
-    Called(u32, Values, Replies),
+    Called {
+        native: u32,
+        args: Values,
+        past: Replies,
+    },
     /// The end of a handler, with the buffer that was current before it, and whether a fault ended it.
-    Exit(Kind, Option<Sym>, u32, bool),
-    Wait(Waiting, Target),
-    Delete(u32),
-    KillBuffer(u32, Target),
+    Exit {
+        kind: Kind,
+        handler: Option<Sym>,
+        current: u32,
+        faulted: bool,
+    },
+    Wait {
+        waiting: Waiting,
+        target: Target,
+    },
+    Delete {
+        process: u32,
+    },
+    KillBuffer {
+        buffer: u32,
+        target: Target,
+    },
     /// The end of the run: the processes from this one on are killed.
-    Finish(u32),
+    Finish {
+        process: u32,
+    },
     WriteDump,
 }

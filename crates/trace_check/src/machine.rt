@@ -177,41 +177,53 @@ fn do_item<M: Stepped, P: Program, K: Sink>(
         Err StepFault.Sink) }
 {
     match item {
-        Item::Top(forms, at) => alone(do_top(work, forms, at)),
-        Item::Body(forms, at) => alone(do_body(work, forms, at)),
+        Item::Top { forms, at } => alone(do_top(work, forms, at)),
+        Item::Body { forms, at } => alone(do_body(work, forms, at)),
         Item::DoForm(form) => alone(do_form(kernel, work, form)),
-        Item::MakeCall(prim, args, target) => {
+        Item::MakeCall { prim, args, target } => {
             heard(call(kernel, program, work, prim, args, target, next))
         }
         Item::Leave(kept) => {
             leave(kernel, kept);
             Ok(Done::Alone)
         }
-        Item::GiveAnswer(value, target) => {
+        Item::GiveAnswer { value, target } => {
             told(give_answer(kernel, program, work, sink, value, target))
         }
         Item::Refuse(fault) => told(refuse(kernel, program, work, sink, fault)),
         Item::MakeChange(change) => alone(make_change(kernel, work, change)),
-        Item::Hooks(kind, names, at, args) => alone(enter_hooks(work, kind, names, at, args)),
-        Item::Calm(old) => {
+        Item::Hooks {
+            kind,
+            names,
+            at,
+            args,
+        } => alone(enter_hooks(work, kind, names, at, args)),
+        Item::Calm { old } => {
             calm(kernel, old);
             Ok(Done::Alone)
         }
         Item::CommitChange(change) => alone(commit_change(kernel, work, &change)),
-        Item::Enter(kind, handler, args) => {
-            told(enter(kernel, program, work, sink, kind, handler, args))
-        }
-        Item::Native(native, args, past) => alone(go_on(kernel, program, work, native, args, past)),
-        Item::Called(_, _, _) => Ok(Done::Alone),
-        Item::Exit(kind, handler, current, faulted) => {
-            told(exit(kernel, program, work, sink, kind, handler, current, faulted))
-        }
-        Item::Wait(waiting, target) => heard(wait(kernel, work, waiting, target, next)),
-        Item::Delete(p) => heard(delete(kernel, work, p, next)),
-        Item::KillBuffer(buffer, target) => {
+        Item::Enter {
+            kind,
+            handler,
+            args,
+        } => { told(enter(kernel, program, work, sink, kind, handler, args)) }
+        Item::Native { native, args, past } => alone(go_on(
+            kernel, program, work, native, args, past,
+        )),
+        Item::Called { .. } => Ok(Done::Alone),
+        Item::Exit {
+            kind,
+            handler,
+            current,
+            faulted,
+        } => { told(exit(kernel, program, work, sink, kind, handler, current, faulted)) }
+        Item::Wait { waiting, target } => heard(wait(kernel, work, waiting, target, next)),
+        Item::Delete { process } => heard(delete(kernel, work, process, next)),
+        Item::KillBuffer { buffer, target } => {
             alone(calls::kill_live(kernel, work, buffer, target))
         }
-        Item::Finish(p) => finish(kernel, program, work, sink, p, next),
+        Item::Finish { process } => finish(kernel, program, work, sink, process, next),
         Item::WriteDump => told(write_dump(kernel, program, work, sink)),
     }
 }

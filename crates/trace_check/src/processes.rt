@@ -31,7 +31,7 @@ fn unmade(work: &mut Work, prim: Primitive, args: Values, target: Target, done: 
     ensures work { list_of work.new ≡ MakeCall (prim_of prim) (map view (items_of args))
         (target_of target) ∷ (list_of work.old) }
 {
-    work.put_back(Item::MakeCall(prim, args, target));
+    work.put_back(Item::MakeCall { prim, args, target });
     Ok(done)
 }
 
@@ -125,7 +125,10 @@ fn take_child<M: Kernel, P: Program>(
     }
     kernel.reserve_process(program, &args)?;
     let p = kernel.start(program, &args, child);
-    work.put_back(Item::GiveAnswer(Value::Process(p), target));
+    work.put_back(Item::GiveAnswer {
+        value: Value::Process(p),
+        target,
+    });
     Ok(Done::Answered)
 }
 
@@ -148,7 +151,10 @@ pub(crate) fn send_string<M: Kernel, P: Program>(
 {
     let bytes = kernel.bytes_given(&args)?;
     if is_empty(bytes.as_slice()) {
-        work.put_back(Item::GiveAnswer(Value::Nil, target));
+        work.put_back(Item::GiveAnswer {
+            value: Value::Nil,
+            target,
+        });
         return Ok(Done::Alone);
     }
     let child = kernel.processes().get(kernel.process_given(&args)).child();
@@ -191,7 +197,10 @@ fn take_sent<M: Kernel>(
     match answer {
         Answer::Sent => {
             kernel.count_sent(size);
-            work.put_back(Item::GiveAnswer(Value::Nil, target));
+            work.put_back(Item::GiveAnswer {
+                value: Value::Nil,
+                target,
+            });
             Ok(Done::Answered)
         }
         Answer::Broken => {
@@ -224,7 +233,10 @@ pub(crate) fn send_eof<M: Kernel, P: Program>(
     let process = kernel.processes().get(p);
     let child = process.child();
     if process.closed() {
-        work.put_back(Item::GiveAnswer(Value::Process(p), target));
+        work.put_back(Item::GiveAnswer {
+            value: Value::Process(p),
+            target,
+        });
         return Ok(Done::Alone);
     }
     match meet(next, &Question::Close(child)) {
@@ -254,7 +266,10 @@ fn take_closed<M: Kernel>(
     match answer {
         Answer::Closed => {
             kernel.note_closed(p);
-            work.put_back(Item::GiveAnswer(Value::Process(p), target));
+            work.put_back(Item::GiveAnswer {
+                value: Value::Process(p),
+                target,
+            });
             Ok(Done::Answered)
         }
         _ => unmade(work, Primitive::ProcessSendEof, args, target, Done::Off),

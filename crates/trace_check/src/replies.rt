@@ -23,7 +23,7 @@ pub(crate) fn put_reply(work: &mut Work, reply: Reply, target: Target) -> Mem<()
     ensures { OnOk result (list_of work.new ≡ reply_item (reply_of reply) (target_of target) ∷ (list_of work.old)) }
 {
     match reply {
-        Reply::Value(value) => work.put(Item::GiveAnswer(value, target)),
+        Reply::Value(value) => work.put(Item::GiveAnswer { value, target }),
         Reply::Fault(fault) => work.put(Item::Refuse(fault)),
     }
 }
@@ -87,10 +87,10 @@ fn keep_reply(work: &mut Work, reply: Reply) -> Mem<()>
 {
     match work.take() {
         None => Ok(()),
-        Some(Item::Called(native, args, past)) => {
+        Some(Item::Called { native, args, past }) => {
             let mut past = past;
             past.push(reply)?;
-            work.put_back(Item::Native(native, args, past));
+            work.put_back(Item::Native { native, args, past });
             Ok(())
         }
         Some(item) => {
@@ -140,18 +140,28 @@ fn drop_item<M: Stepped>(kernel: &mut M, work: &mut Work, item: Item, fault: Fau
     ensures rest { IfOk result (λ ends. ends ≡ false → list_of work.new ≡ list_of work.old) }
 {
     match item {
-        Item::Top(forms, at) => {
-            work.put_back(Item::Top(forms, at));
+        Item::Top { forms, at } => {
+            work.put_back(Item::Top { forms, at });
             Ok(true)
         }
-        Item::Called(native, args, past) => {
+        Item::Called { native, args, past } => {
             let mut past = past;
             past.push(Reply::Fault(fault))?;
-            work.put_back(Item::Native(native, args, past));
+            work.put_back(Item::Native { native, args, past });
             Ok(true)
         }
-        Item::Exit(kind, handler, current, _) => {
-            work.put_back(Item::Exit(kind, handler, current, true));
+        Item::Exit {
+            kind,
+            handler,
+            current,
+            ..
+        } => {
+            work.put_back(Item::Exit {
+                kind,
+                handler,
+                current,
+                faulted: true,
+            });
             Ok(true)
         }
         Item::Leave(kept) => {

@@ -47,13 +47,16 @@ pub(crate) fn wait<M: Stepped>(
 {
     match waiting.ahead(kernel.processes()) {
         Ahead::Done(heard) => {
-            work.put_back(Item::GiveAnswer(truth(heard), target));
+            work.put_back(Item::GiveAnswer {
+                value: truth(heard),
+                target,
+            });
             Ok(Done::Alone)
         }
         Ahead::Round => {
             let mut waiting = waiting;
             waiting.begin_round(kernel.processes())?;
-            work.put_back(Item::Wait(waiting, target));
+            work.put_back(Item::Wait { waiting, target });
             Ok(Done::Alone)
         }
         Ahead::Ask(p) => ask(kernel, work, waiting, target, p, next),
@@ -95,16 +98,16 @@ fn ask<M: Stepped>(
     let question = question_about(drained, process.child());
     match meet(next, &question) {
         Met::Nothing => {
-            work.put_back(Item::Wait(waiting, target));
+            work.put_back(Item::Wait { waiting, target });
             Ok(Done::Waits)
         }
         Met::Another => {
-            work.put_back(Item::Wait(waiting, target));
+            work.put_back(Item::Wait { waiting, target });
             Ok(Done::Off)
         }
         Met::Answer(answer) => {
             if !may_hear(drained, answer) {
-                work.put_back(Item::Wait(waiting, target));
+                work.put_back(Item::Wait { waiting, target });
                 return Ok(Done::Off);
             }
             hear(kernel, work, waiting, target, p, answer)?;
@@ -132,7 +135,7 @@ fn hear<M: Stepped>(
     let _taken = waiting.take_first(kernel.processes());
     let heard = kernel.take_answer(p, answer)?;
     waiting.note(p, heard.bytes);
-    work.put_back(Item::Wait(waiting, target));
+    work.put_back(Item::Wait { waiting, target });
     put_entry(work, heard.entry)
 }
 
@@ -142,7 +145,11 @@ fn put_entry(work: &mut Work, entry: Option<Entry>) -> Mem<()>
 {
     match entry {
         None => Ok(()),
-        Some(entry) => work.put(Item::Enter(entry.kind, entry.handler, entry.args)),
+        Some(entry) => work.put(Item::Enter {
+            kind: entry.kind,
+            handler: entry.handler,
+            args: entry.args,
+        }),
     }
 }
 
@@ -171,16 +178,16 @@ pub(crate) fn delete<M: Stepped>(
     let child = kernel.processes().get(p).child();
     match meet(next, &Question::Kill(child)) {
         Met::Nothing => {
-            work.put_back(Item::Delete(p));
+            work.put_back(Item::Delete { process: p });
             Ok(Done::Waits)
         }
         Met::Another => {
-            work.put_back(Item::Delete(p));
+            work.put_back(Item::Delete { process: p });
             Ok(Done::Off)
         }
         Met::Answer(answer) => {
             if !may_kill(answer) {
-                work.put_back(Item::Delete(p));
+                work.put_back(Item::Delete { process: p });
                 return Ok(Done::Off);
             }
             kill(kernel, work, p)?;
@@ -196,5 +203,9 @@ fn kill<M: Stepped>(kernel: &mut M, work: &mut Work, p: u32) -> Mem<()>
         (list_of work.new)) }
 {
     let entry = kernel.take_kill(p)?;
-    work.put(Item::Enter(entry.kind, entry.handler, entry.args))
+    work.put(Item::Enter {
+        kind: entry.kind,
+        handler: entry.handler,
+        args: entry.args,
+    })
 }

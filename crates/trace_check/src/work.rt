@@ -32,7 +32,7 @@ impl Work {
     {
         let forms = script.forms.copy()?;
         let mut work = Work::new(alloc);
-        work.put(Item::Top(forms, 0))?;
+        work.put(Item::Top { forms, at: 0 })?;
         Ok(work)
     }
 

@@ -11,5 +11,5 @@ use Rattle.trace_check.proofs.calls.delete_process.Goals as goal
 pub returns : goal.returns
 returns g c = once_put c.put-2.result c.put-2.ensures.ok (λ put.
     let rest = list_of c.args.work.now in
-    delete_put (g.P.Program.meant c.args.program.now) (g.M.Kernel.state c.args.kernel.now) (map view (items_of c.args.args.now)) (target_of c.args.target) rest c.process_given-p.result (list_of c.put-2.new.self) c.requires c.process_given-p.ensures
-    (put ∙ ap (λ l. Delete c.process_given-p.result ∷ l) (c.in_ok-put.ensures.ok ∙ ap (λ v. GiveAnswer v (target_of c.args.target) ∷ rest) nil_is)))
+    delete_put (g.P.Program.meant c.args.program.now) (g.M.Kernel.state c.args.kernel.now) (map view (items_of c.args.args.now)) (target_of c.args.target) rest c.process_given-process.result (list_of c.put-2.new.self) c.requires c.process_given-process.ensures
+    (put ∙ ap (λ l. Delete c.process_given-process.result ∷ l) (c.in_ok-put.ensures.ok ∙ ap (λ v. GiveAnswer v (target_of c.args.target) ∷ rest) nil_is)))

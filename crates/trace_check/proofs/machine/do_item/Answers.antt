@@ -179,7 +179,7 @@ returns-in-Delete-clause-step g c =
     let known = g.M.Kernel.state c.args.kernel.now in
     let rest = list_of c.args.work.now in
     let old = g.K.Sink.state c.args.sink.now in
-    rw (c.in-Delete.is, c.heard-in-Delete.ensures) (heard_comes program next known (g.M.Kernel.state c.delete.new.kernel) (item_of (item.Delete c.in-Delete.p) ∷ rest) (list_of c.delete.new.work) c.delete.result old (c.delete.ensures program))
+    rw (c.in-Delete.is, c.heard-in-Delete.ensures) (heard_comes program next known (g.M.Kernel.state c.delete.new.kernel) (item_of (item.Delete c.in-Delete.process) ∷ rest) (list_of c.delete.new.work) c.delete.result old (c.delete.ensures program))
 
 pub returns-in-Delete-clause-cause : goal.returns-in-Delete-clause-cause
 returns-in-Delete-clause-cause g c = rw c.heard-in-Delete.ensures (heard_cause c.delete.result _)

@@ -26,7 +26,7 @@ returns-in-Called-clause-drops g c =
     (c.put_back-in-Called.ensures ∙ ap (λ l. Native c.in-Called.native args l ∷ rest) (ap (map reply_of) c.in_ok-push-in-Called.ensures.ok ∙ map_more reply_of (items_of c.in-Called.past) (reply.Fault c.args.fault))))
 
 pub returns-in-Exit-clause-drops : goal.returns-in-Exit-clause-drops
-returns-in-Exit-clause-drops g c = rw c.in-Exit.is (exit_faulted (fault_of c.args.fault) (g.M.Kernel.state c.args.kernel.now) (list_of c.args.work.now) (list_of c.put_back-in-Exit.new.self) (kind_of c.in-Exit.kind) (option_map number_of c.in-Exit.handler) c.in-Exit.current c.in-Exit.field-3 c.put_back-in-Exit.ensures)
+returns-in-Exit-clause-drops g c = rw c.in-Exit.is (exit_faulted (fault_of c.args.fault) (g.M.Kernel.state c.args.kernel.now) (list_of c.args.work.now) (list_of c.put_back-in-Exit.new.self) (kind_of c.in-Exit.kind) (option_map number_of c.in-Exit.handler) c.in-Exit.current c.in-Exit.faulted c.put_back-in-Exit.ensures)
 
 pub returns-in-Leave-clause-drops : goal.returns-in-Leave-clause-drops
 returns-in-Leave-clause-drops g c = rw c.in-Leave.is (block_restored (fault_of c.args.fault) (g.M.Kernel.state c.args.kernel.now) (g.M.Kernel.state c.restore.new.self) (list_of c.args.work.now) (kept_as c.in-Leave.kept) c.restore.ensures)
