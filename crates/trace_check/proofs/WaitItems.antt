@@ -3,7 +3,7 @@ use Rattle.std.proofs.Common.{◌≡◌, ℕ, zero, suc, ◌-◌, ◌<◌, Bool,
 use Rattle.std.specs.Prelude.{Option, Some, None, option_map, slice_get, nat_le, nat_lt, ◌&&◌}
 use Rattle.std.specs.List.{list_all}
 use Rattle.std.proofs.lemmas.Option.{slice_get-map}
-use Rattle.editor_model.specs.Values.{T, Nil, ExchangesSpent}
+use Rattle.editor_model.specs.Values.{T, Nil, ExchangesSpent, truth}
 use Rattle.plain_machine.specs.Exchanges.{Ask, Answer, Bytes, Nothing, End, Code, Signal, Running, Started, Refused, Sent, Broken, Closed, Killed, Failed}
 use Rattle.plain_machine.specs.State.{State, Program, Process, process}
 use Rattle.plain_machine.specs.Items.{Item, Wait, GiveAnswer, Refuse, Target, Waiting, Next, Step, Asks}
@@ -27,6 +27,11 @@ use Rattle.trace_check.specs.Waits.{ahead_case, ahead_of, in_next_round, without
 use Rattle.trace_check.specs.declared.waiting.Ahead.{Ahead}
 use Rattle.trace_check.specs.declared.waiting.Ahead.TheVariants as ahead
 use Rattle.trace_check.proofs.Quiet.{stays_put}
+
+-- what a wait answers
+pub truth_alike : (heard : Bool) → truth heard ≡ truth_of heard
+truth_alike true = refl
+truth_alike false = refl
 
 -- WHAT IS AHEAD
 module _ (s : State) (w : Waiting) (target : Target) (rest : List Item) where

@@ -150,20 +150,13 @@ impl Waiting {
         }
     }
 
-    /// Takes the first process left in this round that may be asked, if there is one.
-    pub(crate) fn take_first(&mut self, table: &Processes) -> Option<u32>
+    /// Passes the first process left in this round that may be asked, and all before it.
+    pub(crate) fn pass_first(&mut self, table: &Processes)
         ensures { self.new ≡ without_first (with_table table.now) self.old }
     {
         match self.aim.first_in(table, &self.asking[self.at..]) {
-            Some(i) => {
-                let p = self.asking[self.at + i];
-                self.at += i + 1;
-                Some(p)
-            }
-            None => {
-                self.at = self.asking.len();
-                None
-            }
+            Some(i) => self.at += i + 1,
+            None => self.at = self.asking.len(),
         }
     }
 

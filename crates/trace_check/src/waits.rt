@@ -6,8 +6,7 @@ ghost use Rattle.plain_machine.specs.Refusals.{may_ask};
 ghost use Rattle.plain_machine.specs.State.{Program as Plain};
 ghost use Rattle.process_table.specs.Table.{with_table};
 ghost use Rattle.host_link.specs.Meaning.{answer_of, exchange_of};
-ghost use Rattle.ek_call.specs.Meaning.{view};
-ghost use Rattle.kernel_steps.specs.Waits.{entering, truth_of};
+ghost use Rattle.kernel_steps.specs.Waits.{entering};
 ghost use Rattle.trace_check.specs.Answers.{Deletes, Hears, IsAllowed};
 ghost use Rattle.trace_check.specs.Meaning.{list_of, places_of, target_of};
 ghost use Rattle.trace_check.specs.Questions.{asked, asked_about};
@@ -19,18 +18,12 @@ use crate::item::{Item, Target};
 use crate::turn::Done;
 use crate::waiting::{Ahead, Waiting};
 use crate::work::Work;
-use ek_call::{Fault, Value};
+use ek_call::Fault;
 use ek_types::Mem;
 use host_link::{Answer, Exchange};
 use kernel_steps::{Entry, Kernel, Stepped};
+use prim_arguments::values::truth;
 use process_table::Status;
-
-/// What a wait answers.
-fn truth(heard: bool) -> Value
-    ensures { view result ≡ truth_of heard }
-{
-    if heard { Value::T } else { Value::Nil }
-}
 
 /// A wait goes on by its next rule.
 pub(crate) fn wait<M: Stepped>(
@@ -132,7 +125,7 @@ fn hear<M: Stepped>(
         (answer_of answer.now) (list_of work.old) (list_of work.new)) }
 {
     let mut waiting = waiting;
-    let _taken = waiting.take_first(kernel.processes());
+    waiting.pass_first(kernel.processes());
     let heard = kernel.take_answer(p, answer)?;
     waiting.note(p, heard.bytes);
     work.put_back(Item::Wait { waiting, target });

@@ -15,5 +15,5 @@ returns g c = once_put c.put_entry.result c.put_entry.ensures (λ put.
     let rest = list_of c.args.work.now in
     let target = target_of c.args.target in
     heard_put known (g.M.Kernel.state c.take_answer.new.self) c.args.waiting target c.args.p (answer_of c.args.answer.now) c.in_ok-heard.heard rest (list_of c.put_back.new.self) (list_of c.put_entry.new.work) c.in_ok-heard.ensures.ok
-    (c.put_back.ensures ∙ ap (λ w. Wait w target ∷ rest) (c.note.ensures ∙ ap (noted c.args.p c.in_ok-heard.heard.bytes) (c.take_first-taken.ensures ∙ ap (λ l. without_first (with_table l) c.args.waiting) c.processes.ensures)))
+    (c.put_back.ensures ∙ ap (λ w. Wait w target ∷ rest) (c.note.ensures ∙ ap (noted c.args.p c.in_ok-heard.heard.bytes) (c.pass_first.ensures ∙ ap (λ l. without_first (with_table l) c.args.waiting) c.processes.ensures)))
     put)

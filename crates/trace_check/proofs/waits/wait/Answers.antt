@@ -3,7 +3,7 @@ use Rattle.plain_machine.specs.Items.{GiveAnswer, Wait}
 use Rattle.process_table.specs.Table.{with_table}
 use Rattle.trace_check.specs.Meaning.{list_of, target_of}
 use Rattle.trace_check.specs.Waits.{ahead_of, in_next_round}
-use Rattle.trace_check.proofs.WaitItems.{wait_done, wait_round}
+use Rattle.trace_check.proofs.WaitItems.{truth_alike, wait_done, wait_round}
 use Rattle.trace_check.proofs.waits.wait.Goals as goal
 
 pub returns-in-Done : goal.returns-in-Done
@@ -12,7 +12,7 @@ returns-in-Done g c = λ program.
     let rest = list_of c.args.work.now in
     let target = target_of c.args.target in
     wait_done program known c.args.waiting target rest (list_of c.put_back.new.self) c.in-Done.heard (sym c.in-Done.is ∙ c.ahead.ensures ∙ ap (λ l. ahead_of (with_table l) c.args.waiting) c.processes.ensures)
-    (c.put_back.ensures ∙ ap (λ v. GiveAnswer v target ∷ rest) c.truth.ensures)
+    (c.put_back.ensures ∙ ap (λ v. GiveAnswer v target ∷ rest) (c.truth.ensures ∙ truth_alike c.in-Done.heard))
 
 pub returns-in_ok-begin_round-in-Round : goal.returns-in_ok-begin_round-in-Round
 returns-in_ok-begin_round-in-Round g c = λ program.

@@ -1,4 +1,4 @@
-use Rattle.std.proofs.Common.{◌≡◌, ℕ, ◌+◌, ◌-◌, List, [], length, take, drop, refl, ap, sym, ◌∙◌, subst, arith}
+use Rattle.std.proofs.Common.{◌≡◌, ℕ, zero, suc, ◌+◌, ◌-◌, List, [], ◌∷◌, length, get_or, take, drop, refl, ap, sym, ◌∙◌, subst, arith}
 use Rattle.std.specs.Prelude.{Some, None}
 use Rattle.std.specs.List.{position}
 use Rattle.std.proofs.lemmas.List.{drop_all}
@@ -10,7 +10,12 @@ use Rattle.wait_loop.proofs.RoundLemmas.{none_left, one_left}
 use Rattle.trace_check.specs.contracts.waiting.Waiting.{the_view}
 use Rattle.trace_check.specs.Waits.{without_first}
 use Rattle.trace_check.proofs.Aheads.{first_taken, nobody_taken}
-use Rattle.trace_check.proofs.waiting.Waiting.take_first.Goals as goal
+use Rattle.trace_check.proofs.waiting.Waiting.pass_first.Goals as goal
+
+read_again : (xs : List ℕ) (i : ℕ) → get_or xs i 0 ≡ get_or xs i (get_or xs i 0)
+read_again [] i = refl
+read_again (x ∷ xs) zero = refl
+read_again (x ∷ xs) (suc i) = read_again xs i
 
 pub returns-in-Some : goal.returns-in-Some
 returns-in-Some c =
@@ -19,8 +24,10 @@ returns-in-Some c =
     let seen = λ (xs : List ℕ). position (is_eligible s (waiting_for c.self.inside.aim)) (take (length xs - c.self.inside.at) (drop c.self.inside.at xs)) in
     let found : Some c.in-Some.i ≡ seen c.self.inside.asking.items = sym c.in-Some.is ∙ c.first_in.ensures ∙ ap seen c.deref.ensures.value in
     let left : Waiting = record old { asking = drop (c.self.inside.at + (c.in-Some.i + 1)) c.self.inside.asking.items } in
+    let place = c.self.inside.at + c.in-Some.i in
+    let first = get_or c.self.inside.asking.items place 0 in
     subst (λ (w : Waiting). left ≡ without_first s w) c.self.view_is
-    (first_taken s old c.index-p.result.now left (one_left s old c.self.inside.asking.items c.self.inside.at c.in-Some.i c.index-p.result.now refl found c.index-p.ensures))
+    (first_taken s old first left (one_left s old c.self.inside.asking.items c.self.inside.at c.in-Some.i first refl found (read_again c.self.inside.asking.items place)))
 
 pub returns-in-None : goal.returns-in-None
 returns-in-None c =
