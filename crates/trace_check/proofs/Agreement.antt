@@ -15,6 +15,7 @@ use Rattle.kernel_steps.specs.Outside.{deepest}
 use Rattle.kernel_steps.specs.Work.{working}
 use Rattle.kernel_steps.specs.Worlds.{Stands}
 use Rattle.trace_check.specs.Answers.{TakesUp}
+use Rattle.trace_check.specs.Questions.{Misses}
 use Rattle.trace_check.specs.Steps.{Unheard, IsAsking, IsOff}
 use Rattle.trace_check.specs.declared.turn.Done.{Done}
 use Rattle.trace_check.specs.declared.turn.Done.TheVariants as done
@@ -37,17 +38,35 @@ ask_equal (Kill c) (Kill d) h = ap Kill (eqb-true c d h)
 ask_equal _ _ h = cc
 
 -- WHAT AN ITEM COMES TO
+by_second : (A B C : Type 0) → A ⊎ B → (B → C) → A ⊎ C
+by_second A B C (inl a) f = inl a
+by_second A B C (inr b) f = inr (f b)
+
 module _ (program : Program) (next : Option Exchange) (known : State) (work : List Item) (ask : Ask) where
   -- in each state that the kernel stands for the machine asks this, and goes on so
   abbrev pub AsksThis : ((s : State) → Answer → Option Next) → Type 0
   AsksThis go = (s : State) → Stands known s → step program deepest (working s work) ≡ Asks ask (go s)
 
-  pub comes_waiting : (E : Type 0) (known2 : State) (left : List Item) (go : (s : State) → Answer → Option Next) → AsksThis go → next ≡ None → known2 ≡ known → left ≡ work → Unheard {E = E} (Ok done.Waits) program next known known2 work left
+  comes_waiting : (E : Type 0) (known2 : State) (left : List Item) (go : (s : State) → Answer → Option Next) → AsksThis go → next ≡ None → known2 ≡ known → left ≡ work → Unheard {E = E} (Ok done.Waits) program next known known2 work left
   comes_waiting E known2 left go asks none same work_is = λ sink. (none, record { state = same; work_is = work_is; sink = refl }, λ s h. (ask, go s, asks s h))
 
-  pub comes_astray : (E : Type 0) (known2 : State) (left : List Item) (go : (s : State) → Answer → Option Next) → AsksThis go → (x : Exchange) → next ≡ Some x →
+  comes_astray : (E : Type 0) (known2 : State) (left : List Item) (go : (s : State) → Answer → Option Next) → AsksThis go → (x : Exchange) → next ≡ Some x →
       ((s : State) → Stands known s → (same_ask ask x.ask ≡ false) ⊎ (go s x.answer ≡ None)) → known2 ≡ known → left ≡ work → Unheard {E = E} (Ok done.Off) program next known known2 work left
   comes_astray E known2 left go asks x is off same work_is = λ sink. (x, is, record { state = same; work_is = work_is; sink = refl }, λ s h. (ask, go s, asks s h, off s h))
+
+  -- where the journal has no answer to it
+  pub comes_missed : (E : Type 0) (may : Answer → Bool) (missed : Done) (left : List Item) (go : (s : State) → Answer → Option Next) → AsksThis go → Misses ask may next missed →
+      ((s : State) → Stands known s → (answer : Answer) → may answer ≡ false → go s answer ≡ None) → left ≡ work → Unheard {E = E} (Ok missed) program next known known work left
+  comes_missed E may done.Waits left go asks none barred work_is = comes_waiting E known left go asks none refl work_is
+  comes_missed E may done.Off left go asks off barred work_is =
+      let (x, is, why) = off in
+      comes_astray E known left go asks x is (λ s h. by_second (same_ask ask x.ask ≡ false) (may x.answer ≡ false) (go s x.answer ≡ None) why (barred s h x.answer)) refl work_is
+  comes_missed E may done.Alone left go asks missed barred work_is = absurd missed
+  comes_missed E may done.Answered left go asks missed barred work_is = absurd missed
+
+  -- where any answer would do
+  pub comes_unmet : (E : Type 0) (missed : Done) (left : List Item) (go : (s : State) → Answer → Option Next) → AsksThis go → Misses ask (λ answer. true) next missed → left ≡ work → Unheard {E = E} (Ok missed) program next known known work left
+  comes_unmet E missed left go asks misses work_is = comes_missed E (λ answer. true) missed left go asks misses (λ s h answer barred. absurd (let e : true ≡ false = barred in cc)) work_is
 
   -- by an answer, wherever it leads
   pub comes_heard : (E : Type 0) (known2 : State) (left : List Item) (go : (s : State) → Answer → Option Next) → AsksThis go → (x : Exchange) → next ≡ Some x → same_ask ask x.ask ≡ true →

@@ -3,9 +3,10 @@ ghost use Rattle.std.specs.Prelude.{◌≡◌, map, option_map, string_bytes};
 ghost use Rattle.plain_machine.specs.Run.{same_ask, same_bytes};
 ghost use Rattle.text_model.specs.Properties.{same_list};
 ghost use Rattle.host_link.specs.Meaning.{answer_of, ask_of, exchange_of, words_of};
-ghost use Rattle.trace_check.specs.Answers.{may_end, may_hear, may_kill, may_read};
-ghost use Rattle.trace_check.specs.Questions.{Meets, asked};
+ghost use Rattle.trace_check.specs.Answers.{may_end, may_kill, may_read};
+ghost use Rattle.trace_check.specs.Questions.{Meets, allows, asked};
 
+use crate::turn::Done;
 use host_link::{Answer, Ask, Exchange, WordList};
 use kernel_steps::Command;
 
@@ -60,29 +61,34 @@ impl Question<'_> {
             _ => false,
         }
     }
+
+    /// Whether it may be answered so. What answers a start, a text or a close is tested where it is taken.
+    fn allows(&self, answer: &Answer) -> bool
+        ensures { result ≡ allows self.now (answer_of answer.now) }
+    {
+        match self {
+            Question::Read(_) => may_read(answer),
+            Question::End(_) => may_end(answer),
+            Question::Kill(_) => may_kill(answer),
+            Question::Spawn(_) | Question::Send(_, _) | Question::Close(_) => true,
+        }
+    }
 }
 
-/// What a question meets in the journal.
-#[derive(Clone, Copy)]
-pub(crate) enum Met<'a> {
-    /// The journal is used up.
-    Nothing,
-    /// The next exchange has another ask.
-    Another,
-    Answer(&'a Answer),
-}
-
-/// What a question meets, where the journal has this next.
-pub(crate) fn meet<'a>(next: Option<&'a Exchange>, question: &Question) -> Met<'a>
-    ensures { Meets (asked question.now) (option_map (λ x. exchange_of x.now) next.entry) result }
+/// The answer to a question, where the journal has this exchange next. Without one, what the item comes to.
+pub(crate) fn meet<'a>(next: Option<&'a Exchange>, question: &Question) -> Result<&'a Answer, Done>
+    ensures { Meets (asked question.now) (allows question.now) (option_map (λ x. exchange_of x.now) next.entry) result }
 {
     let Some(exchange) = next else {
-        return Met::Nothing;
+        return Err(Done::Waits);
     };
-    if question.is(&exchange.ask) {
-        return Met::Answer(&exchange.answer);
+    if !question.is(&exchange.ask) {
+        return Err(Done::Off);
     }
-    Met::Another
+    if !question.allows(&exchange.answer) {
+        return Err(Done::Off);
+    }
+    Ok(&exchange.answer)
 }
 
 /// Whether a read may be answered so: it gives 1 to 4,096 bytes.
@@ -106,19 +112,8 @@ fn may_end(answer: &Answer) -> bool
     )
 }
 
-/// Whether a process may be answered so: about its end, once its output has ended.
-pub(crate) fn may_hear(drained: bool, answer: &Answer) -> bool
-    ensures { result ≡ may_hear drained (answer_of answer.now) }
-{
-    if drained {
-        may_end(answer)
-    } else {
-        may_read(answer)
-    }
-}
-
 /// Whether a kill may be answered so.
-pub(crate) fn may_kill(answer: &Answer) -> bool
+fn may_kill(answer: &Answer) -> bool
     ensures { result ≡ may_kill (answer_of answer.now) }
 {
     matches!(answer, Answer::Killed | Answer::Failed)

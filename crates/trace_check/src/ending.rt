@@ -6,7 +6,7 @@ ghost use Rattle.host_link.specs.Meaning.{exchange_of};
 ghost use Rattle.trace_check.specs.Meaning.{item_of, list_of, places_of};
 ghost use Rattle.trace_check.specs.Steps.{Aloud, Comes};
 
-use crate::asks::{Met, Question, may_kill, meet};
+use crate::asks::{Question, meet};
 use crate::item::Item;
 use crate::turn::{Done, StepFault};
 use crate::waits::is_running;
@@ -50,19 +50,11 @@ pub(crate) fn finish<M: Kernel, P: Program, K: Sink>(
         return Ok(Done::Alone);
     }
     match meet(next, &Question::Kill(child)) {
-        Met::Nothing => {
+        Err(missed) => {
             work.put_back(Item::Finish { process: p });
-            Ok(Done::Waits)
+            Ok(missed)
         }
-        Met::Another => {
-            work.put_back(Item::Finish { process: p });
-            Ok(Done::Off)
-        }
-        Met::Answer(answer) => {
-            if !may_kill(answer) {
-                work.put_back(Item::Finish { process: p });
-                return Ok(Done::Off);
-            }
+        Ok(_) => {
             kernel.tell_kill(program.symbols(), p, sink)?;
             leave_only(work, Item::Finish { process: p + 1 });
             Ok(Done::Answered)

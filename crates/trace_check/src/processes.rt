@@ -15,7 +15,7 @@ ghost use Rattle.trace_check.specs.Answers.{TakesUp};
 ghost use Rattle.trace_check.specs.Meaning.{list_of, places_of, target_of};
 ghost use Rattle.trace_check.specs.Steps.{Unheard};
 
-use crate::asks::{Met, Question, meet};
+use crate::asks::{Question, meet};
 use crate::item::{Item, Target};
 use crate::turn::Done;
 use crate::work::Work;
@@ -67,9 +67,8 @@ pub(crate) fn start_process<M: Kernel, P: Program>(
 {
     let command = kernel.command(program, &args)?;
     match meet(next, &Question::Spawn(&command)) {
-        Met::Nothing => unmade(work, Primitive::StartProcess, args, target, Done::Waits),
-        Met::Another => unmade(work, Primitive::StartProcess, args, target, Done::Off),
-        Met::Answer(answer) => take_spawned(kernel, program, work, args, target, answer),
+        Err(missed) => unmade(work, Primitive::StartProcess, args, target, missed),
+        Ok(answer) => take_spawned(kernel, program, work, args, target, answer),
     }
 }
 
@@ -159,15 +158,8 @@ pub(crate) fn send_string<M: Kernel, P: Program>(
     }
     let child = kernel.processes().get(kernel.process_given(&args)).child();
     match meet(next, &Question::Send(child, bytes.as_slice())) {
-        Met::Nothing => unmade(
-            work,
-            Primitive::ProcessSendString,
-            args,
-            target,
-            Done::Waits,
-        ),
-        Met::Another => unmade(work, Primitive::ProcessSendString, args, target, Done::Off),
-        Met::Answer(answer) => take_sent(kernel, work, args, target, bytes.len(), answer),
+        Err(missed) => unmade(work, Primitive::ProcessSendString, args, target, missed),
+        Ok(answer) => take_sent(kernel, work, args, target, bytes.len(), answer),
     }
 }
 
@@ -240,9 +232,8 @@ pub(crate) fn send_eof<M: Kernel, P: Program>(
         return Ok(Done::Alone);
     }
     match meet(next, &Question::Close(child)) {
-        Met::Nothing => unmade(work, Primitive::ProcessSendEof, args, target, Done::Waits),
-        Met::Another => unmade(work, Primitive::ProcessSendEof, args, target, Done::Off),
-        Met::Answer(answer) => take_closed(kernel, work, args, target, p, answer),
+        Err(missed) => unmade(work, Primitive::ProcessSendEof, args, target, missed),
+        Ok(answer) => take_closed(kernel, work, args, target, p, answer),
     }
 }
 

@@ -1,19 +1,20 @@
 //! Waits and deletions.
 ghost use Rattle.std.specs.Prelude.{◌≡◌, ◌<◌, ◌∷◌, true, option_map, OnOk};
 ghost use Rattle.plain_machine.specs.Arguments.{is_running};
+ghost use Rattle.plain_machine.specs.Exchanges.{Answer as Answered};
 ghost use Rattle.plain_machine.specs.Items.{Delete, Wait};
 ghost use Rattle.plain_machine.specs.Refusals.{may_ask};
 ghost use Rattle.plain_machine.specs.State.{Program as Plain};
 ghost use Rattle.process_table.specs.Table.{with_table};
 ghost use Rattle.host_link.specs.Meaning.{answer_of, exchange_of};
 ghost use Rattle.kernel_steps.specs.Waits.{entering};
-ghost use Rattle.trace_check.specs.Answers.{Deletes, Hears, IsAllowed};
+ghost use Rattle.trace_check.specs.Answers.{Deletes, Hears, IsAllowed, may_hear};
 ghost use Rattle.trace_check.specs.Meaning.{list_of, places_of, target_of};
-ghost use Rattle.trace_check.specs.Questions.{asked, asked_about};
+ghost use Rattle.trace_check.specs.Questions.{allows, asked, asked_about};
 ghost use Rattle.trace_check.specs.Steps.{Unheard};
 ghost use Rattle.trace_check.specs.Waits.{ahead_of};
 
-use crate::asks::{Met, Question, may_hear, may_kill, meet};
+use crate::asks::{Question, meet};
 use crate::item::{Item, Target};
 use crate::turn::Done;
 use crate::waiting::{Ahead, Waiting};
@@ -58,7 +59,8 @@ pub(crate) fn wait<M: Stepped>(
 
 /// What a process is asked: for its output, or for its end once that has ended.
 fn question_about<'a>(drained: bool, child: u32) -> Question<'a>
-    ensures { asked result ≡ asked_about drained child }
+    ensures asks { asked result ≡ asked_about drained child }
+    ensures allows { (answer : Answered) → allows result answer ≡ may_hear drained answer }
 {
     if drained {
         Question::End(child)
@@ -90,19 +92,11 @@ fn ask<M: Stepped>(
     let drained = process.drained();
     let question = question_about(drained, process.child());
     match meet(next, &question) {
-        Met::Nothing => {
+        Err(missed) => {
             work.put_back(Item::Wait { waiting, target });
-            Ok(Done::Waits)
+            Ok(missed)
         }
-        Met::Another => {
-            work.put_back(Item::Wait { waiting, target });
-            Ok(Done::Off)
-        }
-        Met::Answer(answer) => {
-            if !may_hear(drained, answer) {
-                work.put_back(Item::Wait { waiting, target });
-                return Ok(Done::Off);
-            }
+        Ok(answer) => {
             hear(kernel, work, waiting, target, p, answer)?;
             Ok(Done::Answered)
         }
@@ -170,19 +164,11 @@ pub(crate) fn delete<M: Stepped>(
     }
     let child = kernel.processes().get(p).child();
     match meet(next, &Question::Kill(child)) {
-        Met::Nothing => {
+        Err(missed) => {
             work.put_back(Item::Delete { process: p });
-            Ok(Done::Waits)
+            Ok(missed)
         }
-        Met::Another => {
-            work.put_back(Item::Delete { process: p });
-            Ok(Done::Off)
-        }
-        Met::Answer(answer) => {
-            if !may_kill(answer) {
-                work.put_back(Item::Delete { process: p });
-                return Ok(Done::Off);
-            }
+        Ok(_) => {
             kill(kernel, work, p)?;
             Ok(Done::Answered)
         }

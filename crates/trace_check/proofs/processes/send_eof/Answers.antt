@@ -16,13 +16,13 @@ use Rattle.kernel_steps.proofs.Shapes.{nil_is, process_is}
 use Rattle.trace_check.specs.Answers.{TakesUp}
 use Rattle.trace_check.specs.Meaning.{list_of, target_of}
 use Rattle.trace_check.specs.Questions.{Meets}
-use Rattle.trace_check.proofs.Agreement.{comes_waiting, comes_astray, comes_taken}
+use Rattle.trace_check.proofs.Agreement.{comes_unmet, comes_taken}
 use Rattle.trace_check.proofs.Asking.{start_asks, send_asks, send_nothing, close_asks, close_nothing}
 use Rattle.trace_check.proofs.Quiet.{stays_put}
 use Rattle.trace_check.proofs.processes.send_eof.Goals as goal
 
-pub returns-in-Nothing : goal.returns-in-Nothing
-returns-in-Nothing g c =
+pub returns-in-Err : goal.returns-in-Err
+returns-in-Err g c =
     let program = g.P.Program.meant c.args.program.now in
     let known = g.M.Kernel.state c.args.kernel.now in
     let args = map view (items_of c.args.args) in
@@ -37,11 +37,11 @@ returns-in-Nothing g c =
     let unclosed = closed_found known p k made ∙ sym c.closed.ensures ∙ c.if-closed.false in
     let go : State → Answer → Option Next = λ s. closed_answer s target rest p in
     let asks = close_asks program known args target rest p c.requires.passes c.process_given-p.ensures unclosed in
-    let met : Meets (Close (child_of known p)) next c.meet.result = subst (λ n. Meets (Close n) next c.meet.result) child c.meet.ensures in
-    rw c.unmade.ensures.result (comes_waiting program next known work (Close (child_of known p)) (Unit {0}) known (list_of c.unmade.new.work) go asks (rw c.in-Nothing.is at met) refl c.unmade.ensures.work)
+    let met : Meets (Close (child_of known p)) (λ answer. true) next c.meet.result = subst (λ n. Meets (Close n) (λ answer. true) next c.meet.result) child c.meet.ensures in
+    rw c.unmade.ensures.result (comes_unmet program next known work (Close (child_of known p)) (Unit {0}) c.in-Err.missed (list_of c.unmade.new.work) go asks (rw c.in-Err.is at met) c.unmade.ensures.work)
 
-pub returns-in-Another : goal.returns-in-Another
-returns-in-Another g c =
+pub returns-in-Ok : goal.returns-in-Ok
+returns-in-Ok g c =
     let program = g.P.Program.meant c.args.program.now in
     let known = g.M.Kernel.state c.args.kernel.now in
     let args = map view (items_of c.args.args) in
@@ -56,28 +56,8 @@ returns-in-Another g c =
     let unclosed = closed_found known p k made ∙ sym c.closed.ensures ∙ c.if-closed.false in
     let go : State → Answer → Option Next = λ s. closed_answer s target rest p in
     let asks = close_asks program known args target rest p c.requires.passes c.process_given-p.ensures unclosed in
-    let met : Meets (Close (child_of known p)) next c.meet.result = subst (λ n. Meets (Close n) next c.meet.result) child c.meet.ensures in
-    let (x, is, other) = rw c.in-Another.is at met in
-    rw c.unmade-in-Another.ensures.result (comes_astray program next known work (Close (child_of known p)) (Unit {0}) known (list_of c.unmade-in-Another.new.work) go asks x is (λ s h. inl other) refl c.unmade-in-Another.ensures.work)
-
-pub returns-in-Answer : goal.returns-in-Answer
-returns-in-Answer g c =
-    let program = g.P.Program.meant c.args.program.now in
-    let known = g.M.Kernel.state c.args.kernel.now in
-    let args = map view (items_of c.args.args) in
-    let target = target_of c.args.target in
-    let rest = list_of c.args.work.now in
-    let next = option_map (λ x. exchange_of x.now) c.args.next in
-    let work = MakeCall ProcessSendEof args target ∷ rest in
-    let p = c.process_given-p.result in
-    let k = c.get-process.result.now in
-    let made : slice_get known.processes p ≡ Some k = subst (λ l. slice_get l p ≡ Some k) c.processes.ensures c.get-process.ensures in
-    let child : c.child-child.result ≡ child_of known p = c.child-child.ensures ∙ sym (child_found known p k made) in
-    let unclosed = closed_found known p k made ∙ sym c.closed.ensures ∙ c.if-closed.false in
-    let go : State → Answer → Option Next = λ s. closed_answer s target rest p in
-    let asks = close_asks program known args target rest p c.requires.passes c.process_given-p.ensures unclosed in
-    let met : Meets (Close (child_of known p)) next c.meet.result = subst (λ n. Meets (Close n) next c.meet.result) child c.meet.ensures in
-    let (x, is, same, answer) = rw c.in-Answer.is at met in
+    let met : Meets (Close (child_of known p)) (λ answer. true) next c.meet.result = subst (λ n. Meets (Close n) (λ answer. true) next c.meet.result) child c.meet.ensures in
+    let (x, is, same, allowed, answer) = rw c.in-Ok.is at met in
     let known2 = g.M.Kernel.state c.take_closed.new.kernel in
     let left = list_of c.take_closed.new.work in
     let taken : TakesUp c.take_closed.result (λ s. go s x.answer) known known2 work left = subst (λ a. TakesUp c.take_closed.result (λ s. go s a) known known2 work left) (sym answer) c.take_closed.ensures in

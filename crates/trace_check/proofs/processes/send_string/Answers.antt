@@ -16,14 +16,14 @@ use Rattle.kernel_steps.proofs.Shapes.{nil_is, process_is}
 use Rattle.trace_check.specs.Answers.{TakesUp}
 use Rattle.trace_check.specs.Meaning.{list_of, target_of}
 use Rattle.trace_check.specs.Questions.{Meets}
-use Rattle.trace_check.proofs.Agreement.{comes_waiting, comes_astray, comes_taken}
+use Rattle.trace_check.proofs.Agreement.{comes_unmet, comes_taken}
 use Rattle.trace_check.proofs.Asking.{start_asks, send_asks, send_nothing, close_asks, close_nothing}
 use Rattle.trace_check.proofs.Quiet.{stays_put}
 use Rattle.std.specs.Prelude.{nat_eq}
 use Rattle.trace_check.proofs.processes.send_string.Goals as goal
 
-pub returns-in-Nothing : goal.returns-in-Nothing
-returns-in-Nothing g c =
+pub returns-in-Err : goal.returns-in-Err
+returns-in-Err g c =
     let program = g.P.Program.meant c.args.program.now in
     let known = g.M.Kernel.state c.args.kernel.now in
     let args = map view (items_of c.args.args) in
@@ -39,29 +39,8 @@ returns-in-Nothing g c =
     let child : c.child-child.result ≡ child_of known p = c.child-child.ensures ∙ sym (child_found known p k made) in
     let go : State → Answer → Option Next = λ s. sent_answer s target rest (length bytes) in
     let asks = send_asks program known args target rest p bytes c.requires.passes c.process_given.ensures c.in_ok-bytes.ensures some in
-    let met : Meets (Send (child_of known p) bytes) next c.meet.result = subst (λ n. Meets (Send n bytes) next c.meet.result) child (subst (λ l. Meets (Send c.child-child.result l) next c.meet.result) c.as_slice-2.ensures.value c.meet.ensures) in
-    rw c.unmade.ensures.result (comes_waiting program next known work (Send (child_of known p) bytes) (Unit {0}) known (list_of c.unmade.new.work) go asks (rw c.in-Nothing.is at met) refl c.unmade.ensures.work)
-
-pub returns-in-Another : goal.returns-in-Another
-returns-in-Another g c =
-    let program = g.P.Program.meant c.args.program.now in
-    let known = g.M.Kernel.state c.args.kernel.now in
-    let args = map view (items_of c.args.args) in
-    let target = target_of c.args.target in
-    let rest = list_of c.args.work.now in
-    let next = option_map (λ x. exchange_of x.now) c.args.next in
-    let work = MakeCall ProcessSendString args target ∷ rest in
-    let bytes = c.in_ok-bytes.bytes.items in
-    let some = something_there args bytes c.in_ok-bytes.ensures (sym (ap (λ l. nat_eq (length l) 0) c.as_slice.ensures.value) ∙ sym c.is_empty.ensures ∙ c.if-is_empty.false) in
-    let p = c.process_given.result in
-    let k = c.get.result.now in
-    let made : slice_get known.processes p ≡ Some k = subst (λ l. slice_get l p ≡ Some k) c.processes.ensures c.get.ensures in
-    let child : c.child-child.result ≡ child_of known p = c.child-child.ensures ∙ sym (child_found known p k made) in
-    let go : State → Answer → Option Next = λ s. sent_answer s target rest (length bytes) in
-    let asks = send_asks program known args target rest p bytes c.requires.passes c.process_given.ensures c.in_ok-bytes.ensures some in
-    let met : Meets (Send (child_of known p) bytes) next c.meet.result = subst (λ n. Meets (Send n bytes) next c.meet.result) child (subst (λ l. Meets (Send c.child-child.result l) next c.meet.result) c.as_slice-2.ensures.value c.meet.ensures) in
-    let (x, is, other) = rw c.in-Another.is at met in
-    rw c.unmade-in-Another.ensures.result (comes_astray program next known work (Send (child_of known p) bytes) (Unit {0}) known (list_of c.unmade-in-Another.new.work) go asks x is (λ s h. inl other) refl c.unmade-in-Another.ensures.work)
+    let met : Meets (Send (child_of known p) bytes) (λ answer. true) next c.meet.result = subst (λ n. Meets (Send n bytes) (λ answer. true) next c.meet.result) child (subst (λ l. Meets (Send c.child-child.result l) (λ answer. true) next c.meet.result) c.as_slice-2.ensures.value c.meet.ensures) in
+    rw c.unmade.ensures.result (comes_unmet program next known work (Send (child_of known p) bytes) (Unit {0}) c.in-Err.missed (list_of c.unmade.new.work) go asks (rw c.in-Err.is at met) c.unmade.ensures.work)
 
 pub returns : goal.returns
 returns g c =
@@ -80,11 +59,11 @@ returns g c =
     let child : c.child-child.result ≡ child_of known p = c.child-child.ensures ∙ sym (child_found known p k made) in
     let go : State → Answer → Option Next = λ s. sent_answer s target rest (length bytes) in
     let asks = send_asks program known args target rest p bytes c.requires.passes c.process_given.ensures c.in_ok-bytes.ensures some in
-    let met : Meets (Send (child_of known p) bytes) next c.meet.result = subst (λ n. Meets (Send n bytes) next c.meet.result) child (subst (λ l. Meets (Send c.child-child.result l) next c.meet.result) c.as_slice-2.ensures.value c.meet.ensures) in
-    let (x, is, same, answer) = rw c.in-Answer.is at met in
+    let met : Meets (Send (child_of known p) bytes) (λ answer. true) next c.meet.result = subst (λ n. Meets (Send n bytes) (λ answer. true) next c.meet.result) child (subst (λ l. Meets (Send c.child-child.result l) (λ answer. true) next c.meet.result) c.as_slice-2.ensures.value c.meet.ensures) in
+    let (x, is, same, allowed, answer) = rw c.in-Ok.is at met in
     let known2 = g.M.Kernel.state c.take_sent.new.kernel in
     let left = list_of c.take_sent.new.work in
-    let sized : TakesUp c.take_sent.result (λ s. go s (answer_of c.in-Answer.answer.now)) known known2 work left = subst (λ n. TakesUp c.take_sent.result (λ s. sent_answer s target rest n (answer_of c.in-Answer.answer.now)) known known2 work left) (c.len.ensures ∙ sym c.as_slice.ensures.len ∙ ap length c.as_slice.ensures.value) c.take_sent.ensures in
+    let sized : TakesUp c.take_sent.result (λ s. go s (answer_of c.in-Ok.answer.now)) known known2 work left = subst (λ n. TakesUp c.take_sent.result (λ s. sent_answer s target rest n (answer_of c.in-Ok.answer.now)) known known2 work left) (c.len.ensures ∙ sym c.as_slice.ensures.len ∙ ap length c.as_slice.ensures.value) c.take_sent.ensures in
     let taken : TakesUp c.take_sent.result (λ s. go s x.answer) known known2 work left = subst (λ a. TakesUp c.take_sent.result (λ s. go s a) known known2 work left) (sym answer) sized in
     comes_taken program next known work (Send (child_of known p) bytes) c.take_sent.result known2 left go asks x is same taken
 
