@@ -1,9 +1,9 @@
-use Rattle.std.proofs.Common.{◌≡◌, ◌∷◌, ◌≤◌, length, ap, sym, ◌∙◌, refl, subst, true, false, slice_get, inl, inr, arith}
-use Rattle.std.specs.Prelude.{Some, None, option_map}
+use Rattle.std.proofs.Common.{◌≡◌, ◌∷◌, ◌≤◌, length, sym, ◌∙◌, subst, true, slice_get, arith}
+use Rattle.std.specs.Prelude.{Some, option_map}
 use Rattle.plain_machine.specs.Arguments.{is_running}
 use Rattle.plain_machine.specs.Exchanges.{Kill}
-use Rattle.plain_machine.specs.Items.{Delete, Finish}
-use Rattle.host_link.specs.Meaning.{answer_of, exchange_of}
+use Rattle.plain_machine.specs.Items.{Finish}
+use Rattle.host_link.specs.Meaning.{exchange_of}
 use Rattle.plain_machine.specs.Lines.{KilledLast}
 use Rattle.kernel_steps.proofs.Telling.{by_names}
 use Rattle.trace_check.specs.Answers.{may_kill}

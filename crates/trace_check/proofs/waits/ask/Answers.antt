@@ -1,10 +1,8 @@
-use Rattle.std.proofs.Common.{◌≡◌, ◌∷◌, length, ap, sym, ◌∙◌, refl, subst, inl, inr, true, false, slice_get}
-use Rattle.std.specs.Prelude.{Some, None, option_map}
-use Rattle.plain_machine.specs.Exchanges.{Answer, Exchange}
-use Rattle.plain_machine.specs.Items.{Refuse, Wait}
-use Rattle.plain_machine.specs.Run.{same_ask}
-use Rattle.editor_model.specs.Values.{ExchangesSpent}
-use Rattle.host_link.specs.Meaning.{answer_of, exchange_of}
+use Rattle.std.proofs.Common.{◌≡◌, ◌∷◌, ap, sym, ◌∙◌, subst, false, slice_get}
+use Rattle.std.specs.Prelude.{Some, option_map}
+use Rattle.plain_machine.specs.Exchanges.{Answer}
+use Rattle.plain_machine.specs.Items.{Wait}
+use Rattle.host_link.specs.Meaning.{exchange_of}
 use Rattle.trace_check.specs.Answers.{Hears, may_hear}
 use Rattle.trace_check.specs.Meaning.{list_of, target_of}
 use Rattle.trace_check.specs.Questions.{Meets, allows, asked, asked_about}

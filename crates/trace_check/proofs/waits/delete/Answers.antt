@@ -1,11 +1,11 @@
-use Rattle.std.proofs.Common.{◌≡◌, ◌∷◌, length, ap, sym, ◌∙◌, refl, subst, true, false, slice_get, inl, inr, arith}
-use Rattle.std.specs.Prelude.{Some, None, option_map}
+use Rattle.std.proofs.Common.{◌≡◌, ◌∷◌, sym, ◌∙◌, subst, true, slice_get}
+use Rattle.std.specs.Prelude.{Some, option_map}
 use Rattle.plain_machine.specs.Arguments.{is_running}
 use Rattle.plain_machine.specs.Exchanges.{Kill}
-use Rattle.plain_machine.specs.Items.{Delete, Finish}
-use Rattle.host_link.specs.Meaning.{answer_of, exchange_of}
+use Rattle.plain_machine.specs.Items.{Delete}
+use Rattle.host_link.specs.Meaning.{exchange_of}
 use Rattle.kernel_steps.proofs.Passing.{running_within}
-use Rattle.trace_check.specs.Answers.{Deletes, may_kill}
+use Rattle.trace_check.specs.Answers.{may_kill}
 use Rattle.trace_check.specs.Meaning.{list_of}
 use Rattle.trace_check.specs.Questions.{Meets}
 use Rattle.trace_check.proofs.Agreement.{comes_missed, comes_heard}
