@@ -19,10 +19,23 @@ use Rattle.host_link.specs.declared.host.Ended.TheVariants as ended
 use Rattle.handler_run.specs.declared.entry.Entry.{Entry}
 use Rattle.handler_run.specs.Entries.{entering}
 
+-- ROOM
+-- the most bytes that one read gives
+abbrev pub most_read : ℕ
+most_read = 4096
+
+-- the most bytes that a decoder holds
+abbrev pub most_held : ℕ
+most_held = 3
+
+-- the most characters that a sentinel is told: those of the smallest exit code
+abbrev pub longest_told : ℕ
+longest_told = 40
+
 -- READS
 -- the bytes are those that an answer gave, and else none
 abbrev pub IsRead : Got → (bytes : List ℕ) → Type 0
-IsRead (got.Bytes n) bytes = (length bytes ≡ n) × (1 ≤ n) × (n ≤ 4096)
+IsRead (got.Bytes n) bytes = (length bytes ≡ n) × (1 ≤ n) × (n ≤ most_read)
 IsRead _ bytes = bytes ≡ []
 
 -- the characters that come out, by the coding and the bytes that were held

@@ -8,6 +8,7 @@ ghost use Rattle.process_table.specs.Table.{StandsFor, coding_by, held_by};
 ghost use Rattle.host_link.specs.Hosts.{got_answer};
 ghost use Rattle.handler_run.specs.Answers.{Deletes, Ends, IsRead, Reads, Takes, after_end};
 ghost use Rattle.handler_run.specs.Answers.{after_read, came_to, heard_of};
+ghost use Rattle.handler_run.specs.Answers.{longest_told, most_held, most_read};
 
 use crate::entry::{Entry, arguments, filter_entry};
 use crate::slot::Slot;
@@ -21,7 +22,7 @@ use process_table::{Processes, Status};
 /// where that failed, what was held back comes out too. It takes no memory; the slot was made for `p` as it stands.
 pub fn enter(table: &mut Processes, p: u32, slot: Slot, got: &Got, bytes: &[u8]) -> Entry
     requires made { p < length table.old }
-    requires room { 4099 ≤ slot }
+    requires room { most_read + most_held ≤ slot }
     requires read { IsRead got.now bytes.now }
     ensures count { length table.new ≡ length table.old }
     ensures table { table.new ≡ after_read p got.now bytes.now table.old }
@@ -42,7 +43,7 @@ pub fn enter(table: &mut Processes, p: u32, slot: Slot, got: &Got, bytes: &[u8])
 /// Decodes what a read gave.
 fn decode(table: &mut Processes, p: u32, got: &Got, bytes: &[u8], out: &mut Chars)
     requires made { p < length table.old }
-    requires room { 4099 ≤ out.old.spare }
+    requires room { most_read + most_held ≤ out.old.spare }
     requires read { IsRead got.now bytes.now }
     ensures count { length table.new ≡ length table.old }
     ensures table { table.new ≡ after_read p got.now bytes.now table.old }
@@ -67,7 +68,7 @@ fn decode(table: &mut Processes, p: u32, got: &Got, bytes: &[u8], out: &mut Char
 /// takes no memory; the slot was made for `p` as it stands.
 pub fn ended(table: &mut Processes, p: u32, slot: Slot, how: &Ended) -> Entry
     requires made { p < length table.old }
-    requires room { 40 ≤ slot }
+    requires room { longest_told ≤ slot }
     ensures count { length table.new ≡ length table.old }
     ensures table { table.new ≡ after_end p how.now table.old }
     ensures none { (result ≡ Entry.None) ↔ (how.now ≡ Ended.Running) }

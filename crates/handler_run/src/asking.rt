@@ -1,9 +1,9 @@
 //! Asking a child: the question, its answer, and what is entered for it.
-ghost use Rattle.std.specs.Prelude.{◌≡◌, ◌<◌, ◌≤◌, length, false, Some, IfOk, OnErr, slice_get};
+ghost use Rattle.std.specs.Prelude.{◌≡◌, ◌+◌, ◌<◌, ◌≤◌, length, false, Some, IfOk, OnErr, slice_get};
 ghost use Rattle.plain_machine.specs.Arguments.{child_of};
 ghost use Rattle.process_table.specs.Table.{with_table};
 ghost use Rattle.host_link.specs.Hosts.{Fits, got_answer};
-ghost use Rattle.handler_run.specs.Answers.{IsRead};
+ghost use Rattle.handler_run.specs.Answers.{IsRead, longest_told, most_held, most_read};
 ghost use Rattle.handler_run.specs.Asking.{Hears, HearsEnd, HearsOutput, Kills};
 
 use crate::entry::Entry;
@@ -42,7 +42,7 @@ pub fn hear<H: Host>(alloc: Global, table: &mut Processes, host: &mut H, p: u32)
 /// The bytes that a read gave, which stand at the front of its room.
 fn given<'a>(got: &Got, room: &'a [u8]) -> &'a [u8]
     requires fits { Fits (length room.now) got.now }
-    requires few { length room.now ≤ 4096 }
+    requires few { length room.now ≤ most_read }
     ensures read { IsRead got.now result.now }
     ensures answer { got_answer result.now got.now ≡ got_answer room.now got.now }
 {
@@ -56,7 +56,7 @@ fn given<'a>(got: &Got, room: &'a [u8]) -> &'a [u8]
 fn hear_output<H: Host>(table: &mut Processes, host: &mut H, p: u32, slot: Slot) -> Mem<Heard>
     requires made { p < length table.old }
     requires there { child_of (with_table table.old) p < length (H.state host.old).kills }
-    requires room { 4099 ≤ slot }
+    requires room { most_read + most_held ≤ slot }
     ensures ok { IfOk result (HearsOutput H.state H.made host.old host.new table.old table.new p) }
     ensures table { OnErr result (table.new ≡ table.old) }
     ensures host { OnErr result (host.new ≡ host.old) }
@@ -71,7 +71,7 @@ fn hear_output<H: Host>(table: &mut Processes, host: &mut H, p: u32, slot: Slot)
 fn hear_end<H: Host>(table: &mut Processes, host: &mut H, p: u32, slot: Slot) -> Mem<Heard>
     requires made { p < length table.old }
     requires there { child_of (with_table table.old) p < length (H.state host.old).kills }
-    requires room { 40 ≤ slot }
+    requires room { longest_told ≤ slot }
     ensures ok { IfOk result (HearsEnd H.state H.made host.old host.new table.old table.new p) }
     ensures table { OnErr result (table.new ≡ table.old) }
     ensures host { OnErr result (host.new ≡ host.old) }

@@ -1,5 +1,6 @@
 //! Room for an answer.
-ghost use Rattle.std.specs.Prelude.{◌≡◌, ◌≤◌, false, IfOk};
+ghost use Rattle.std.specs.Prelude.{◌≡◌, ◌+◌, ◌≤◌, false, IfOk};
+ghost use Rattle.handler_run.specs.Answers.{longest_told, most_held, most_read};
 
 use crate::told::LONGEST_TOLD;
 use ek_call::Values;
@@ -36,8 +37,8 @@ impl Model for Slot {
 /// Takes all the memory that the next answer of a process can need, before it is asked: for the characters of one read
 /// and of the bytes held, or for what its sentinel is told.
 pub fn ready(alloc: Global, p: &Process) -> Mem<Slot>
-    ensures reads { p.now.drained ≡ false → IfOk result (λ slot. 4099 ≤ slot) }
-    ensures ends { IfOk result (λ slot. 40 ≤ slot) }
+    ensures reads { p.now.drained ≡ false → IfOk result (λ slot. most_read + most_held ≤ slot) }
+    ensures ends { IfOk result (λ slot. longest_told ≤ slot) }
 {
     let mut text = Chars::new(alloc);
     text.reserve(needed(p))?;
@@ -49,8 +50,8 @@ pub fn ready(alloc: Global, p: &Process) -> Mem<Slot>
 
 /// For how many characters the next answer of a process needs room.
 fn needed(p: &Process) -> usize
-    ensures reads { p.now.drained ≡ false → result ≡ 4099 }
-    ensures ends { 40 ≤ result }
+    ensures reads { p.now.drained ≡ false → result ≡ most_read + most_held }
+    ensures ends { longest_told ≤ result }
 {
     if p.drained() {
         LONGEST_TOLD

@@ -1,9 +1,10 @@
 //! Taking up an answer of a child, whether a host gave it or it was told.
-ghost use Rattle.std.specs.Prelude.{◌≡◌, ◌<◌, ◌≤◌, ℕ, List, length, IfOk, OnErr};
+ghost use Rattle.std.specs.Prelude.{◌≡◌, ◌+◌, ◌<◌, ◌≤◌, ℕ, List, length, IfOk, OnErr};
 ghost use Rattle.host_link.specs.Meaning.{answer_of};
 ghost use Rattle.host_link.specs.Hosts.{got_answer};
 ghost use Rattle.host_link.specs.Played.{read_as};
-ghost use Rattle.handler_run.specs.Answers.{IsRead, gave_bytes};
+ghost use Rattle.handler_run.specs.Answers.{IsRead, gave_bytes, longest_told, most_held};
+ghost use Rattle.handler_run.specs.Answers.{most_read};
 ghost use Rattle.handler_run.specs.Asking.{MayBeTold, TakesAnswer, TakesEnd, TakesKill};
 ghost use Rattle.handler_run.specs.Asking.{TakesOutput, bytes_in};
 
@@ -34,7 +35,7 @@ pub(crate) fn take_output(
     bytes: &[u8],
 ) -> Heard
     requires made { p < length table.old }
-    requires room { 4099 ≤ slot }
+    requires room { most_read + most_held ≤ slot }
     requires read { IsRead got.now bytes.now }
     ensures { TakesOutput table.old table.new p (got_answer bytes.now got.now) result }
 {
@@ -47,7 +48,7 @@ pub(crate) fn take_output(
 /// Process `p` answered how it has ended.
 pub(crate) fn take_end(table: &mut Processes, p: u32, slot: Slot, how: &Ended) -> Heard
     requires made { p < length table.old }
-    requires room { 40 ≤ slot }
+    requires room { longest_told ≤ slot }
     ensures { TakesEnd table.old table.new p how.now result }
 {
     Heard {
@@ -59,7 +60,7 @@ pub(crate) fn take_end(table: &mut Processes, p: u32, slot: Slot, how: &Ended) -
 /// Process `p` was killed.
 pub(crate) fn take_signal(table: &mut Processes, p: u32, slot: Slot) -> Entry
     requires made { p < length table.old }
-    requires room { 40 ≤ slot }
+    requires room { longest_told ≤ slot }
     ensures { TakesKill table.old table.new p result }
 {
     ended(table, p, slot, &Ended::Signal)

@@ -3,7 +3,7 @@ ghost use Rattle.std.specs.Prelude.{◌≡◌, ◌≢◌, pos, ◌+◌, ◌≤�
 ghost use Rattle.std.specs.Fmt.{signed_decimal};
 ghost use Rattle.text_model.specs.Characters.{Scalar};
 ghost use Rattle.plain_machine.specs.Waits.{exit_text};
-ghost use Rattle.handler_run.specs.Answers.{told_of};
+ghost use Rattle.handler_run.specs.Answers.{longest_told, told_of};
 
 use ek_types::Chars;
 use host_link::Ended;
@@ -32,7 +32,7 @@ fn put_number(text: &mut Chars, n: i32)
 
 /// Puts what a sentinel is told of an exit code but 0, with no memory taken.
 fn put_exit(text: &mut Chars, code: i32)
-    requires room { 40 ≤ text.old.spare }
+    requires room { longest_told ≤ text.old.spare }
     requires code { code ≢ pos 0 }
     ensures { text.new.items ≡ text.old.items ++ map Scalar (exit_text code) }
 {
@@ -43,7 +43,7 @@ fn put_exit(text: &mut Chars, code: i32)
 
 /// Puts what a sentinel is told of an end, with no memory taken.
 pub(crate) fn put_told(text: &mut Chars, how: &Ended)
-    requires { 40 ≤ text.old.spare }
+    requires { longest_told ≤ text.old.spare }
     ensures { text.new.items ≡ text.old.items ++ map Scalar (told_of how.now) }
 {
     match how {
