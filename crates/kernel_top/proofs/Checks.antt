@@ -9,7 +9,7 @@ use Rattle.plain_machine.specs.Grammar.{IsScript}
 use Rattle.ek_types.specs.Io.{SinkState, Writes}
 use Rattle.journal_text.specs.Lines.{journal, claim, longest_session}
 use Rattle.journal_text.specs.Transcripts.{between, IsTranscriptTo}
-use Rattle.kernel_top.specs.Scripts.{IsNoScript}
+use Rattle.kernel_top.specs.Scripts.{TellsNoScript}
 use Rattle.kernel_top.specs.Checking.{Judged, Checked, yes, Told}
 use Rattle.kernel_top.specs.Outcomes.{written_status}
 use Rattle.kernel_top.specs.declared.status.Status.{Status}
@@ -44,7 +44,7 @@ checked_bytes program script status.JournalFull read list from to at found is so
 checked_bytes program script status.SessionFull read list from to at found is so = absurd so
 
 -- behind the claimed lines there is no script
-pub unscripted : (program : Script → Program) (answer : Status) (read : List ℕ) (list : List Exchange) (from to at : ℕ) → IsTranscriptTo read list from to at → IsNoScript answer (drop at read) → Checked program answer read
+pub unscripted : (program : Script → Program) (answer : Status) (read : List ℕ) (list : List Exchange) (from to at : ℕ) → IsTranscriptTo read list from to at → TellsNoScript answer (drop at read) → Checked program answer read
 unscripted program (status.Script line) read list from to at found none = record { journal = list; claimed = between from to read; bytes = drop at read; lines = found.lines; is = found.whole; so = none }
 unscripted program status.NoMemory read list from to at found none = tt
 unscripted program status.Done read list from to at found none = absurd none

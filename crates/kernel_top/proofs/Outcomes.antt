@@ -17,11 +17,11 @@ use Rattle.kernel_steps.specs.declared.stop.Stop.{Stop}
 use Rattle.kernel_steps.specs.declared.stop.Stop.TheVariants as stop
 use Rattle.command_words.specs.SessionWords.{SessionWords}
 use Rattle.kernel_top.specs.Reading.{HasEnded, IsAll}
-use Rattle.kernel_top.specs.Scripts.{HasNoScript, IsNoScript, IsUnreadScript, IsLeftUnread}
+use Rattle.kernel_top.specs.Scripts.{IsNoScript, TellsNoScript, IsUnreadScript, LeavesScriptUnread}
 use Rattle.kernel_top.specs.Drills.{SumsUp}
 use Rattle.kernel_top.specs.Checking.{OfCheck}
 use Rattle.kernel_top.specs.Replaying.{ReadAnd, SourceSettled}
-use Rattle.kernel_top.specs.Outcomes.{status_of, written_status, Seen, seen, IsQuiet, OnScript, OnRun, OnRecord, OnReplay, OnCheck, OnView, OnDrill, OnSession, IsUnread, Outcome, most_read, Came, CameSo, OfBytes, Ends, EndsOrOverflows, EndsOrFills, EndsOrRefuses, EndsOrJudges, UnlessFaults, OnScriptUnlessFaults, Completes}
+use Rattle.kernel_top.specs.Outcomes.{status_of, written_status, Seen, seen, IsQuiet, OnScript, OnRun, OnRecord, OnReplay, OnCheck, OnView, OnDrill, OnSession, IsUnread, Outcome, most_read, Came, CameForAnySource, OfBytes, Ends, EndsOrOverflows, EndsOrFills, EndsOrRefuses, EndsOrJudges, UnlessFaults, OnScriptUnlessFaults, Completes}
 use Rattle.command_words.specs.declared.commands.Command.{Command}
 use Rattle.command_words.specs.declared.commands.Command.TheVariants as command
 use Rattle.kernel_top.specs.declared.status.Status.{Status}
@@ -61,15 +61,15 @@ pub quiet : (source source' : SourceState) (sink : SinkState) (host : HostState)
 quiet source source' sink host = record { nothing = refl; alone = refl; sink = refl; host = refl }
 
 -- more bytes than a script may have are none
-too_long : (bytes : List ℕ) → longest_script < length bytes → HasNoScript bytes 0
+too_long : (bytes : List ℕ) → longest_script < length bytes → IsNoScript bytes 0
 too_long bytes long = record { none = λ script is. omega (arith, is.short, long); at = inl (long, refl) }
 
 -- a script that isn't there is no fault of source or sink, and one that wasn't had is none of the sink
-pub refused_no_read : (answer : Status) (bytes : List ℕ) → IsNoScript answer bytes → answer ≡ status.ReadFault → ⊥
-refused_no_read answer bytes none e = subst (λ a. IsNoScript a bytes) e none
+pub refused_no_read : (answer : Status) (bytes : List ℕ) → TellsNoScript answer bytes → answer ≡ status.ReadFault → ⊥
+refused_no_read answer bytes none e = subst (λ a. TellsNoScript a bytes) e none
 
-pub refused_no_write : (answer : Status) (bytes : List ℕ) → IsNoScript answer bytes → answer ≡ status.WriteFault → ⊥
-refused_no_write answer bytes none e = subst (λ a. IsNoScript a bytes) e none
+pub refused_no_write : (answer : Status) (bytes : List ℕ) → TellsNoScript answer bytes → answer ≡ status.WriteFault → ⊥
+refused_no_write answer bytes none e = subst (λ a. TellsNoScript a bytes) e none
 
 pub unread_no_write : (answer : Status) (read : List ℕ) → IsUnreadScript answer read → answer ≡ status.WriteFault → ⊥
 unread_no_write answer read un e = subst (λ a. IsUnreadScript a read) e un
@@ -90,7 +90,7 @@ module _ (So : Status → Script → (read written : List ℕ) → List Exchange
   on_unread status.SessionFull read un source source' sink host = absurd un
 
   -- they are no script
-  on_refused : (answer : Status) (bytes : List ℕ) → IsNoScript answer bytes → (source source' : SourceState) (sink : SinkState) (host : HostState) → HasEnded source.left source'.left → OnScript So answer bytes [] [] (seen source sink host) (seen source' sink host)
+  on_refused : (answer : Status) (bytes : List ℕ) → TellsNoScript answer bytes → (source source' : SourceState) (sink : SinkState) (host : HostState) → HasEnded source.left source'.left → OnScript So answer bytes [] [] (seen source sink host) (seen source' sink host)
   on_refused (status.Script line) bytes none source source' sink host ended = (inl ended, none, quiet source source' sink host)
   on_refused status.NoMemory bytes none source source' sink host ended = inl (quiet source source' sink host)
   on_refused status.Done bytes none source source' sink host ended = absurd none
@@ -103,7 +103,7 @@ module _ (So : Status → Script → (read written : List ℕ) → List Exchange
   on_refused status.SessionFull bytes none source source' sink host ended = absurd none
   on_refused status.ReadFault bytes none source source' sink host ended = absurd none
 
-  pub came_refused : {H : Type 0} (hosted : H → HostState) (made : H → H → Ask → ℕ → Answer → Type 0) (answer : Status) (bytes : List ℕ) (start : H) (sink : SinkState) → IsNoScript answer bytes → CameSo hosted made start start sink sink (OfBytes (OnScript So) bytes answer)
+  pub came_refused : {H : Type 0} (hosted : H → HostState) (made : H → H → Ask → ℕ → Answer → Type 0) (answer : Status) (bytes : List ℕ) (start : H) (sink : SinkState) → TellsNoScript answer bytes → CameForAnySource hosted made start start sink sink (OfBytes (OnScript So) bytes answer)
   came_refused hosted made answer bytes start sink none = record {
     written = [];
     exchanges = [];
@@ -136,7 +136,7 @@ module _ {H : Type 0} (hosted : H → HostState) (made : H → H → Ask → ℕ
   -- so it is of the bytes of a source, and the host has told its calls
   pub came_from : (On : Status → (read written : List ℕ) → List Exchange → (before now : Seen) → Type 0) (bytes : List ℕ) →
       ((written : List ℕ) (exchanges : List Exchange) (before now : Seen) → On answer bytes written exchanges before now → Outcome program asked answer bytes written exchanges before now) →
-      IsAll longest_script bytes source source' → CameSo hosted made start now sink sink' (OfBytes On bytes answer) → Came hosted made program asked answer start now source source' sink sink'
+      IsAll longest_script bytes source source' → CameForAnySource hosted made start now sink sink' (OfBytes On bytes answer) → Came hosted made program asked answer start now source source' sink sink'
   came_from On bytes row all of = record {
     read = bytes;
     written = of.written;
@@ -151,7 +151,7 @@ module _ {H : Type 0} (hosted : H → HostState) (made : H → H → Ask → ℕ
 
   -- so it is where the bytes of a script weren't had, and nothing else was done
   pub came_left : ((bytes : List ℕ) → IsUnreadScript answer bytes → Outcome program asked answer bytes [] [] (seen source sink (hosted start)) (seen source' sink (hosted start))) →
-      IsLeftUnread answer source source' → Came hosted made program asked answer start start source source' sink sink
+      LeavesScriptUnread answer source source' → Came hosted made program asked answer start start source source' sink sink
   came_left row left = record {
     read = left.read;
     written = [];
@@ -167,7 +167,7 @@ module _ {H : Type 0} (hosted : H → HostState) (made : H → H → Ask → ℕ
   -- so it is of a drill or a line session, whose source is as it was
   pub came_aside : (So : (written : List ℕ) → List Exchange → (before now : Seen) → Type 0) →
       ((written : List ℕ) (exchanges : List Exchange) (before now : Seen) → IsUnread [] before now → So written exchanges before now → Outcome program asked answer [] written exchanges before now) →
-      CameSo hosted made start now sink sink' So → Came hosted made program asked answer start now source source sink sink'
+      CameForAnySource hosted made start now sink sink' So → Came hosted made program asked answer start now source source sink sink'
   came_aside So row of = record {
     read = [];
     written = of.written;
@@ -212,13 +212,13 @@ came_unknown hosted made program start source sink = record {
 
 -- a drill comes to no read fault
 pub drill_reads_nothing : {H : Type 0} (hosted : H → HostState) (made : H → H → Ask → ℕ → Answer → Type 0) (program : Script → Program) (count : ℕ) (answer : Status) (start now : H) (sink sink' : SinkState) (source : SourceState) →
-    CameSo hosted made start now sink sink' (OnDrill program count answer) → answer ≡ status.ReadFault → ⊥
+    CameForAnySource hosted made start now sink sink' (OnDrill program count answer) → answer ≡ status.ReadFault → ⊥
 drill_reads_nothing hosted made program count answer start now sink sink' source of e =
     subst (λ a. OnDrill program count a of.written of.exchanges (seen source sink (hosted start)) (seen source sink' (hosted now))) e (of.so source source)
 
 -- nor does a line session
 pub session_reads_nothing : {H : Type 0} (hosted : H → HostState) (made : H → H → Ask → ℕ → Answer → Type 0) (wanted : SessionWords) (answer : Status) (start now : H) (sink sink' : SinkState) (source : SourceState) →
-    CameSo hosted made start now sink sink' (OnSession wanted answer) → answer ≡ status.ReadFault → ⊥
+    CameForAnySource hosted made start now sink sink' (OnSession wanted answer) → answer ≡ status.ReadFault → ⊥
 session_reads_nothing hosted made wanted answer start now sink sink' source of e =
     let row : OnSession wanted status.ReadFault of.written of.exchanges (seen source sink (hosted start)) (seen source sink' (hosted now)) =
     subst (λ a. OnSession wanted a of.written of.exchanges (seen source sink (hosted start)) (seen source sink' (hosted now))) e (of.so source source) in
@@ -230,7 +230,7 @@ told_ended : (bytes : List ℕ) (before now : Option (List ℕ)) → before ≡ 
 told_ended bytes None now told ended = absurd (let no : None ≡ Some bytes = told in cc)
 told_ended bytes (Some left) now told ended = ended
 
-no_script_read : (bytes read : List ℕ) (script : Script) (line : ℕ) (before now : Option (List ℕ)) → before ≡ Some bytes → Consumes before now read → HasEnded before now ⊎ (longest_script < length read) → IsScript bytes script → HasNoScript read line → ⊥
+no_script_read : (bytes read : List ℕ) (script : Script) (line : ℕ) (before now : Option (List ℕ)) → before ≡ Some bytes → Consumes before now read → HasEnded before now ⊎ (longest_script < length read) → IsScript bytes script → IsNoScript read line → ⊥
 no_script_read bytes read script line before now told taken (inl end) is refused =
     let all : Consumes (Some bytes) now read = subst (λ o. Consumes o now read) told taken in
     let same : bytes ≡ read = all_read bytes read now all (told_ended bytes before now told end) in

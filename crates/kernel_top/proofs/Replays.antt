@@ -16,9 +16,9 @@ use Rattle.kernel_steps.specs.Outcomes.{EndsAs}
 use Rattle.kernel_steps.specs.declared.stop.Stop.{Stop}
 use Rattle.kernel_steps.specs.declared.stop.Stop.TheVariants as stop
 use Rattle.kernel_top.specs.Reading.{IsAll, IsGivenUp}
-use Rattle.kernel_top.specs.Scripts.{IsNoScript}
+use Rattle.kernel_top.specs.Scripts.{TellsNoScript}
 use Rattle.kernel_top.specs.Unseen.{IsWhole}
-use Rattle.kernel_top.specs.Replaying.{Followed, IsUnreadSession, ReplayedOn, Replayed, SourceSettled, HasNoSession}
+use Rattle.kernel_top.specs.Replaying.{Followed, IsUnreadSession, ReplayedOn, Replayed, SourceSettled, LeavesSessionUnread}
 use Rattle.kernel_top.specs.Outcomes.{status_of}
 use Rattle.kernel_top.specs.declared.reading.Refused.{Refused}
 use Rattle.kernel_top.specs.declared.reading.Refused.TheVariants as refused
@@ -93,7 +93,7 @@ replayed_bytes program script status.JournalFull read journal at written before 
 replayed_bytes program script status.SessionFull read journal at written before now to is so = absurd so
 
 -- behind the journal there is no script
-pub unscripted : (program : Script → Program) (answer : Status) (read : List ℕ) (journal : List Exchange) (at : ℕ) (sink : SinkState) → IsReadTo read journal at → IsNoScript answer (drop at read) → Replayed program answer read [] sink sink
+pub unscripted : (program : Script → Program) (answer : Status) (read : List ℕ) (journal : List Exchange) (at : ℕ) (sink : SinkState) → IsReadTo read journal at → TellsNoScript answer (drop at read) → Replayed program answer read [] sink sink
 unscripted program (status.Script line) read journal at sink to none = ((refl, refl), record { journal = journal; bytes = drop at read; lines = to.lines; is = to.whole; so = none })
 unscripted program status.NoMemory read journal at sink to none = inl (refl, refl)
 unscripted program status.Done read journal at sink to none = absurd none
@@ -118,7 +118,7 @@ module _ (So : Status → (read written : List ℕ) → (before now : SinkState)
     so = inl (all.ended, all.short, so);
   }
 
-  pub source_unread : (sink : SinkState) → HasNoSession answer source source' → Appends sink.held sink.held [] → SourceSettled So answer source source' sink sink
+  pub source_unread : (sink : SinkState) → LeavesSessionUnread answer source source' → Appends sink.held sink.held [] → SourceSettled So answer source source' sink sink
   source_unread sink none nothing = record {
     read = none.read;
     written = [];
@@ -129,7 +129,7 @@ module _ (So : Status → (read written : List ℕ) → (before now : SinkState)
   }
 
 -- why they weren't had, as a status
-pub no_session : (answer : Status) (why : Refused) (source source' : SourceState) → IsGivenUp longest_session why source source' → ((bytes : List ℕ) → (why ≡ refused.TooLong → longest_session < length bytes) → IsUnreadSession answer bytes) → HasNoSession answer source source'
+pub no_session : (answer : Status) (why : Refused) (source source' : SourceState) → IsGivenUp longest_session why source source' → ((bytes : List ℕ) → (why ≡ refused.TooLong → longest_session < length bytes) → IsUnreadSession answer bytes) → LeavesSessionUnread answer source source'
 no_session answer why source source' given_up row = record { read = given_up.bytes; taken = given_up.taken; few = given_up.few; unread = row given_up.bytes given_up.long }
 
 pub unread_no_fault : (answer : Status) (read : List ℕ) → IsUnreadSession answer read → answer ≡ status.WriteFault → ⊥

@@ -5,7 +5,7 @@ use Rattle.std.specs.Io.KnownBytes.{Consumes, Keeps, IsAtEnd}
 use Rattle.plain_machine.specs.Grammar.{longest_script}
 use Rattle.ek_types.specs.Io.{SourceState}
 use Rattle.kernel_top.specs.Reading.{HasEnded, IsGivenUp}
-use Rattle.kernel_top.specs.Scripts.{IsUnreadScript, IsLeftUnread}
+use Rattle.kernel_top.specs.Scripts.{IsUnreadScript, LeavesScriptUnread}
 use Rattle.kernel_top.specs.declared.reading.Refused.{Refused}
 use Rattle.kernel_top.specs.declared.reading.Refused.TheVariants as refused
 use Rattle.kernel_top.specs.declared.status.Status.{Status}
@@ -43,5 +43,5 @@ front_only bytes read None taken = absurd taken
 front_only bytes read (Some left) taken = omega (arith, ap length taken, length-append read left)
 
 -- reading was given up, so the bytes of a script weren't had
-pub left_unread : (answer : Status) (why : Refused) (source source' : SourceState) → IsGivenUp longest_script why source source' → ((bytes : List ℕ) → (why ≡ refused.TooLong → longest_script < length bytes) → IsUnreadScript answer bytes) → IsLeftUnread answer source source'
+pub left_unread : (answer : Status) (why : Refused) (source source' : SourceState) → IsGivenUp longest_script why source source' → ((bytes : List ℕ) → (why ≡ refused.TooLong → longest_script < length bytes) → IsUnreadScript answer bytes) → LeavesScriptUnread answer source source'
 left_unread answer why source source' given_up row = record { read = given_up.bytes; taken = given_up.taken; few = given_up.few; unread = row given_up.bytes given_up.long }

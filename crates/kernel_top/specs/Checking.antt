@@ -10,7 +10,7 @@ use Rattle.ek_types.specs.Io.{SinkState}
 use Rattle.journal_text.specs.Lines.{transcript}
 use Rattle.journal_text.specs.Allowed.{IsJournal}
 use Rattle.journal_text.specs.Transcripts.{HasNoTranscript, IsTranscriptFault}
-use Rattle.kernel_top.specs.Scripts.{HasNoScript}
+use Rattle.kernel_top.specs.Scripts.{IsNoScript}
 use Rattle.kernel_top.specs.Writing.{IsWhollyWritten, IsFrontWritten}
 use Rattle.kernel_top.specs.Replaying.{Strays, IsUnwritten}
 use Rattle.kernel_top.specs.declared.status.Status.{Status}
@@ -48,7 +48,7 @@ pub record IsNoTranscript (read : List ℕ) (line : ℕ) : Type 0 where
 -- the verdict on bytes
 abbrev pub Checked : (Script → Program) → Status → (read : List ℕ) → Type 0
 Checked program (status.Journal line) read = IsNoTranscript read line
-Checked program (status.Script line) read = OfTranscript read (λ journal claimed bytes. HasNoScript bytes line)
+Checked program (status.Script line) read = OfTranscript read (λ journal claimed bytes. IsNoScript bytes line)
 Checked program status.NoMemory read = Unit {0}
 Checked program answer read =
     OfCheck read (λ journal claimed script. Judged answer (program script) script journal claimed)

@@ -1,8 +1,7 @@
 -- What a line session comes to: its script is run with its two natives and its lines thrown away, and the
 -- text of the buffer `*session*` is written.
-use Rattle.std.specs.Prelude.{◌≡◌, ℕ, Bool, true, false, List, map, flat_map, if◌then◌else◌, Result, Ok, Err}
+use Rattle.std.specs.Prelude.{◌≡◌, ℕ, Bool, true, false, List, flat_map, if◌then◌else◌, Result, Ok, Err}
 use Rattle.text_model.specs.Characters.{Ch, encoded}
-use Rattle.text_model.specs.Properties.{Cell}
 use Rattle.text_model.specs.Fronts.{IsPrefixOf}
 use Rattle.editor_model.specs.Values.{Value, Script}
 use Rattle.editor_model.specs.Editor.{Editor}
@@ -33,9 +32,6 @@ program_wanted wanted =
     program_of (script_wanted wanted) session_names (session_does wanted.limit (command_wanted wanted))
 
 -- THE TEXT
-abbrev pub text_bytes : List Cell → List ℕ
-text_bytes text = flat_map encoded (map (λ c. c.0) text)
-
 -- the text of the live buffer `*session*`, and nothing where there is none
 abbrev pub gathered : Editor → List ℕ
 gathered e = flat_map encoded (characters_gathered e)

@@ -17,7 +17,7 @@ use Rattle.kernel_steps.specs.declared.stop.Stop.{Stop}
 use Rattle.kernel_steps.specs.declared.stop.Stop.TheVariants as stop
 use Rattle.command_words.specs.SessionWords.{SessionWords}
 use Rattle.kernel_top.specs.Reading.{HasEnded}
-use Rattle.kernel_top.specs.Scripts.{HasNoScript}
+use Rattle.kernel_top.specs.Scripts.{IsNoScript}
 use Rattle.kernel_top.specs.Writing.{IsWhollyWritten, IsFrontWritten}
 use Rattle.kernel_top.specs.Drills.{SumsUp}
 use Rattle.kernel_top.specs.Sessions.{Records, BreaksOffUnseen}
@@ -70,7 +70,7 @@ abbrev pub RefusesScript :
     (line : ℕ) → (read written : List ℕ) → List Exchange → (before now : Seen) → Type 0
 RefusesScript line read written exchanges before now =
     (HasEnded before.source.left now.source.left ⊎ (longest_script < length read)) ×
-    HasNoScript read line × IsQuiet written exchanges before now
+    IsNoScript read line × IsQuiet written exchanges before now
 
 -- BY STATUS. `read` are the bytes taken from the source, and `written` those put in the sink. The program
 -- is that of a script.
@@ -248,8 +248,8 @@ pub record Came {H : Type 0} (hosted : H → HostState) (made : H → H → Ask 
   pub outcome : Outcome program asked answer read written exchanges (seen source sink (hosted start))
       (seen source' sink' (hosted now))
 
--- What a call came to but for its source, whatever that is.
-pub record CameSo {H : Type 0} (hosted : H → HostState) (made : H → H → Ask → ℕ → Answer → Type 0)
+-- What a call came to, whatever its source.
+pub record CameForAnySource {H : Type 0} (hosted : H → HostState) (made : H → H → Ask → ℕ → Answer → Type 0)
     (start now : H) (sink sink' : SinkState)
     (So : (written : List ℕ) → List Exchange → (before now : Seen) → Type 0) : Type 0 where
   pub written : List ℕ

@@ -14,7 +14,7 @@ use Rattle.journal_text.specs.Allowed.{IsJournal}
 use Rattle.journal_text.specs.Journals as journals
 use Rattle.kernel_steps.specs.Outcomes.{RanScript}
 use Rattle.kernel_top.specs.Reading.{HasEnded}
-use Rattle.kernel_top.specs.Scripts.{HasNoScript}
+use Rattle.kernel_top.specs.Scripts.{IsNoScript}
 use Rattle.kernel_top.specs.Unseen.{IsWhole}
 use Rattle.kernel_top.specs.declared.status.Status.{Status}
 use Rattle.kernel_top.specs.declared.status.Status.TheVariants as status
@@ -83,7 +83,7 @@ Replayed program status.NoMemory read written before now =
 Replayed program (status.Journal line) read written before now =
     IsUnwritten written before now × IsNoSession read line
 Replayed program (status.Script line) read written before now =
-    IsUnwritten written before now × OfSession read (λ journal bytes. HasNoScript bytes line)
+    IsUnwritten written before now × OfSession read (λ journal bytes. IsNoScript bytes line)
 Replayed program answer read written before now =
     OfReplay read (λ journal script. ReplayedOn (program script) answer script journal written before now)
 
@@ -116,7 +116,7 @@ pub record SourceSettled (So : Status → (read written : List ℕ) → (before 
   pub so : ReadAnd So answer read written (HasEnded source.left source'.left) sink sink'
 
 -- bytes were read that aren't those of a session or a transcript, or not all of them
-pub record HasNoSession (answer : Status) (source source' : SourceState) : Type 0 where
+pub record LeavesSessionUnread (answer : Status) (source source' : SourceState) : Type 0 where
   pub read : List ℕ
   pub taken : Consumes source.left source'.left read
   pub few : length read ≤ longest_session + 1

@@ -112,6 +112,6 @@ pub(crate) fn check_source<S: Source, K: Sink, N: Natives>(
 {
     match read_session(alloc, source) {
         Ok(bytes) => answer_bytes(alloc, bytes.as_slice(), sink, natives),
-        Err(answer) => answer,
+        Err(status) => status,
     }
 }

@@ -2,7 +2,8 @@
 ghost use Rattle.std.specs.Prelude.{◌≡◌, ℕ, List, IfOk};
 ghost use Rattle.std.specs.List.{list_any};
 ghost use Rattle.std.specs.Io.KnownBytes.{Appends};
-ghost use Rattle.text_model.specs.Characters.{encoded};
+ghost use Rattle.text_model.specs.Characters.{encoded as encoded_character};
+ghost use Rattle.plain_machine.specs.Arguments.{encoded};
 ghost use Rattle.plain_machine.specs.State.{State};
 ghost use Rattle.ek_types.specs.Io.{HasCause, Writes};
 ghost use Rattle.ek_types.specs.Seen.{ch_of};
@@ -12,7 +13,7 @@ ghost use Rattle.session_laws.specs.Standing.{session_name};
 ghost use Rattle.session_laws.specs.Sessions.{is_stopped};
 ghost use Rattle.kernel_steps.specs.Worlds.{Stands};
 ghost use Rattle.kernel_run.specs.Meaning.{state_of};
-ghost use Rattle.kernel_top.specs.Gathering.{text_bytes, gathered, gathered_status, Gathered};
+ghost use Rattle.kernel_top.specs.Gathering.{gathered, gathered_status, Gathered};
 
 use crate::status::Status;
 use buffer_table::{BufferText, Editor};
@@ -24,7 +25,7 @@ use std::alloc::Global;
 
 /// Writes a character.
 fn put_character<K: Sink>(out: &mut Printer<'_, K>, c: Ch)
-    ensures { Prints K.state out.old out.new (encoded (ch_of c)) }
+    ensures { Prints K.state out.old out.new (encoded_character (ch_of c)) }
 {
     let mut bytes = [0u8; 4];
     let size = c.encode(&mut bytes);
@@ -33,7 +34,7 @@ fn put_character<K: Sink>(out: &mut Printer<'_, K>, c: Ch)
 
 /// Writes all characters of a text.
 fn put_text<K: Sink>(out: &mut Printer<'_, K>, text: &BufferText<'_>)
-    ensures { Prints K.state out.old out.new (text_bytes text.now.buffer.text) }
+    ensures { Prints K.state out.old out.new (encoded text.now.buffer.text) }
 {
     for i in 0..text.len() {
         put_character(out, text.ch(i));
@@ -42,7 +43,7 @@ fn put_text<K: Sink>(out: &mut Printer<'_, K>, text: &BufferText<'_>)
 
 /// Writes a text, and nothing else.
 fn write_text<K: Sink>(text: &BufferText<'_>, sink: &mut K) -> Result<(), SinkFault>
-    ensures { Writes (K.state sink.old) (K.state sink.new) result (text_bytes text.now.buffer.text) }
+    ensures { Writes (K.state sink.old) (K.state sink.new) result (encoded text.now.buffer.text) }
 {
     let mut out = Printer::new(sink);
     put_text(&mut out, text);
@@ -97,13 +98,8 @@ fn gathered_status(written: Result<(), SinkFault>, full: bool) -> Status
     ensures { result ≡ gathered_status full written }
 {
     match written {
-        Ok(()) => {
-            if full {
-                Status::SessionFull
-            } else {
-                Status::Done
-            }
-        }
+        Ok(()) if full => Status::SessionFull,
+        Ok(()) => Status::Done,
         Err(_) => Status::WriteFault,
     }
 }

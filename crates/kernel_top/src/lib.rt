@@ -7,6 +7,7 @@ mod laws;
 mod reading;
 mod recording;
 mod replaying;
+mod running;
 mod session;
 mod status;
 mod summing;

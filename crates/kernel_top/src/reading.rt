@@ -5,8 +5,8 @@ ghost use Rattle.ek_types.specs.Io.{HasCause};
 ghost use Rattle.ek_call.specs.Meaning.{script_of};
 ghost use Rattle.journal_text.specs.Lines.{longest_session};
 ghost use Rattle.kernel_top.specs.Reading.{IsAll, IsGivenUp};
-ghost use Rattle.kernel_top.specs.Scripts.{IsNoScript, IsLeftUnread};
-ghost use Rattle.kernel_top.specs.Replaying.{HasNoSession};
+ghost use Rattle.kernel_top.specs.Scripts.{TellsNoScript, LeavesScriptUnread};
+ghost use Rattle.kernel_top.specs.Replaying.{LeavesSessionUnread};
 
 use crate::status::Status;
 use ek_call::Script;
@@ -69,7 +69,7 @@ pub(crate) fn read_all<S: Source>(
 /// All the bytes of a script, which has at most 1,048,576; or the status where they weren't had.
 pub(crate) fn read_script<S: Source>(alloc: Global, source: &mut S) -> Result<Vec<u8>, Status>
     ensures all { IfOk result (λ all. IsAll longest_script all.items (S.state source.old) (S.state source.new)) }
-    ensures none { IfErr result (λ status. IsLeftUnread status (S.state source.old) (S.state source.new)) }
+    ensures none { IfErr result (λ status. LeavesScriptUnread status (S.state source.old) (S.state source.new)) }
     ensures cause { HasCause (S.state source.old).faults (S.state source.new).faults
         (result ≡ Err Status.ReadFault) }
     ensures unfailing { IsTrue (S.state source.old).unfailing →
@@ -86,7 +86,7 @@ pub(crate) fn read_script<S: Source>(alloc: Global, source: &mut S) -> Result<Ve
 /// The script that some bytes are, or the status where they are none.
 pub(crate) fn script_in(alloc: Global, bytes: &[u8]) -> Result<Script, Status>
     ensures script { IfOk result (λ script. IsScript bytes.now (script_of script)) }
-    ensures none { IfErr result (λ status. IsNoScript status bytes.now) }
+    ensures none { IfErr result (λ status. TellsNoScript status bytes.now) }
 {
     match read(alloc, bytes) {
         Ok(script) => Ok(script),
@@ -98,7 +98,7 @@ pub(crate) fn script_in(alloc: Global, bytes: &[u8]) -> Result<Script, Status>
 /// All the bytes of a session or a transcript, which has at most 268,435,456; or the status where they weren't had.
 pub(crate) fn read_session<S: Source>(alloc: Global, source: &mut S) -> Result<Vec<u8>, Status>
     ensures all { IfOk result (λ all. IsAll longest_session all.items (S.state source.old) (S.state source.new)) }
-    ensures none { IfErr result (λ status. HasNoSession status (S.state source.old) (S.state source.new)) }
+    ensures none { IfErr result (λ status. LeavesSessionUnread status (S.state source.old) (S.state source.new)) }
     ensures cause { HasCause (S.state source.old).faults (S.state source.new).faults
         (result ≡ Err Status.ReadFault) }
     ensures unfailing { IsTrue (S.state source.old).unfailing →

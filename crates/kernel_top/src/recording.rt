@@ -11,7 +11,7 @@ ghost use Rattle.kernel_steps.specs.HostCalls.{CallsSince};
 ghost use Rattle.kernel_state.specs.Whole.{program_with};
 ghost use Rattle.kernel_top.specs.Unseen.{RanUnseen};
 ghost use Rattle.kernel_top.specs.Sessions.{fits, Written};
-ghost use Rattle.kernel_top.specs.Outcomes.{Came, CameSo, OfBytes, OnRecord};
+ghost use Rattle.kernel_top.specs.Outcomes.{Came, CameForAnySource, OfBytes, OnRecord};
 
 use crate::reading::{read_script, script_in};
 use crate::status::{Status, written_status};
@@ -35,7 +35,8 @@ fn put_session<K: Sink>(list: &Exchanges, script: &[u8], sink: &mut K) -> Result
     put(so_far, sink, script)
 }
 
-/// Whether a session is no longer than one may be. It is put to a sink that counts its bytes.
+/// Whether a session is no longer than one may be. It is put to a sink that counts its bytes
+/// and keeps none, so that a run that was made isn't lost for want of memory.
 fn fits(list: &Exchanges, script: &[u8]) -> bool
     ensures { result ≡ fits (session (exchanges_of list.now) script.now) }
 {
@@ -84,7 +85,7 @@ fn record_bytes<K: Sink, H: Host, N: Natives>(
 ) -> Status
     requires few { length (H.state host.old).kills ≤ 2 ^ 31 }
     requires told { (H.state host.old).told ≡ Some [] }
-    ensures outcome { CameSo H.state H.made host.old host.new (K.state sink.old) (K.state sink.new)
+    ensures outcome { CameForAnySource H.state H.made host.old host.new (K.state sink.old) (K.state sink.new)
         (OfBytes (OnRecord (λ script. program_with N.names N.does script natives.now)) bytes.now result) }
     ensures no_read { result ≢ Status.ReadFault }
     ensures write_fault { HasCause (K.state sink.old).faults (K.state sink.new).faults
@@ -100,6 +101,7 @@ fn record_bytes<K: Sink, H: Host, N: Natives>(
     };
     match host.told() {
         Some(list) => write_session(list, bytes, sink),
+        // The host tells its exchanges from the start, so it tells those of the run.
         None => unreachable!(),
     }
 }

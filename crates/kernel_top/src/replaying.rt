@@ -154,6 +154,6 @@ pub(crate) fn replay_source<S: Source, K: Sink, N: Natives>(
 {
     match read_session(alloc, source) {
         Ok(bytes) => replay_bytes(alloc, bytes.as_slice(), sink, natives),
-        Err(answer) => answer,
+        Err(status) => status,
     }
 }

@@ -6,7 +6,7 @@ ghost use Rattle.ek_call.specs.Meaning.{script_of};
 ghost use Rattle.session_laws.specs.Standing.{session_name};
 ghost use Rattle.kernel_run.specs.Meaning.{state_of};
 ghost use Rattle.kernel_state.specs.Whole.{program_with};
-ghost use Rattle.kernel_top.specs.Outcomes.{CameSo, OnGathering, OnSession};
+ghost use Rattle.kernel_top.specs.Outcomes.{CameForAnySource, OnGathering, OnSession};
 
 use crate::gathered::{buffer_name, write_gathered};
 use crate::status::Status;
@@ -32,7 +32,7 @@ fn gather<K: Sink, H: Host, N: Natives>(
     requires new { state_of kernel.old ≡ new_state }
     requires few { length (H.state host.old).kills ≤ 2 ^ 31 }
     requires name { name.now.items ≡ session_name }
-    ensures outcome { CameSo H.state H.made host.old host.new (K.state sink.old) (K.state sink.new)
+    ensures outcome { CameForAnySource H.state H.made host.old host.new (K.state sink.old) (K.state sink.new)
         (OnGathering (program_with N.names N.does (script_of script.now) natives.now) (script_of script.now)
         result) }
     ensures write_fault { HasCause (K.state sink.old).faults (K.state sink.new).faults
@@ -53,7 +53,7 @@ fn gather_alone<K: Sink, H: Host, N: Natives>(
     natives: &N,
 ) -> Status
     requires { length (H.state host.old).kills ≤ 2 ^ 31 }
-    ensures outcome { CameSo H.state H.made host.old host.new (K.state sink.old) (K.state sink.new)
+    ensures outcome { CameForAnySource H.state H.made host.old host.new (K.state sink.old) (K.state sink.new)
         (OnGathering (program_with N.names N.does (script_of script.now) natives.now) (script_of script.now)
         result) }
     ensures write_fault { HasCause (K.state sink.old).faults (K.state sink.new).faults
@@ -79,7 +79,7 @@ pub(crate) fn run_session<K: Sink, H: Host>(
     host: &mut H,
 ) -> Status
     requires { length (H.state host.old).kills ≤ 2 ^ 31 }
-    ensures outcome { CameSo H.state H.made host.old host.new (K.state sink.old) (K.state sink.new)
+    ensures outcome { CameForAnySource H.state H.made host.old host.new (K.state sink.old) (K.state sink.new)
         (OnSession wanted.now result) }
     ensures write_fault { HasCause (K.state sink.old).faults (K.state sink.new).faults
         (result ≡ Status.WriteFault) }

@@ -1,127 +1,23 @@
 //! The top call.
-ghost use Rattle.std.specs.Prelude.{◌≡◌, ◌≢◌, ◌^◌, ◌≤◌, [], Some, length, map, string_bytes, IsTrue};
-ghost use Rattle.plain_machine.specs.Drill.{drill_script};
+ghost use Rattle.std.specs.Prelude.{◌≡◌, ◌^◌, ◌≤◌, [], Some, length, map, string_bytes, IsTrue};
 ghost use Rattle.ek_types.specs.Io.{HasCause};
-ghost use Rattle.ek_call.specs.Meaning.{script_of};
 ghost use Rattle.kernel_state.specs.Whole.{program_with};
 ghost use Rattle.command_words.specs.Commands.{command_of, IsRecord};
-ghost use Rattle.kernel_top.specs.Outcomes.{Came, CameSo, OfBytes, OnRun, OnDrill, Completes};
+ghost use Rattle.kernel_top.specs.Outcomes.{Came, Completes};
 
 use crate::checking::check_source;
-use crate::reading::{read_script, script_in};
 use crate::recording::record_source;
 use crate::replaying::replay_source;
+use crate::running::run_source;
 use crate::session::run_session;
-use crate::status::{Status, status_of, written_status};
-use crate::summing::{count_run, write_summary};
+use crate::status::Status;
+use crate::summing::run_drill;
 use crate::viewing::view_source;
 use command_words::{Command, command_of};
-use ek_call::Script;
 use ek_types::{Sink, Source};
 use handler_code::Natives;
 use host_link::Host;
-use kernel_run::Kernel;
-use line_drill::script_of_drill;
 use std::alloc::Global;
-
-/// Reads the script that some bytes are, and runs it on a kernel of its own.
-fn run_bytes<K: Sink, H: Host, N: Natives>(
-    alloc: Global,
-    bytes: &[u8],
-    sink: &mut K,
-    host: &mut H,
-    natives: &N,
-) -> Status
-    requires { length (H.state host.old).kills ≤ 2 ^ 31 }
-    ensures outcome { CameSo H.state H.made host.old host.new (K.state sink.old) (K.state sink.new)
-        (OfBytes (OnRun (λ script. program_with N.names N.does script natives.now)) bytes.now result) }
-    ensures no_read { result ≢ Status.ReadFault }
-    ensures write_fault { HasCause (K.state sink.old).faults (K.state sink.new).faults
-        (result ≡ Status.WriteFault) }
-{
-    let script = match script_in(alloc, bytes) {
-        Ok(script) => script,
-        Err(status) => return status,
-    };
-    let Ok(mut kernel) = Kernel::new(alloc) else {
-        return Status::NoMemory;
-    };
-    let ended = kernel.run_script(&script, natives, host, sink);
-    kernel.close();
-    status_of(ended)
-}
-
-/// Reads the script that the source holds, and runs it.
-fn run_source<S: Source, K: Sink, H: Host, N: Natives>(
-    alloc: Global,
-    source: &mut S,
-    sink: &mut K,
-    host: &mut H,
-    natives: &N,
-) -> Status
-    requires { length (H.state host.old).kills ≤ 2 ^ 31 }
-    ensures outcome { Came H.state H.made
-        (λ script. program_with N.names N.does script natives.now) (Some Command.Run) result
-        host.old host.new (S.state source.old) (S.state source.new) (K.state sink.old) (K.state sink.new) }
-    ensures read_fault { HasCause (S.state source.old).faults (S.state source.new).faults
-        (result ≡ Status.ReadFault) }
-    ensures write_fault { HasCause (K.state sink.old).faults (K.state sink.new).faults
-        (result ≡ Status.WriteFault) }
-    ensures unfailing { IsTrue (S.state source.old).unfailing →
-        (S.state source.new).faults ≡ (S.state source.old).faults }
-{
-    match read_script(alloc, source) {
-        Ok(bytes) => run_bytes(alloc, bytes.as_slice(), sink, host, natives),
-        Err(status) => status,
-    }
-}
-
-/// Runs the script of a drill on a kernel of its own, and writes the summary.
-fn sum_up<K: Sink, H: Host, N: Natives>(
-    alloc: Global,
-    count: u32,
-    script: &Script,
-    sink: &mut K,
-    host: &mut H,
-    natives: &N,
-) -> Status
-    requires script { script_of script.now ≡ drill_script count }
-    requires few { length (H.state host.old).kills ≤ 2 ^ 31 }
-    ensures outcome { CameSo H.state H.made host.old host.new (K.state sink.old) (K.state sink.new)
-        (OnDrill (λ script. program_with N.names N.does script natives.now) count result) }
-    ensures write_fault { HasCause (K.state sink.old).faults (K.state sink.new).faults
-        (result ≡ Status.WriteFault) }
-{
-    let Ok(mut kernel) = Kernel::new(alloc) else {
-        return Status::NoMemory;
-    };
-    let counted = count_run(&mut kernel, script, natives, host);
-    kernel.close();
-    let Ok(counts) = counted else {
-        return Status::NoMemory;
-    };
-    written_status(write_summary(count, &counts, sink))
-}
-
-/// Makes the script of a drill, runs it, and writes the summary.
-fn run_drill<K: Sink, H: Host, N: Natives>(
-    alloc: Global,
-    count: u32,
-    sink: &mut K,
-    host: &mut H,
-    natives: &N,
-) -> Status
-    requires { length (H.state host.old).kills ≤ 2 ^ 31 }
-    ensures outcome { CameSo H.state H.made host.old host.new (K.state sink.old) (K.state sink.new)
-        (OnDrill (λ script. program_with N.names N.does script natives.now) count result) }
-    ensures write_fault { HasCause (K.state sink.old).faults (K.state sink.new).faults
-        (result ≡ Status.WriteFault) }
-{
-    match script_of_drill(alloc, count) {
-        Ok(script) => sum_up(alloc, count, &script, sink, host, natives),
-        Err(_) => Status::NoMemory,
-    }
-}
 
 /// The words are those behind the program's name. By what they ask for, this reads and writes:
 /// - `run`: reads the script that the source holds, runs it, and writes its lines and the dump to the sink.

@@ -31,6 +31,7 @@ pub(crate) fn run_unseen_on<H: Host, N: Natives>(
     let mut unseen = NullSink::new();
     match kernel.run_script(script, natives, host, &mut unseen) {
         Ok(()) => Ok(()),
+        // That sink never fails.
         Err(_) => Err(NoMemory),
     }
 }

@@ -11,14 +11,15 @@ ghost use Rattle.kernel_steps.specs.HostCalls.{CallsSince};
 ghost use Rattle.kernel_run.specs.Meaning.{state_of};
 ghost use Rattle.kernel_state.specs.Whole.{program_with};
 ghost use Rattle.kernel_top.specs.Viewing.{view_of, Viewed, viewed_status};
-ghost use Rattle.kernel_top.specs.Outcomes.{Came, CameSo, OfBytes, OnView};
+ghost use Rattle.kernel_top.specs.Outcomes.{Came, CameForAnySource, OfBytes, OnView};
 
 use crate::reading::{read_script, script_in};
 use crate::status::Status;
+use crate::unseen::run_unseen_on;
 use buffer_table::Editor;
 use command_words::Command;
 use ek_call::Script;
-use ek_types::{NullSink, Sink, Source};
+use ek_types::{Sink, Source};
 use final_view::{ViewFault, view};
 use handler_code::Natives;
 use host_link::Host;
@@ -62,8 +63,7 @@ fn view_script<K: Sink, H: Host, N: Natives>(
     ensures write_fault { HasCause (K.state sink.old).faults (K.state sink.new).faults
         (result ≡ Status.WriteFault) }
 {
-    let mut unseen = NullSink::new();
-    match kernel.run_script(script, natives, host, &mut unseen) {
+    match run_unseen_on(kernel, script, host, natives) {
         Ok(()) => viewed_status(view_current(kernel.editor(), sink)),
         Err(_) => Status::NoMemory,
     }
@@ -78,7 +78,7 @@ fn view_bytes<K: Sink, H: Host, N: Natives>(
     natives: &N,
 ) -> Status
     requires { length (H.state host.old).kills ≤ 2 ^ 31 }
-    ensures outcome { CameSo H.state H.made host.old host.new (K.state sink.old) (K.state sink.new)
+    ensures outcome { CameForAnySource H.state H.made host.old host.new (K.state sink.old) (K.state sink.new)
         (OfBytes (OnView (λ script. program_with N.names N.does script natives.now)) bytes.now result) }
     ensures no_read { result ≢ Status.ReadFault }
     ensures write_fault { HasCause (K.state sink.old).faults (K.state sink.new).faults

@@ -4,7 +4,7 @@ use Rattle.plain_machine.specs.Grammar.{IsScript}
 use Rattle.ek_call.specs.Meaning.{script_of}
 use Rattle.host_link.specs.Meaning.{exchanges_of}
 use Rattle.kernel_state.specs.Whole.{program_with}
-use Rattle.kernel_top.specs.Scripts.{IsNoScript}
+use Rattle.kernel_top.specs.Scripts.{TellsNoScript}
 use Rattle.kernel_top.proofs.Outcomes.{refused_no_write}
 use Rattle.kernel_top.proofs.Replays.{few_exchanges, rest_is, replayed_bytes, unscripted}
 use Rattle.kernel_top.proofs.replaying.replay_bytes.Goals as goal
@@ -20,7 +20,7 @@ returns-in-Err-NoMemory-clause-written g c = ([], Appends-nil _, inl (refl, refl
 
 pub returns-in-Err-clause-written : goal.returns-in-Err-clause-written
 returns-in-Err-clause-written g c =
-    let none : IsNoScript c.in-Err.status (drop c.in-Ok.found.1 c.args.bytes.now) = subst (IsNoScript c.in-Err.status) (rest_is c.args.bytes.now c.in-Ok.found.1) c.in-Err.ensures.none in
+    let none : TellsNoScript c.in-Err.status (drop c.in-Ok.found.1 c.args.bytes.now) = subst (TellsNoScript c.in-Err.status) (rest_is c.args.bytes.now c.in-Ok.found.1) c.in-Err.ensures.none in
     ([], Appends-nil _, unscripted (λ script. program_with g.N.Natives.names g.N.Natives.does script c.args.natives.now) c.in-Err.status c.args.bytes.now (exchanges_of c.in-Ok.found.0) c.in-Ok.found.1 (g.K.Sink.state c.args.sink.now) c.in-Ok.ensures.read none)
 
 pub returns-in-Err-clause-write_fault : goal.returns-in-Err-clause-write_fault

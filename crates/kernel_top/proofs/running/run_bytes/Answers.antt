@@ -4,7 +4,7 @@ use Rattle.ek_call.specs.Meaning.{script_of}
 use Rattle.kernel_state.specs.Whole.{program_with}
 use Rattle.kernel_top.specs.Outcomes.{seen, Runs}
 use Rattle.kernel_top.proofs.Outcomes.{quiet, came, came_refused, refused_no_read, refused_no_write, is_write_fault, is_no_read_fault}
-use Rattle.kernel_top.proofs.top.run_bytes.Goals as goal
+use Rattle.kernel_top.proofs.running.run_bytes.Goals as goal
 
 pub returns-in-Err-clause-outcome : goal.returns-in-Err-clause-outcome
 returns-in-Err-clause-outcome g c =

@@ -1,7 +1,7 @@
 use Rattle.std.proofs.Common.{[], refl, inl}
 use Rattle.std.proofs.KnownBytes.{Appends-nil}
 use Rattle.kernel_top.proofs.Outcomes.{quiet}
-use Rattle.kernel_top.proofs.top.run_drill.Goals as goal
+use Rattle.kernel_top.proofs.summing.run_drill.Goals as goal
 
 pub returns-in-Err-clause-outcome : goal.returns-in-Err-clause-outcome
 returns-in-Err-clause-outcome g c = record {

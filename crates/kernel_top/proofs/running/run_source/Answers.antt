@@ -5,7 +5,7 @@ use Rattle.kernel_top.specs.Reading.{IsAll}
 use Rattle.kernel_top.specs.Outcomes.{OnRun, Runs}
 use Rattle.command_words.specs.declared.commands.Command.TheVariants as command
 use Rattle.kernel_top.proofs.Outcomes.{on_unread, unread_no_write, came_from, came_left}
-use Rattle.kernel_top.proofs.top.run_source.Goals as goal
+use Rattle.kernel_top.proofs.running.run_source.Goals as goal
 
 pub returns-in-Ok-clause-outcome : goal.returns-in-Ok-clause-outcome
 returns-in-Ok-clause-outcome g c =

@@ -3,7 +3,7 @@ use Rattle.std.proofs.KnownBytes.{Appends-nil}
 use Rattle.kernel_state.specs.Whole.{program_with}
 use Rattle.kernel_top.specs.Drills.{line_of}
 use Rattle.kernel_top.proofs.Outcomes.{quiet, summed}
-use Rattle.kernel_top.proofs.top.sum_up.Goals as goal
+use Rattle.kernel_top.proofs.summing.sum_up.Goals as goal
 
 pub returns-in_default-clause-outcome : goal.returns-in_default-clause-outcome
 returns-in_default-clause-outcome g c = record {
