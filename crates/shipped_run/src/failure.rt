@@ -5,11 +5,12 @@ ghost use Rattle.shipped_run.specs.Exits.{failure_of, exit_status};
 use kernel_top::Status;
 use thiserror::Error;
 
-/// What a run came to other than its end. It reads as the line on standard error.
+/// What a run came to other than its end, as `Status` of `kernel_top` has it. It reads as the line on standard error.
 #[derive(Clone, Copy, Debug, Error)]
 pub enum Failure {
     #[error("kernel_cli: usage")]
     Usage,
+    /// The line of the script's fault, from 1, and 0 where there are too many bytes.
     #[error("kernel_cli: script: line {0}")]
     Script(u32),
     #[error("kernel_cli: read failed")]
@@ -18,12 +19,15 @@ pub enum Failure {
     Write,
     #[error("kernel_cli: out of memory")]
     Memory,
+    /// The line of the session's or the transcript's fault, from 1, and 0 where there are too many bytes.
     #[error("kernel_cli: journal: line {0}")]
     Journal(u32),
     #[error("kernel_cli: journal too long")]
     JournalFull,
+    /// How many of the journal's first exchanges the run goes through.
     #[error("kernel_cli: strayed at {0}")]
     Strayed(u32),
+    /// The first line, from 1, that isn't that of the run.
     #[error("kernel_cli: line {0} differs")]
     Differs(u32),
     #[error("kernel_cli: session full")]
@@ -31,7 +35,7 @@ pub enum Failure {
 }
 
 impl Failure {
-    /// The status that the program ends with, each failure with its own.
+    /// The status that the program ends with, from 1 to 10, each failure with its own.
     pub fn exit_status(&self) -> u8
         ensures { result ≡ exit_status self.now }
     {
