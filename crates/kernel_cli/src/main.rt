@@ -13,7 +13,7 @@ use std::process::ExitCode;
 use system_host::{Hand, Output, ReaderSource, RealHost, WriterSink};
 
 /// Why the words weren't had: one that isn't UTF-8 is none that the program knows, and all else is want of memory.
-fn refused(error: &io::Error) -> Failure {
+fn failure_of(error: &io::Error) -> Failure {
     match error.kind() {
         ErrorKind::InvalidData => Failure::Usage,
         _ => Failure::Memory,
@@ -22,7 +22,7 @@ fn refused(error: &io::Error) -> Failure {
 
 /// The words behind the program's name.
 fn words(rt: &HostRuntime) -> Result<Vec<String>, Failure> {
-    let args = env::args(rt).map_err(|error| refused(&error))?;
+    let args = env::args(rt).map_err(|error| failure_of(&error))?;
     args.skip(1)
         .collect(rt.alloc())
         .map_err(|_| Failure::Memory)
@@ -44,6 +44,7 @@ fn work_over<W: Write + Drop, H: Host + Drop>(
         |_| Failure::Memory,
     )?;
     drop(host);
+    // What is still gathered is written even where the run failed, whose failure is told first.
     let finished = sink.finish();
     result_of(status)?;
     finished.map_err(|_| Failure::Write)
@@ -70,6 +71,7 @@ fn main(rt: HostRuntime) -> ExitCode {
     match work(&rt) {
         Ok(()) => ExitCode::SUCCESS,
         Err(failure) => {
+            // Where standard error can't be written to, the exit status tells it alone.
             let _ = eprintln!(rt; "{failure}");
             ExitCode::from(failure.exit_status())
         }
