@@ -22,6 +22,15 @@ from wrong_rules import RULES
 ROOT = pathlib.Path(__file__).resolve().parent.parent
 RT = os.environ.get("RT", "rt").split()
 ENTRIES = ["filters_hear_what_was_read"]
+COMPOSED = "crates/plain_machine/proofs/Composed.antt"
+OVER_RUNS = "-- what each step keeps holds over a run"
+# These laws hold whatever the steps are, and don't use the lemma on what each step keeps: a wrong run would break it first.
+OF_ANY_STEP = {
+    "one_run_over_the_same_exchanges",
+    "one_end_over_the_same_exchanges",
+    "computed_runs_are_runs",
+    "runs_are_computed",
+}
 
 # an insertion, and one that also extends the insertion behind a boundary
 IN_FRONT = """abbrev pub in_front : Rec → ℕ → List Entry → List Entry
@@ -134,7 +143,7 @@ CHANGES = [
         "plain_machine/specs/Forms.antt",
         "after_commit new (Failed f) s c rest = on (popped s) (Refuse f ∷ rest)",
         "after_commit new (Failed f) s c rest = on s (Refuse f ∷ rest)",
-        ["refusals_leave_the_state"],
+        ["refusals_leave_the_state", "refused_calls_leave_the_state"],
     ),
     (
         "waits one level deeper than the bound",
@@ -223,19 +232,23 @@ def refused(copy, file, old, new, refusers):
     text = path.read_text()
     if text.count(old) != 1:
         return f"the text to change stands {text.count(old)} times in {file}"
+    composed = copy / COMPOSED
+    lemmas = composed.read_text()
     path.write_text(text.replace(old, new))
+    if set(refusers) <= OF_ANY_STEP:
+        composed.write_text(lemmas[: lemmas.index(OVER_RUNS)])
     try:
         return held(copy, refusers)
     finally:
         path.write_text(text)
+        composed.write_text(lemmas)
 
 
 def cut_down(copy):
     """Leave out the lemmas on how forms, calls and handlers end, which no law uses: they would break first."""
-    path = copy / "crates" / "plain_machine" / "proofs" / "Composed.antt"
+    path = copy / COMPOSED
     text = path.read_text()
-    first, last = text.index("-- THE FORMS OF A BODY"), text.index("-- what each step keeps holds over a run")
-    path.write_text(text[:first] + text[last:])
+    path.write_text(text[: text.index("-- THE FORMS OF A BODY")] + text[text.index(OVER_RUNS) :])
 
 
 def main():

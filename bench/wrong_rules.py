@@ -24,6 +24,10 @@ PROPERTY_CALLS = "editor_model/specs/PropertyCalls.antt"
 EDITOR = "editor_model/specs/Editor.antt"
 BUFFER_CALLS = "editor_model/specs/BufferCalls.antt"
 ARGUMENTS = "plain_machine/specs/Arguments.antt"
+RUN = "plain_machine/specs/Run.antt"
+WHOLE_RUNS = "plain_machine/specs/WholeRuns.antt"
+GRAMMAR = "plain_machine/specs/Grammar.antt"
+PROPERTIES = "text_model/specs/Properties.antt"
 
 COMMIT_RULES = [
     (
@@ -130,6 +134,20 @@ COMMIT_RULES = [
         "(if p == 0 then None else char_at b (p - 1)))\n    (option_map (λ c. c.1) (char_at b p))",
         "(char_at b p)) (option_map (λ c. c.1) (if p == 0 then None else char_at b (p - 1)))",
         ["PropertyRows.inherited_from_the_front_holds"],
+    ),
+    (
+        "part of a text taken by its length, and not by its end",
+        PROPERTIES,
+        "part from to text = drop from (take to text)",
+        "part from to text = take to (drop from text)",
+        ["deletions_are_put_back"],
+    ),
+    (
+        "what a piece replaces stays behind it",
+        PROPERTIES,
+        "splice from to piece text = take from text ++ (piece ++ drop to text)",
+        "splice from to piece text = take from text ++ (piece ++ drop from text)",
+        ["insertions_are_taken_out", "deletions_are_put_back"],
     ),
 ]
 
@@ -469,6 +487,34 @@ WAIT_RULES = [
         "[]",
         ["WaitRows.deletion_refused_at_bound_one_holds", "handlers_stay_shallow"],
     ),
+    (
+        "waits refused at the bound alone, and not beyond it",
+        REFUSALS,
+        "must_nest bound s = refuse Nesting (nat_lt s.depth bound)",
+        "must_nest bound s = refuse Nesting (not (s.depth == bound))",
+        ["same_under_a_larger_bound", "handlers_stay_shallow"],
+    ),
+    (
+        "one process more than may be",
+        REFUSALS,
+        "must_be_fewer most_processes (length s.processes)",
+        "must_be_fewer (most_processes + 1) (length s.processes)",
+        ["exchanges_stay_few_in_all"],
+    ),
+    (
+        "child of a process has the number of the process",
+        CALLS,
+        "        child = child;\n",
+        "        child = length s.processes;\n",
+        ["filters_hear_what_children_wrote", "kills_come_once"],
+    ),
+    (
+        "input of a process that has ended counts as closed",
+        WAITS,
+        "(change_process p (λ y. record y { status = status }) s)",
+        "(change_process p (λ y. record y { status = status; closed = true }) s)",
+        ["refused_calls_leave_the_state"],
+    ),
 ]
 
 UNDO_RULES = [
@@ -528,6 +574,13 @@ UNDO_RULES = [
         "",
         ["UndoRows.undo_list_as_printed_holds"],
     ),
+    (
+        "boundary counts as newer than itself",
+        UNDO,
+        "newer_than serial (e ∷ entries) = if e.serial == serial then [] else",
+        "newer_than serial (e ∷ entries) = if e.serial == serial then e ∷ [] else",
+        ["nothing_is_newer_than_a_new_boundary"],
+    ),
 ]
 
 EDITOR_RULES = [
@@ -579,6 +632,58 @@ EDITOR_RULES = [
         "overlays = map (overlay_left buffer) marks.overlays;",
         "overlays = marks.overlays;",
         ["HookRows.hook_kills_the_buffer_holds"],
+    ),
+    (
+        "first record of a new buffer is pending",
+        EDITOR,
+        "new_undo = record { on = true; entries = []; next = 0; pending_below = 0 }",
+        "new_undo = record { on = true; entries = []; next = 0; pending_below = 1 }",
+        ["new_buffers_are_good", "editors_stay_sound"],
+    ),
+]
+
+RUN_RULES = [
+    (
+        "exchanges of a run aren't in its list",
+        RUN,
+        "Reaches program bound c (record { ask = ask; answer = answer } ∷ exchanges) (n.said ++ said) d",
+        "Reaches program bound c exchanges (n.said ++ said) d",
+        ["one_run_over_the_same_exchanges", "one_end_over_the_same_exchanges", "runs_are_computed"],
+    ),
+    (
+        "bytes sent aren't compared with those of the exchange",
+        RUN,
+        "same_ask (Send c a) (Send d b) = (c == d) && same_bytes a b",
+        "same_ask (Send c a) (Send d b) = c == d",
+        ["computed_runs_are_runs"],
+    ),
+    (
+        "computing run doesn't know an exchange that closes an input",
+        RUN,
+        "same_ask (Close c) (Close d) = c == d\n",
+        "",
+        ["runs_are_computed"],
+    ),
+    (
+        "run is whole wherever no handler runs",
+        WHOLE_RUNS,
+        "pub ended : step program bound last ≡ Ended",
+        "pub ended : last.state.depth ≡ 0",
+        ["whole_runs_hear_all"],
+    ),
+    (
+        "run may be broken off in front of the entry that a read caused",
+        WHOLE_RUNS,
+        "| Enter (OfFilter p) handler args ∷ rest ↦ ⊥",
+        "| Enter (OfFilter p) handler args ∷ rest ↦ Unit {0}",
+        ["broken_runs_hear_all", "filters_hear_what_children_wrote"],
+    ),
+    (
+        "line of the fault is behind any front that is a script",
+        GRAMMAR,
+        "IsAnyScript longer →\n      length longer ≤ length front",
+        "IsAnyScript longer →\n      length longer ≤ length bytes",
+        ["fault_lines_are_determined"],
     ),
 ]
 
@@ -648,4 +753,6 @@ PRINTING_RULES = [
     ),
 ]
 
-RULES = COMMIT_RULES + HOOK_RULES + HANDLER_RULES + WAIT_RULES + UNDO_RULES + EDITOR_RULES + PRINTING_RULES
+RULES = (
+    COMMIT_RULES + HOOK_RULES + HANDLER_RULES + WAIT_RULES + UNDO_RULES + EDITOR_RULES + RUN_RULES + PRINTING_RULES
+)
