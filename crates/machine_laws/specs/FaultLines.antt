@@ -1,8 +1,7 @@
--- The line of a script's fault: bytes that are no script have one.
+-- The line of a script's fault: bytes that are no script have no more than one.
 use Rattle.std.specs.Prelude.{◌≡◌, ℕ, List}
 use Rattle.plain_machine.specs.Grammar.{IsFaultLine}
 
--- no bytes have two
 abbrev pub OneFaultLine : Type 0
 OneFaultLine =
     (bytes : List ℕ) (line other : ℕ) → IsFaultLine bytes line → IsFaultLine bytes other → line ≡ other
