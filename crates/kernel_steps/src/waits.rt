@@ -8,6 +8,7 @@ ghost use Rattle.plain_machine.specs.Items.{Delete};
 ghost use Rattle.ek_types.specs.Listing.{items_of};
 ghost use Rattle.ek_call.specs.Meaning.{view};
 ghost use Rattle.ek_call.specs.Primitives.{prim_of};
+ghost use Rattle.kernel_steps.specs.Outside.{deepest};
 ghost use Rattle.kernel_steps.specs.Waits.{AsksIn, DeletesAll, EntersIf, IsHeardIf, Passes};
 ghost use Rattle.kernel_steps.specs.Waits.{WaitsOn, truth_of};
 ghost use Rattle.kernel_steps.specs.Work.{Answers, Does, lifted};
@@ -81,7 +82,7 @@ fn take_turns<M: Kernel, P: Program, H: Host, K: Sink>(
     wait: &mut Wait,
 ) -> Result<Value, Halt>
     requires ready { IsReady (M.state kernel.old) (H.state host.old).kills }
-    requires nesting { (M.state kernel.old).depth < 16 }
+    requires nesting { (M.state kernel.old).depth < deepest }
     requires room { wait.old.room ≡ 256 }
     ensures { Between M.state H.state H.made
         kernel.old kernel.new host.old host.new (K.state sink.old) (K.state sink.new)
@@ -115,7 +116,7 @@ fn ask<M: Kernel, P: Program, H: Host, K: Sink>(
     p: u32,
 ) -> Result<(), Halt>
     requires ready { IsReady (M.state kernel.old) (H.state host.old).kills }
-    requires nesting { (M.state kernel.old).depth < 16 }
+    requires nesting { (M.state kernel.old).depth < deepest }
     requires running { is_running (M.state kernel.old) p ≡ true }
     ensures asks { Between M.state H.state H.made kernel.old kernel.new host.old host.new
         (K.state sink.old) (K.state sink.new)
@@ -143,7 +144,7 @@ fn enter_if<M: Kernel, P: Program, H: Host, K: Sink>(
     entry: &Option<Entry>,
 ) -> Result<(), Stop>
     requires ready { IsReady (M.state kernel.old) (H.state host.old).kills }
-    requires nesting { IsSome entry.now → (M.state kernel.old).depth < 16 }
+    requires nesting { IsSome entry.now → (M.state kernel.old).depth < deepest }
     requires heard { IsHeardIf entry.now }
     ensures { Between M.state H.state H.made
         kernel.old kernel.new host.old host.new (K.state sink.old) (K.state sink.new)
@@ -176,7 +177,7 @@ fn delete<M: Kernel, P: Program, H: Host, K: Sink>(
     p: u32,
 ) -> Result<(), Stop>
     requires ready { IsReady (M.state kernel.old) (H.state host.old).kills }
-    requires nesting { is_running (M.state kernel.old) p ≡ true → (M.state kernel.old).depth < 16 }
+    requires nesting { is_running (M.state kernel.old) p ≡ true → (M.state kernel.old).depth < deepest }
     ensures { Between M.state H.state H.made
         kernel.old kernel.new host.old host.new (K.state sink.old) (K.state sink.new)
         (Does (lifted result) (P.meant program.now) (Delete p)) }
@@ -216,7 +217,7 @@ fn delete_all<M: Kernel, P: Program, H: Host, K: Sink>(
     doomed: &[u32],
 ) -> Result<(), Stop>
     requires ready { IsReady (M.state kernel.old) (H.state host.old).kills }
-    requires nesting { 0 < length doomed.now → (M.state kernel.old).depth < 16 }
+    requires nesting { 0 < length doomed.now → (M.state kernel.old).depth < deepest }
     ensures { Between M.state H.state H.made
         kernel.old kernel.new host.old host.new (K.state sink.old) (K.state sink.new)
         (DeletesAll (lifted result) (P.meant program.now) doomed.now) }
