@@ -1,13 +1,11 @@
 -- Marks change, and the texts stay.
-use Rattle.std.proofs.Common.{◌≡◌, ◌≢◌, ◌⊎◌, ℕ, zero, suc, ◌≤◌, Bool, true, false, List, [], ◌∷◌, ◌++◌, All, Option, Some, None, Result, Ok, Err, length, refl, sym, ap, subst, ◌∙◌, inl, inr, arith}
-use Rattle.std.specs.Prelude.{IfSome, IfNone, IfOk, OnOk, OnErr, slice_get, slice_set, option_map, unwrap_or, max}
-use Rattle.std.proofs.lemmas.Bool.{cases_eq}
-use Rattle.std.proofs.lemmas.List.Elements.{All-push, All-set, All-cons, All-head, All-tail, All-get_or}
-use Rattle.text_model.specs.Marks.{Marks, Marker, Overlay, Spot, Span, Saved}
+use Rattle.std.proofs.Common.{◌≡◌, ◌⊎◌, ℕ, zero, suc, ◌≤◌, Bool, true, List, [], ◌∷◌, ◌++◌, All, Option, Some, None, Result, Ok, Err, length, refl, sym, subst, inl, inr, arith}
+use Rattle.std.specs.Prelude.{IfSome, IfNone, OnOk, OnErr, slice_get, unwrap_or}
+use Rattle.std.proofs.lemmas.List.Elements.{All-push, All-head, All-tail}
+use Rattle.text_model.specs.Marks.{Marks, Marker, Overlay, Saved}
 use Rattle.editor_model.specs.Editor as shown
-use Rattle.editor_model.specs.Editor.{Editor}
 use Rattle.marker_set.specs.Numbered.{nowhere, marker_at, spot_of}
-use Rattle.overlay_set.specs.Numbered.{overlay_at, span_at, no_overlay}
+use Rattle.overlay_set.specs.Numbered.{overlay_at, span_at}
 use Rattle.narrow_region.specs.Kept as kept
 use Rattle.buffer_core.specs.Standing.{AreWithin, MarkerWithin, OverlayWithin, SavedWithin}
 use Rattle.buffer_table.specs.Kept.{Named, Kept, Lives, IsKept, is_live, editor_of}

@@ -1,6 +1,6 @@
 -- A change of a text leaves the marks of other buffers within theirs.
-use Rattle.std.proofs.Common.{◌≡◌, ◌≢◌, ℕ, Bool, true, false, List, [], ◌∷◌, length, Result, Ok, Err, subst, sym, ap, ◌∙◌}
-use Rattle.std.specs.Prelude.{OnOk, OnErr, ◌==◌, if◌then◌else◌}
+use Rattle.std.proofs.Common.{◌≡◌, ◌≢◌, ℕ, Bool, List, [], ◌∷◌, length, Result, Ok, Err, subst, sym, ap}
+use Rattle.std.specs.Prelude.{OnOk, OnErr, ◌==◌}
 use Rattle.text_model.specs.Properties.{Cell}
 use Rattle.text_model.specs.Marks.{Marks, insertion}
 use Rattle.text_model.specs.Commit.{Site, replaced, no_pending, deleted}

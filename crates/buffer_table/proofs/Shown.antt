@@ -1,6 +1,6 @@
 -- The buffer of a number, as it is shown.
 use Rattle.std.proofs.Common.{◌≡◌, ℕ, zero, suc, ◌+◌, ◌*◌, ◌<◌, ◌≤◌, true, List, [], ◌∷◌, All, length, map, take, get_or, refl, sym, ap, subst, ◌∙◌, add-one, arith}
-use Rattle.std.specs.Prelude.{Option, Some, None, option_map, unwrap_or, is_some, slice_get, slice_set, IfSome}
+use Rattle.std.specs.Prelude.{Option, Some, None, option_map, unwrap_or, is_some, slice_get, IfSome}
 use Rattle.std.proofs.lemmas.Option.{same_Some, slice_get-map}
 use Rattle.std.proofs.lemmas.List.{take_all}
 use Rattle.std.proofs.lemmas.List.Elements.{All-head, All-tail}

@@ -1,5 +1,5 @@
 -- All buffers with the pool in which their characters lie, and what they are together.
-use Rattle.std.specs.Prelude.{◌≡◌, ◌≢◌, ℕ, ◌+◌, ◌*◌, ◌^◌, ◌<◌, ◌≤◌, Bool, true, false, List, [], ◌∷◌}
+use Rattle.std.specs.Prelude.{◌≡◌, ◌≢◌, ℕ, ◌+◌, ◌≤◌, Bool, true, false, List, [], ◌∷◌}
 use Rattle.std.specs.Prelude.{length, map, slice_get, Option, Some, None, option_map, unwrap_or}
 use Rattle.std.specs.Prelude.{is_some}
 use Rattle.text_model.specs.Characters.{Ch}

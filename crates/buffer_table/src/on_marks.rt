@@ -1,10 +1,9 @@
 //! Calls on markers, overlays and kept places.
-ghost use Rattle.std.specs.Prelude.{◌≡◌, ◌↔◌, ℕ, ◌+◌, ◌-◌, ◌^◌, ◌<◌, ◌≤◌, true, false, [], ◌∷◌};
-ghost use Rattle.std.specs.Prelude.{◌++◌, length, Some, None, IsNone, IfNone, IfSome, IfOk, OnOk};
+ghost use Rattle.std.specs.Prelude.{◌≡◌, ◌↔◌, ◌+◌, ◌-◌, ◌^◌, ◌<◌, ◌≤◌, [], ◌∷◌};
+ghost use Rattle.std.specs.Prelude.{length, Some, None, IsNone, IfNone, IfSome, IfOk, OnOk};
 ghost use Rattle.std.specs.Prelude.{OnErr, option_map};
 ghost use Rattle.text_model.specs.Properties.{put};
-ghost use Rattle.text_model.specs.Marks.{Marker, Overlay};
-ghost use Rattle.editor_model.specs.Editor.{is_live, buffer_at, marker_of, with_marker};
+ghost use Rattle.editor_model.specs.Editor.{marker_of, with_marker};
 ghost use Rattle.editor_model.specs.Editor.{set_marker_spot, change_marker, overlay_of};
 ghost use Rattle.editor_model.specs.Editor.{with_overlay, change_overlay};
 ghost use Rattle.ek_types.specs.Property.{prop_of};

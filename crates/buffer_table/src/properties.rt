@@ -1,6 +1,6 @@
 //! What is asked of the properties of one buffer ("Property Search" in the GNU Emacs Lisp Reference Manual). Where no
 //! live buffer has the number, its text is the empty one.
-ghost use Rattle.std.specs.Prelude.{◌≡◌, ◌≢◌, ℕ, ◌<◌, ◌≤◌, length, Some, option_map, slice_get};
+ghost use Rattle.std.specs.Prelude.{◌≡◌, ℕ, ◌<◌, ◌≤◌, length, Some, option_map, slice_get};
 ghost use Rattle.text_model.specs.Ordered.{IsProper};
 ghost use Rattle.text_model.specs.PropertyQuestions.{next_change, previous_change};
 ghost use Rattle.editor_model.specs.Editor.{buffer_at};

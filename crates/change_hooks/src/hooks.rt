@@ -1,6 +1,6 @@
 //! The hook functions of all buffers.
-ghost use Rattle.std.specs.Prelude.{◌≡◌, ◌↔◌, ◌<◌, ◌≤◌, ◌==◌, [], ◌∷◌, ◌++◌, Some, None, true};
-ghost use Rattle.std.specs.Prelude.{false, map, length, nat_le, slice_get, if◌then◌else◌, IfOk};
+ghost use Rattle.std.specs.Prelude.{◌≡◌, ◌↔◌, ◌<◌, ◌≤◌, [], Some, None, true};
+ghost use Rattle.std.specs.Prelude.{false, map, length, nat_le, if◌then◌else◌, IfOk};
 ghost use Rattle.std.specs.Prelude.{OnErr};
 ghost use Rattle.std.specs.List.{position};
 ghost use Rattle.editor_model.specs.Limits.{most_buffers};

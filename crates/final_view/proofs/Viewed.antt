@@ -1,5 +1,5 @@
 -- A live buffer that is lent is that of the editor.
-use Rattle.std.proofs.Common.{◌≡◌, ℕ, List, Option, Some, None, ap, ◌∙◌}
+use Rattle.std.proofs.Common.{◌≡◌, ℕ, List, Some, None, ap, ◌∙◌}
 use Rattle.text_model.specs.Properties.{part}
 use Rattle.text_model.specs.Marks.{Overlay}
 use Rattle.text_model.specs.Commit.{Buffer}

@@ -1,6 +1,5 @@
 //! The strings of overlays.
-ghost use Rattle.std.specs.Prelude.{◌≡◌, ℕ, ◌+◌, ◌<◌, flat_map, filter, drop, [], ◌∷◌, All, option_map};
-ghost use Rattle.std.specs.Prelude.{if◌then◌else◌};
+ghost use Rattle.std.specs.Prelude.{◌≡◌, ◌+◌, ◌<◌, flat_map, filter, drop, [], ◌∷◌, All, option_map};
 ghost use Rattle.text_model.specs.Characters.{encoded};
 ghost use Rattle.ek_types.specs.Property.{prop_of};
 ghost use Rattle.ek_types.specs.Seen.{ch_of};

@@ -1,5 +1,5 @@
 //! From one edge of an overlay to the next.
-ghost use Rattle.std.specs.Prelude.{◌≡◌, ℕ, ◌+◌, ◌<◌, ◌≤◌, length, drop, All};
+ghost use Rattle.std.specs.Prelude.{ℕ, ◌+◌, ◌<◌, ◌≤◌, length, drop, All};
 ghost use Rattle.text_model.specs.Properties.{part};
 ghost use Rattle.final_view.specs.Shown.{Scene, shown_from};
 ghost use Rattle.final_view.specs.Showing.{Shows};

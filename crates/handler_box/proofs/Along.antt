@@ -4,8 +4,8 @@ use Rattle.std.specs.Prelude.{Option, Some, None, codes}
 use Rattle.std.proofs.lemmas.List.{append-nil, append_assoc}
 use Rattle.text_model.specs.Characters.{Scalar}
 use Rattle.editor_model.specs.Arguments.{arg}
-use Rattle.editor_model.specs.Values.{Value, Reply, Answered, Refused, Str, Prim, GetBufferCreate, SetBuffer, PointAt, PointMax, GotoChar, Insert, ProcessBuffer, ProcessMark, MarkerPosition, SetMarker}
-use Rattle.plain_machine.specs.Shipped.{NativeCall, Wanted, ABuffer, AMarker, ANumber, Anything, is_wanted, Line, line, along, point_back, insert_filter, note_sentinel}
+use Rattle.editor_model.specs.Values.{Value, Reply, Answered, Refused, Str, GetBufferCreate, SetBuffer, PointAt, PointMax, GotoChar, Insert, ProcessBuffer, ProcessMark, MarkerPosition, SetMarker}
+use Rattle.plain_machine.specs.Shipped.{NativeCall, ABuffer, AMarker, ANumber, Anything, is_wanted, Line, line, along, point_back, insert_filter, note_sentinel}
 use Rattle.handler_code.specs.Calls.{answer_of}
 use Rattle.handler_box.specs.Replies.{are_kept, insert_wanted, note_wanted}
 

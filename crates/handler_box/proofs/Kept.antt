@@ -1,11 +1,11 @@
 -- Whether the replies are as wanted, as a loop tests it; and what a call answers is carried over.
-use Rattle.std.proofs.Common.{◌≡◌, ◌<◌, ◌≤◌, ℕ, ◌+◌, Bool, true, false, ◌&&◌, List, [], ◌∷◌, length, drop, map, refl, ap, sym, ◌∙◌, slice_get, Some, arith}
-use Rattle.std.specs.Prelude.{Option, Ok, Err, Result, IfOk, unwrap_or, option_map}
+use Rattle.std.proofs.Common.{◌≡◌, ◌<◌, ◌≤◌, ℕ, ◌+◌, Bool, true, false, ◌&&◌, List, [], ◌∷◌, length, drop, map, refl, ap, ◌∙◌, slice_get, Some, arith}
+use Rattle.std.specs.Prelude.{Ok, Err, Result, IfOk, unwrap_or, option_map}
 use Rattle.std.proofs.lemmas.List.{drop_all}
 use Rattle.std.proofs.lemmas.Option.{slice_get-map}
 use Rattle.text_model.proofs.Lists.{drop_at}
 use Rattle.editor_model.specs.Arguments.{arg}
-use Rattle.editor_model.specs.Values.{Value, Nil, Reply}
+use Rattle.editor_model.specs.Values.{Nil, Reply}
 use Rattle.plain_machine.specs.Shipped.{Wanted}
 use Rattle.handler_code.specs.Calls.{answer_of}
 use Rattle.handler_box.specs.Replies.{is_kept, are_kept}

@@ -1,5 +1,5 @@
 //! Which calls of a native are made.
-ghost use Rattle.std.specs.Prelude.{◌≡◌, map, length, option_map, IfOk};
+ghost use Rattle.std.specs.Prelude.{◌≡◌, option_map, IfOk};
 ghost use Rattle.editor_model.specs.Prims.{arity};
 ghost use Rattle.plain_machine.specs.State.{State, Program};
 ghost use Rattle.plain_machine.specs.Natives.{takes};

@@ -1,9 +1,9 @@
 //! What was made in a run.
-ghost use Rattle.std.specs.Prelude.{◌≡◌, map, nat_lt};
+ghost use Rattle.std.specs.Prelude.{◌≡◌, map};
 ghost use Rattle.std.specs.List.{list_all};
 ghost use Rattle.plain_machine.specs.Natives.{is_symbol_there, prop_was_made, set_was_made, was_made};
 ghost use Rattle.ek_types.specs.Listing.{items_of};
-ghost use Rattle.ek_types.specs.Property.{number_of, prop_of};
+ghost use Rattle.ek_types.specs.Property.{prop_of};
 ghost use Rattle.ek_call.specs.Meaning.{view};
 ghost use Rattle.handler_code.specs.Counts.{program_with, state_with};
 

@@ -1,7 +1,7 @@
 -- Answers that were told, as a host gives them.
-use Rattle.std.proofs.Common.{◌≡◌, ℕ, List, [], ◌∷◌, length, take, refl, ap, sym, ◌∙◌, subst, arith}
+use Rattle.std.proofs.Common.{◌≡◌, ℕ, List, [], ◌∷◌, length, take, refl, ap, sym, subst, arith}
 use Rattle.std.proofs.lemmas.List.{length-take}
-use Rattle.plain_machine.specs.Exchanges.{Answer, Bytes, Nothing}
+use Rattle.plain_machine.specs.Exchanges.{Bytes, Nothing}
 use Rattle.ek_types.specs.declared.list.ListOf.{ListOf}
 use Rattle.ek_types.specs.Listing.{items_of}
 use Rattle.host_link.specs.Meaning.{answer_of}

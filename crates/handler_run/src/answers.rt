@@ -1,7 +1,6 @@
 //! What an answer changes in the table, and what is entered for it.
-ghost use Rattle.std.specs.Prelude.{◌≡◌, ◌+◌, ◌<◌, ◌≤◌, ◌++◌, ◌↔◌, List, [], length, map, false};
+ghost use Rattle.std.specs.Prelude.{◌≡◌, ◌+◌, ◌<◌, ◌≤◌, ◌++◌, ◌↔◌, [], length, false};
 ghost use Rattle.std.specs.Prelude.{Some, None, option_map};
-ghost use Rattle.text_model.specs.Characters.{Ch as Character};
 ghost use Rattle.plain_machine.specs.State.{State, Process as Meant, process};
 ghost use Rattle.process_table.specs.Meaning.{status_of};
 ghost use Rattle.process_table.specs.Table.{StandsFor, coding_by, held_by};

@@ -4,10 +4,9 @@ ghost use Rattle.std.specs.Prelude.{true, Some, IfOk, OnOk, OnErr, if◌then◌e
 ghost use Rattle.std.specs.Prelude.{slice_get, slice_set, string_bytes, vec_len, vec_capacity};
 ghost use Rattle.plain_machine.specs.Exchanges.{Spawn, Read, AskEnd, Send, Close, Kill, Closed};
 ghost use Rattle.plain_machine.specs.Exchanges.{Started, Refused, Failed, Broken, Sent, Killed};
-ghost use Rattle.ek_types.specs.Io.{next_count};
 ghost use Rattle.ek_types.specs.MemoryIo.{fails_at};
 ghost use Rattle.host_link.specs.Meaning.{answer_of};
-ghost use Rattle.host_link.specs.Hosts.{Asked, Exchanged, Fits, IsNumbered, after_spawn, is_fault};
+ghost use Rattle.host_link.specs.Hosts.{Asked, Exchanged, Fits, IsNumbered, after_spawn};
 ghost use Rattle.host_link.specs.Hosts.{spawned_answer, got_answer, ended_answer, send_answer};
 ghost use Rattle.host_link.specs.Hosts.{kill_answer};
 ghost use Rattle.host_link.specs.Played.{Plays, host_state, next_read, after_read, room_after};

@@ -1,5 +1,5 @@
 //! The line of an exchange, read.
-ghost use Rattle.std.specs.Prelude.{◌≡◌, ◌<◌, ◌^◌, ℕ, option_map, IfOk};
+ghost use Rattle.std.specs.Prelude.{◌≡◌, ◌<◌, option_map, IfOk};
 ghost use Rattle.ek_types.specs.Listing.{items_of};
 ghost use Rattle.host_link.specs.Meaning.{ask_of, answer_of, exchange_of};
 ghost use Rattle.journal_text.specs.Reading.{child_at, bytes_at, spawn_at, send_at, ask_at};

@@ -1,5 +1,5 @@
 //! The lines of a journal.
-ghost use Rattle.std.specs.Prelude.{◌≡◌, ◌+◌, ◌<◌, ◌++◌, ◌∷◌, decimal};
+ghost use Rattle.std.specs.Prelude.{◌≡◌, ◌+◌, ◌<◌, ◌++◌, decimal};
 ghost use Rattle.plain_machine.specs.Lines.{shown_int};
 ghost use Rattle.ek_types.specs.Io.{Writes};
 ghost use Rattle.host_link.specs.Meaning.{ask_of, answer_of, exchange_of, exchanges_of, words_of};

@@ -1,14 +1,12 @@
 //! A host that answers as a list of exchanges has it.
-ghost use Rattle.std.specs.Prelude.{◌≡◌, ◌+◌, ◌-◌, ◌<◌, ◌≤◌, ◌^◌, length, map, [], false, true};
+ghost use Rattle.std.specs.Prelude.{◌≡◌, ◌-◌, ◌<◌, ◌≤◌, ◌^◌, length, map, false, true};
 ghost use Rattle.std.specs.Prelude.{Some, IfOk, OnOk, OnErr, slice_get, slice_set, string_bytes};
-ghost use Rattle.std.specs.Prelude.{if◌then◌else◌, vec_len, vec_capacity};
+ghost use Rattle.std.specs.Prelude.{vec_len, vec_capacity};
 ghost use Rattle.plain_machine.specs.Exchanges.{Spawn, Read, AskEnd, Send, Close, Kill, Closed};
-ghost use Rattle.ek_types.specs.Io.{next_count};
-ghost use Rattle.host_link.specs.Meaning.{answer_of, exchanges_of};
-ghost use Rattle.host_link.specs.Hosts.{Asked, Exchanged, Fits, IsNumbered, after_spawn, is_fault};
+ghost use Rattle.host_link.specs.Meaning.{exchanges_of};
+ghost use Rattle.host_link.specs.Hosts.{Asked, Exchanged, Fits, IsNumbered, after_spawn};
 ghost use Rattle.host_link.specs.Hosts.{spawned_answer, got_answer, ended_answer, send_answer};
 ghost use Rattle.host_link.specs.Hosts.{kill_answer};
-ghost use Rattle.host_link.specs.Logged.{due_by};
 ghost use Rattle.journal_text.specs.Allowed.{AreAnswered};
 ghost use Rattle.journal_text.specs.Replayed.{Replays, host_state, new_replay};
 
@@ -20,7 +18,6 @@ use host_link::{
     Ask, Ended, Exchanges, Got, Host, KillAnswer, Log, SendAnswer, Spawned, answer_to_kill,
     faults_after, list_of,
 };
-use std::alloc::Global;
 use std::marker::Model;
 
 /// Answers the asks of a run as a list of exchanges has them, while they agree, and tells its own exchanges. From the

@@ -1,8 +1,7 @@
 //! What a list of exchanges answers to an ask, and what is answered to one that strays.
-ghost use Rattle.std.specs.Prelude.{◌≡◌, ◌≢◌, ℕ, ◌+◌, ◌^◌, ◌<◌, ◌≤◌, length, true, IfOk, IfSome, IfNone, IsSome};
-ghost use Rattle.std.specs.Prelude.{MatchBool, if◌then◌else◌};
+ghost use Rattle.std.specs.Prelude.{◌≡◌, ℕ, ◌+◌, ◌^◌, ◌<◌, ◌≤◌, length, true, IfOk, IfSome, IfNone, IsSome};
+ghost use Rattle.std.specs.Prelude.{MatchBool};
 ghost use Rattle.plain_machine.specs.Exchanges.{Exchange as Meant, Kill};
-ghost use Rattle.ek_types.specs.Listing.{items_of};
 ghost use Rattle.host_link.specs.Meaning.{ask_of, answer_of, exchange_of, exchanges_of};
 ghost use Rattle.host_link.specs.Hosts.{Fits, spawned_answer, got_answer, ended_answer};
 ghost use Rattle.host_link.specs.Hosts.{send_answer, kill_answer};

@@ -1,6 +1,6 @@
 -- Answers of children that were told: from the processes to the machine.
-use Rattle.std.proofs.Common.{◌≡◌, ◌≢◌, ℕ, ◌≤◌, Bool, true, false, List, [], ◌∷◌, length, take, refl, ap, sym, ◌∙◌, subst, inl, inr}
-use Rattle.std.specs.Prelude.{◌⊎◌, Option, Some, None, nat_le}
+use Rattle.std.proofs.Common.{◌≡◌, ◌≢◌, ℕ, ◌≤◌, Bool, true, false, List, [], ◌∷◌, length, refl, ap, sym, ◌∙◌, subst, inl, inr}
+use Rattle.std.specs.Prelude.{◌⊎◌, Some, None, nat_le}
 use Rattle.std.proofs.lemmas.Bool.{false≢true, leb-true, and_parts}
 use Rattle.std.proofs.lemmas.List.{take_all}
 use Rattle.plain_machine.specs.Exchanges.{Answer, Started, Refused, Bytes, Nothing, End, Code, Signal, Running, Sent, Broken, Closed, Killed, Failed}
@@ -9,7 +9,6 @@ use Rattle.plain_machine.specs.Items.{Item, Wait, Target, Waiting}
 use Rattle.plain_machine.specs.Calls.{silent}
 use Rattle.plain_machine.specs.Waits.{end_answer}
 use Rattle.wait_loop.specs.KeptWaits.{noted}
-use Rattle.host_link.specs.Played.{read_as, end_as}
 use Rattle.handler_run.specs.Asking.{MayAnswer, MayBeTold, TakesOutput, TakesToldEnd, TakesAnswer, TakesKill}
 use Rattle.handler_run.specs.Entries.{entering as entering_one}
 use Rattle.handler_run.specs.declared.entry.Entry.{Entry as Entered}
@@ -20,7 +19,7 @@ use Rattle.kernel_steps.specs.Waits.{entering}
 use Rattle.kernel_steps.specs.Worlds.{Stands}
 use Rattle.kernel_steps.specs.declared.kernel.Entry.{Entry}
 use Rattle.kernel_steps.specs.declared.kernel.Heard.{Heard}
-use Rattle.kernel_state.proofs.Exchanges.{Stood, stood, heard_state, heard_stands, killed_state, killed_stands}
+use Rattle.kernel_state.proofs.Exchanges.{stood, heard_state, heard_stands, killed_state, killed_stands}
 
 -- WHICH ANSWERS ARE ALLOWED
 may_answer : (drained : Bool) (answer : Answer) → may_hear drained answer ≡ true → MayAnswer drained answer

@@ -24,7 +24,6 @@ use Rattle.wait_loop.specs.Rounds.{Leads}
 use Rattle.wait_loop.specs.declared.rounds.Step.TheVariants as turn
 use Rattle.host_link.specs.Hosts.{HostState, Exchanged, ended_answer, kill_answer as told_kill}
 use Rattle.host_link.specs.declared.host.KillAnswer.{KillAnswer}
-use Rattle.handler_run.specs.Answers.{Deletes}
 use Rattle.handler_run.specs.Asking.{TouchesIf, HearsOutput, HearsEnd, Hears, Kills}
 use Rattle.handler_run.specs.Entries.{entering}
 use Rattle.handler_run.specs.declared.entry.Entry.{Entry}

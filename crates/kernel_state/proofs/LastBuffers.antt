@@ -1,12 +1,12 @@
 -- Whether one buffer alone lives, and which processes run in a buffer.
-use Rattle.std.proofs.Common.{◌≡◌, ℕ, zero, suc, ◌+◌, ◌<◌, ◌≤◌, Bool, true, false, ◌∙◌, List, [], ◌∷◌, map, length, drop, refl, ap, sym, subst, arith}
+use Rattle.std.proofs.Common.{◌≡◌, ℕ, zero, suc, ◌+◌, ◌<◌, Bool, true, false, ◌∙◌, List, [], ◌∷◌, map, length, drop, refl, ap, sym, arith}
 use Rattle.std.specs.Prelude.{◌==◌, ◌&&◌, filter, nat_lt, slice_get, Option, Some, None, unwrap_or, is_some}
 use Rattle.std.specs.List.{enumerate_from}
 use Rattle.std.proofs.lemmas.Bool.{eq-eqb, ne_eqb, lt-ltb}
 use Rattle.text_model.proofs.Lists.{drop_at}
 use Rattle.editor_model.specs.Editor.{Editor, Live, live_from, is_live}
-use Rattle.plain_machine.specs.State.{State, Process}
-use Rattle.plain_machine.specs.Arguments.{runs, stands_in, running_in}
+use Rattle.plain_machine.specs.State.{Process}
+use Rattle.plain_machine.specs.Arguments.{runs, stands_in}
 use Rattle.plain_machine.specs.Refusals.{is_last}
 
 -- BUFFERS

@@ -1,5 +1,5 @@
 -- Parameters of handlers: where one stands in a scope, how it is set, and the scopes of all handlers as a stack.
-use Rattle.std.proofs.Common.{◌≡◌, ℕ, zero, suc, ◌+◌, ◌-◌, ◌<◌, Bool, true, false, List, [], ◌∷◌, ◌++◌, length, map, get_or, take, drop, reverse, refl, ap, sym, subst, ◌∙◌, cond, arith, add-one}
+use Rattle.std.proofs.Common.{◌≡◌, ℕ, zero, suc, ◌+◌, ◌-◌, ◌<◌, Bool, true, false, List, [], ◌∷◌, ◌++◌, length, map, get_or, take, drop, reverse, refl, ap, sym, subst, ◌∙◌, cond, arith}
 use Rattle.std.specs.Prelude.{◌==◌, slice_get, slice_set, Option, Some, None, MatchOption, option_to_list}
 use Rattle.std.specs.List.{position, position_from}
 use Rattle.std.proofs.lemmas.List.{map-append, reverse-append}

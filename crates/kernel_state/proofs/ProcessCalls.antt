@@ -7,7 +7,6 @@ use Rattle.text_model.proofs.Lists.{drop_at}
 use Rattle.editor_model.specs.Values.{Value, Nil, TheProcess, Prim}
 use Rattle.plain_machine.specs.State.{State, Process, process}
 use Rattle.plain_machine.specs.Calls.{told_of_one}
-use Rattle.process_table.specs.Table.{changed}
 
 pub told_past : (prim : Prim) (s : State) (p : ℕ) → length s.processes ≤ p → Nil ≡ told_of_one prim (process s p)
 told_past prim s p past = ap (told_of_one prim) (sym (slice_get_past s.processes p past))

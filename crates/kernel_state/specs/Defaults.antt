@@ -1,5 +1,5 @@
 -- The parts of what default handlers put in.
-use Rattle.std.specs.Prelude.{ℕ, List, [], Option, Some, None}
+use Rattle.std.specs.Prelude.{ℕ, List, [], Some, None}
 use Rattle.text_model.specs.Properties.{Cell}
 use Rattle.editor_model.specs.Values.{Nil}
 use Rattle.editor_model.specs.Editor.{Name}

@@ -1,5 +1,5 @@
 -- What a kernel stands for.
-use Rattle.std.specs.Prelude.{ℕ, List, [], ◌∷◌, map, reverse}
+use Rattle.std.specs.Prelude.{List, [], ◌∷◌, map, reverse}
 use Rattle.plain_machine.specs.State.{State, Scope}
 use Rattle.buffer_table.specs.Kept.{editor_of, registers_of}
 use Rattle.kernel_state.specs.declared.kernel.KernelState.{KernelState}

@@ -1,7 +1,7 @@
 -- Room for a process that is about to be started.
 use Rattle.std.specs.Prelude.{◌≡◌, ℕ, ◌<◌, Bool, true, false, List, length, Option, Some, None}
 use Rattle.editor_model.specs.Values.{Value}
-use Rattle.editor_model.specs.Editor.{Editor, Name, buffer_at, with_marker, set_marker_spot}
+use Rattle.editor_model.specs.Editor.{Editor, Name, with_marker, set_marker_spot}
 use Rattle.editor_model.specs.Limits.{most_buffers, most_markers}
 use Rattle.editor_model.specs.Arguments.{arg, name_of}
 use Rattle.plain_machine.specs.State.{State}

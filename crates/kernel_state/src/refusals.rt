@@ -2,7 +2,7 @@
 //! states, limits, depth, exchanges.
 ghost use Rattle.std.specs.Prelude.{◌≡◌, ◌+◌, ◌&&◌, ◌∷◌, [], not, map, drop, length, nat_le};
 ghost use Rattle.std.specs.Prelude.{option_map};
-ghost use Rattle.editor_model.specs.Values.{Prim, WrongType, ArgsOutOfRange, ProcessEnded, TooMany};
+ghost use Rattle.editor_model.specs.Values.{WrongType, ArgsOutOfRange, ProcessEnded, TooMany};
 ghost use Rattle.editor_model.specs.Values.{AddHook, RemoveHook, KillBuffer, StartProcess};
 ghost use Rattle.editor_model.specs.Values.{SetProcessFilter, SetProcessSentinel, SetProcessBuffer};
 ghost use Rattle.editor_model.specs.Values.{ProcessSendString, ProcessSendEof, DeleteProcess};

@@ -1,7 +1,7 @@
 //! Calls on hooks and processes that ask the host nothing and enter nothing.
-ghost use Rattle.std.specs.Prelude.{◌≡◌, [], ◌∷◌, ◌++◌, ◌≤◌, ◌==◌, true, false, not, map, filter};
-ghost use Rattle.std.specs.Prelude.{length, if◌then◌else◌, IfOk, OnOk, OnErr, option_map};
-ghost use Rattle.std.specs.Prelude.{slice_get, Some};
+ghost use Rattle.std.specs.Prelude.{◌≡◌, [], ◌∷◌, ◌++◌, ◌≤◌, ◌==◌, not, map, filter};
+ghost use Rattle.std.specs.Prelude.{length, IfOk, OnOk, OnErr, option_map};
+ghost use Rattle.std.specs.Prelude.{Some};
 ghost use Rattle.editor_model.specs.Values.{Sym as symbol, AddHook, RemoveHook, SetProcessFilter};
 ghost use Rattle.editor_model.specs.Values.{SetProcessSentinel, SetProcessBuffer, TheProcess, list};
 ghost use Rattle.editor_model.specs.Values.{SetProcessCodingSystem, Nil};

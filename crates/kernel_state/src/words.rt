@@ -1,5 +1,5 @@
 //! Texts as bytes: what is sent to a child, and the words of a command.
-ghost use Rattle.std.specs.Prelude.{◌≡◌, ◌∷◌, [], true, drop, length, map, string_bytes, IfOk};
+ghost use Rattle.std.specs.Prelude.{◌≡◌, [], true, drop, length, map, string_bytes, IfOk};
 ghost use Rattle.std.specs.List.{list_all};
 ghost use Rattle.editor_model.specs.Arguments.{arg, name_of};
 ghost use Rattle.editor_model.specs.Values.{StartProcess};

@@ -4,7 +4,7 @@ use Rattle.std.specs.Prelude.{Some}
 use Rattle.std.proofs.lemmas.List.{length-map}
 use Rattle.editor_model.specs.Values.{Value, Nil, TheProcess, Reply, Answered, Refused, BrokenPipe, SpawnFailed, StartProcess, ProcessSendString, ProcessSendEof}
 use Rattle.editor_model.specs.Arguments.{arg}
-use Rattle.plain_machine.specs.Exchanges.{Ask, Answer, Spawn, Send, Close, Started, Closed}
+use Rattle.plain_machine.specs.Exchanges.{Ask, Spawn, Send, Close, Started, Closed}
 use Rattle.plain_machine.specs.Exchanges as model
 use Rattle.plain_machine.specs.State.{State, Program, change_process}
 use Rattle.plain_machine.specs.Arguments.{process_of, child_of, is_closed}

@@ -4,8 +4,8 @@ use Rattle.std.specs.Io.KnownBytes.{Appends}
 use Rattle.editor_model.specs.Values.{Script, Forms, NoForms}
 use Rattle.plain_machine.specs.Exchanges.{Exchange, Ask, Answer}
 use Rattle.plain_machine.specs.State.{State, Program, new_state}
-use Rattle.plain_machine.specs.Items.{Said, Config, Top}
-use Rattle.plain_machine.specs.Run.{Reaches, lines, start}
+use Rattle.plain_machine.specs.Items.{Config, Top}
+use Rattle.plain_machine.specs.Run.{lines, start}
 use Rattle.plain_machine.specs.WholeRuns.{Ran, BrokenOff, AreKills}
 use Rattle.machine_laws.specs.Children.{KillsLeft}
 use Rattle.machine_laws.specs.Entries.{RanEntries, BrokenEntries, Sentinels, EndsAfterOutput, SentinelsAfterOutput}

@@ -1,5 +1,5 @@
 //! Forms, one after another.
-ghost use Rattle.std.specs.Prelude.{◌≡◌, ℕ, map, Option};
+ghost use Rattle.std.specs.Prelude.{map};
 ghost use Rattle.editor_model.specs.Values.{In, WhenEq};
 ghost use Rattle.plain_machine.specs.Items.{Body, DoForm};
 ghost use Rattle.ek_types.specs.Listing.{items_of};

@@ -1,6 +1,5 @@
 //! What is fixed for a run.
-ghost use Rattle.std.specs.Prelude.{◌≡◌, List, Option, map, IfOk, option_map};
-ghost use Rattle.editor_model.specs.Values.{Value as Meant, Reply as Replied, Prim};
+ghost use Rattle.std.specs.Prelude.{◌≡◌, Option, map, IfOk, option_map};
 ghost use Rattle.plain_machine.specs.Arguments.{handler_def, is_handler};
 ghost use Rattle.plain_machine.specs.State.{Program as Plain};
 ghost use Rattle.ek_types.specs.Listing.{items_of};

@@ -1,5 +1,5 @@
 //! The replies of calls.
-ghost use Rattle.std.specs.Prelude.{◌≡◌, Err};
+ghost use Rattle.std.specs.Prelude.{Err};
 ghost use Rattle.plain_machine.specs.Items.{Refuse};
 ghost use Rattle.ek_call.specs.Faults.{fault_of};
 ghost use Rattle.ek_call.specs.Meaning.{view, reply_of};

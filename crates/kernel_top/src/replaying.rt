@@ -1,12 +1,11 @@
 //! The word `replay`: a session is read, and its script run over the exchanges of its journal.
-ghost use Rattle.std.specs.Prelude.{◌≡◌, ◌≢◌, ◌<◌, ◌≤◌, ◌^◌, ◌+◌, ◌==◌, ◌&&◌, not, ℕ, List, length, drop, IsTrue};
-ghost use Rattle.std.specs.Io.KnownBytes.{Appends, Consumes};
-ghost use Rattle.plain_machine.specs.Exchanges.{Exchange};
+ghost use Rattle.std.specs.Prelude.{◌≡◌, ◌<◌, ◌≤◌, ◌^◌, ◌==◌, ◌&&◌, not, ℕ, List, length, IsTrue};
+ghost use Rattle.std.specs.Io.KnownBytes.{Appends};
 ghost use Rattle.ek_types.specs.Io.{HasCause};
 ghost use Rattle.ek_call.specs.Meaning.{script_of};
 ghost use Rattle.host_link.specs.Meaning.{exchanges_of};
 ghost use Rattle.journal_text.specs.Lines.{longest_session};
-ghost use Rattle.journal_text.specs.Allowed.{IsJournal, AreAnswered};
+ghost use Rattle.journal_text.specs.Allowed.{AreAnswered};
 ghost use Rattle.journal_text.specs.Replayed.{new_replay};
 ghost use Rattle.kernel_state.specs.Whole.{program_with};
 ghost use Rattle.kernel_top.specs.Unseen.{IsWhole};

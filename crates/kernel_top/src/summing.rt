@@ -1,5 +1,5 @@
 //! The words `drill` and a number: the script of a drill is run and counted, and one line sums it up.
-ghost use Rattle.std.specs.Prelude.{◌≡◌, ◌^◌, ◌≤◌, ◌%◌, ℕ, List, ◌++◌, codes, decimal, length};
+ghost use Rattle.std.specs.Prelude.{◌≡◌, ◌^◌, ◌≤◌, ◌%◌, ℕ, List, ◌++◌, decimal, length};
 ghost use Rattle.plain_machine.specs.Exchanges.{Exchange};
 ghost use Rattle.plain_machine.specs.State.{new_state};
 ghost use Rattle.plain_machine.specs.Drill.{drill_script};

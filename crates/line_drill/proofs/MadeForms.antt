@@ -5,7 +5,7 @@ use Rattle.std.proofs.lemmas.List.{map-append}
 use Rattle.text_model.specs.Characters.{Scalar}
 use Rattle.text_model.specs.Properties.{Cell, bare}
 use Rattle.editor_model.specs.Values as model
-use Rattle.editor_model.specs.Values.{NoForms, Then}
+use Rattle.editor_model.specs.Values.{Then}
 use Rattle.plain_machine.specs.Drill.{in_order}
 use Rattle.ek_types.specs.Listing.{items_of}
 use Rattle.ek_types.specs.declared.list.ListOf.{ListOf}

@@ -1,5 +1,5 @@
 //! The replies that a native of a session has had.
-ghost use Rattle.std.specs.Prelude.{◌≡◌, map, slice_get, unwrap_or};
+ghost use Rattle.std.specs.Prelude.{◌≡◌, slice_get, unwrap_or};
 ghost use Rattle.std.specs.Option.{option_map};
 ghost use Rattle.std.specs.List.{list_all};
 ghost use Rattle.editor_model.specs.Arguments.{arg};

@@ -1,16 +1,15 @@
 //! The script of a session, made as forms.
-ghost use Rattle.std.specs.Prelude.{◌≡◌, ◌∷◌, ◌++◌, [], map, replicate, IfOk, OnOk};
-ghost use Rattle.editor_model.specs.Values.{Const, Do as do_form, StartProcess};
-ghost use Rattle.plain_machine.specs.Drill.{call as call_with, in_order};
-ghost use Rattle.ek_types.specs.Listing.{items_of};
+ghost use Rattle.std.specs.Prelude.{◌≡◌, ◌++◌, map, replicate, IfOk, OnOk};
+ghost use Rattle.editor_model.specs.Values.{Const, StartProcess};
+ghost use Rattle.plain_machine.specs.Drill.{call as call_with};
 ghost use Rattle.ek_call.specs.Primitives.{prim_of};
-ghost use Rattle.ek_call.specs.Meaning.{arg_of, call_of, form_of, forms_of, script_of};
+ghost use Rattle.ek_call.specs.Meaning.{call_of, form_of, forms_of, script_of};
 ghost use Rattle.line_session.specs.Script as definition;
 ghost use Rattle.line_session.specs.Script.{session_symbols, waiting_forms, wait_form, session_script};
 ghost use Rattle.line_session.specs.Forms.{handler_form};
 ghost use Rattle.line_session.specs.Replies.{values_of};
 
-use ek_call::{Arg, Args, Call, Form, Forms, Primitive, Script, Value, Values};
+use ek_call::{Arg, Call, Form, Forms, Primitive, Script, Value, Values};
 use ek_types::{Copied, ListOf, Mem, Sym, Symbols};
 use std::alloc::Global;
 

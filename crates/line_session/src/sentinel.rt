@@ -1,13 +1,12 @@
 //! The sentinel of a session.
-ghost use Rattle.std.specs.Prelude.{◌≡◌, unwrap_or, map, IfOk};
+ghost use Rattle.std.specs.Prelude.{◌≡◌, unwrap_or, IfOk};
 ghost use Rattle.std.specs.Option.{option_map};
-ghost use Rattle.editor_model.specs.Arguments.{arg};
 ghost use Rattle.editor_model.specs.Values.{Nil};
 ghost use Rattle.ek_call.specs.Meaning.{view};
 ghost use Rattle.handler_code.specs.Calls.{asked_of};
 ghost use Rattle.line_session.specs.Handlers as handlers;
 ghost use Rattle.line_session.specs.Handlers.{in_turn, nothing, to_the_last, session_sentinel};
-ghost use Rattle.line_session.specs.Replies.{values_of, replies_of, answers_of, process_of, told_of};
+ghost use Rattle.line_session.specs.Replies.{values_of, replies_of, process_of, told_of};
 
 use crate::asking::ascii;
 use crate::output::{stop, to_the_end};
@@ -15,7 +14,7 @@ use crate::replies::{answer, are_answers, has_answers, is_answer};
 use crate::restarting::restart;
 use ek_call::{Primitive, Reply, Value, Values};
 use ek_types::Mem;
-use handler_code::{Next, ask_with, copied};
+use handler_code::{Next, ask_with};
 
 /// What the sentinel does next: it closes the last line, and starts the child again. `command` has the arguments of
 /// the start.

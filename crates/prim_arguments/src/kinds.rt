@@ -1,10 +1,10 @@
 //! The kinds of the arguments of a call.
-ghost use Rattle.std.specs.Prelude.{◌≡◌, ◌<◌, length, IfOk, not};
+ghost use Rattle.std.specs.Prelude.{◌≡◌, ◌<◌, IfOk};
 ghost use Rattle.editor_model.specs.Values.{is_nil};
-ghost use Rattle.editor_model.specs.Arguments.{arg, flag, refuse, is_position, is_buffer};
+ghost use Rattle.editor_model.specs.Arguments.{flag, refuse, is_position, is_buffer};
 ghost use Rattle.editor_model.specs.Arguments.{string_of, symbol_of, marker_number, overlay_number};
 ghost use Rattle.editor_model.specs.Arguments.{must_be_position, must_be_position_or_nil};
-ghost use Rattle.editor_model.specs.Arguments.{must_be_integer, must_be_string, must_be_name};
+ghost use Rattle.editor_model.specs.Arguments.{must_be_string, must_be_name};
 ghost use Rattle.editor_model.specs.Arguments.{must_be_symbol, must_be_buffer};
 ghost use Rattle.editor_model.specs.Arguments.{must_be_buffer_or_nil, must_be_marker};
 ghost use Rattle.editor_model.specs.Arguments.{must_be_overlay};

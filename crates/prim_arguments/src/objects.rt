@@ -1,14 +1,9 @@
 //! The buffers that arguments give.
-ghost use Rattle.std.specs.Prelude.{◌≡◌, ◌+◌, ◌<◌, ◌≤◌, List, length, map, drop, true, Some, IfOk};
+ghost use Rattle.std.specs.Prelude.{◌≡◌, ◌<◌, map, true, Some, IfOk};
 ghost use Rattle.std.specs.Prelude.{IfSome};
-ghost use Rattle.text_model.specs.Characters.{Ch as Character};
 ghost use Rattle.editor_model.specs.Editor.{find, is_live};
-ghost use Rattle.editor_model.specs.Arguments.{buffer_of, buffer_there, must_be_fewer};
-ghost use Rattle.editor_model.specs.Arguments.{must_be_short, must_fit_a_string, must_have_room};
-ghost use Rattle.editor_model.specs.Arguments.{string_of};
+ghost use Rattle.editor_model.specs.Arguments.{buffer_of, buffer_there};
 ghost use Rattle.ek_call.specs.Meaning.{view};
-ghost use Rattle.text_model.specs.Properties.{same_ch};
-ghost use Rattle.ek_types.specs.Seen.{ch_of};
 ghost use Rattle.buffer_table.specs.Kept.{editor_of};
 ghost use Rattle.prim_arguments.specs.Meaning.{fault_in};
 

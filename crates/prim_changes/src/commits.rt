@@ -1,11 +1,10 @@
 //! The commit of a change that was prepared. Hook functions may have run since.
 ghost use Rattle.std.specs.Prelude.{◌≡◌, ◌⊎◌, ◌+◌, ◌≤◌, true, false, [], length, Option, Some};
 ghost use Rattle.std.specs.Prelude.{OnOk, OnErr, IfOk, IfSome};
-ghost use Rattle.text_model.specs.Commit.{replaced};
 ghost use Rattle.editor_model.specs.Editor.{is_live, buffer_at, change_site};
 ghost use Rattle.editor_model.specs.Answers as answers;
 ghost use Rattle.editor_model.specs.Values.{Value as Meant};
-ghost use Rattle.editor_model.specs.Commits.{commit, changed, mark_to, put_site};
+ghost use Rattle.editor_model.specs.Commits.{commit, mark_to, put_site};
 ghost use Rattle.prop_intervals.specs.Edits.{edit_of};
 ghost use Rattle.prop_intervals.specs.Sets.{together};
 ghost use Rattle.buffer_table.specs.Kept.{editor_of};
@@ -17,7 +16,7 @@ use crate::replies::committed;
 use crate::undo_more::plan;
 use buffer_core::are_empty;
 use buffer_table::Editor;
-use ek_call::{Fault, Value};
+use ek_call::Fault;
 use ek_types::{Mem, NoMemory, Piece};
 use prim_arguments::Failure;
 use prim_arguments::kinds::must;

@@ -1,7 +1,6 @@
 //! The calls that change text properties ("Changing Properties" in the GNU Emacs Lisp Reference Manual).
-ghost use Rattle.std.specs.Prelude.{◌≡◌, ◌≤◌, length, IfOk, option_map, map, [], ◌∷◌, None};
+ghost use Rattle.std.specs.Prelude.{◌≡◌, IfOk, option_map, [], ◌∷◌, None};
 ghost use Rattle.text_model.specs.Properties.{Add, Remove, Replace};
-ghost use Rattle.text_model.specs.Commit.{property_records};
 ghost use Rattle.editor_model.specs.Answers.{prepared};
 ghost use Rattle.editor_model.specs.Arguments.{must_be_accessible};
 ghost use Rattle.editor_model.specs.Editor.{here};

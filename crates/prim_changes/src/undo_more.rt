@@ -1,14 +1,12 @@
 //! The call that undoes groups of records ("Undo" in the GNU Emacs Lisp Reference Manual).
-ghost use Rattle.std.specs.Prelude.{◌≡◌, ◌≤◌, ◌&&◌, nat_le, length, IfOk};
-ghost use Rattle.text_model.specs.Undo.{undone};
+ghost use Rattle.std.specs.Prelude.{◌≡◌, ◌≤◌, ◌&&◌, nat_le, IfOk};
 ghost use Rattle.editor_model.specs.Values.{ArgsOutOfRange, Int as number};
-ghost use Rattle.editor_model.specs.Answers.{refuse, first_fault};
+ghost use Rattle.editor_model.specs.Answers.{refuse};
 ghost use Rattle.editor_model.specs.Arguments.{count_of, must_be_integer};
 ghost use Rattle.editor_model.specs.Editor.{buffer_at};
 ghost use Rattle.editor_model.specs.Limits.{most_groups};
 ghost use Rattle.editor_model.specs.UndoCalls as calls;
 ghost use Rattle.ek_call.specs.Meaning.{view};
-ghost use Rattle.undo_list.specs.Plans.{planned};
 ghost use Rattle.buffer_table.specs.Kept.{editor_of};
 ghost use Rattle.prim_arguments.specs.Meaning.{fault_in};
 ghost use Rattle.prim_changes.specs.Meaning.{Prepares};
@@ -18,9 +16,7 @@ use crate::change::{Change, Prepared, What};
 use crate::read_only::must_be_undoable;
 use buffer_table::Editor;
 use ek_call::{Fault, Value};
-use ek_types::NoMemory;
 use prim_arguments::Failure;
-use prim_arguments::kinds::must;
 use undo_list::{Plan, Refused};
 
 /// The most groups that are undone at once.

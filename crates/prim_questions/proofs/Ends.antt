@@ -6,7 +6,7 @@ use Rattle.std.proofs.lemmas.Bool.{lt-ltb, le-ltb, ltb-false, lt-leb, eq-eqb, ne
 use Rattle.std.proofs.lemmas.List.{drop_all}
 use Rattle.text_model.proofs.Lists.{drop_at}
 use Rattle.text_model.specs.Marks.{Overlay, Span}
-use Rattle.text_model.specs.OverlayQuestions.{span_passes, ends_of_span, overlay_ends, least, greatest, next_end, previous_end, lies_within, overlaps, stands_in}
+use Rattle.text_model.specs.OverlayQuestions.{span_passes, overlay_ends, least, greatest, next_end, previous_end, lies_within, overlaps, stands_in}
 use Rattle.editor_model.specs.Editor.{Editor, overlay_of}
 use Rattle.overlay_set.specs.Numbered.{numbers_of, previous_or}
 

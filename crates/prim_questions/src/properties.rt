@@ -1,6 +1,6 @@
 //! The questions on text properties ("Examining Properties" and "Property Search" in the GNU Emacs Lisp Reference
 //! Manual).
-ghost use Rattle.std.specs.Prelude.{◌≡◌, ◌≤◌, length, IfOk, map, option_map, unwrap_or, [], None};
+ghost use Rattle.std.specs.Prelude.{◌≡◌, ◌≤◌, length, IfOk, option_map, unwrap_or, [], None};
 ghost use Rattle.text_model.specs.Properties.{get, part};
 ghost use Rattle.text_model.specs.PropertyQuestions.{first_where, has_value};
 ghost use Rattle.editor_model.specs.Values.{of_prop, of_set, Int as integer};

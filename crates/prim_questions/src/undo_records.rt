@@ -1,5 +1,5 @@
 //! The undo list as it is shown ("Undo" in the GNU Emacs Lisp Reference Manual).
-ghost use Rattle.std.specs.Prelude.{◌≡◌, ◌<◌, [], ◌∷◌, ◌++◌, map, length, IfOk, OnOk, option_map};
+ghost use Rattle.std.specs.Prelude.{◌≡◌, ◌<◌, [], ◌∷◌, map, IfOk, option_map};
 ghost use Rattle.text_model.specs.Undo.{Inserted, Deleted, Prop};
 ghost use Rattle.editor_model.specs.Values.{Dotted, values};
 ghost use Rattle.editor_model.specs.Editor.{here};

@@ -1,7 +1,7 @@
 -- The calls of a session's natives, one by one.
 use Rattle.std.proofs.Common.{◌≡◌, ℕ, List, [], ◌∷◌, refl}
 use Rattle.std.specs.Prelude.{Some, None}
-use Rattle.editor_model.specs.Values.{Value, T, Fault, Reply, Answered, Refused, ProcessBuffer, SetBuffer, PointMax, GotoChar, CharAfter, Insert, StartProcess, ProcessFilter, ProcessSentinel, SetProcessFilter, SetProcessSentinel}
+use Rattle.editor_model.specs.Values.{Value, T, Fault, Answered, Refused, ProcessBuffer, SetBuffer, PointMax, GotoChar, CharAfter, Insert, SetProcessFilter}
 use Rattle.line_session.specs.Handlers.{session_does, before}
 
 module _ (limit : ℕ) (command : List Value) (p text : Value) where

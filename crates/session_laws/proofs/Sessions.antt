@@ -5,7 +5,7 @@ use Rattle.std.specs.Prelude.{Option, Some, None}
 use Rattle.text_model.specs.Characters.{Ch}
 use Rattle.editor_model.specs.Values.{Value, Script}
 use Rattle.editor_model.specs.Limits.{longest_text}
-use Rattle.plain_machine.specs.Exchanges.{Ask, Kill, Answer, Exchange, started_by, children_started}
+use Rattle.plain_machine.specs.Exchanges.{Ask, Kill, Answer, Exchange, started_by}
 use Rattle.plain_machine.specs.Exchanges as heard
 use Rattle.plain_machine.specs.State.{State, Process, Program, Status, Runs, new_state, process}
 use Rattle.plain_machine.specs.Items.{Item, Top, Finish, WriteDump, Said, Config, Next, Step, Goes, Asks, Ended}

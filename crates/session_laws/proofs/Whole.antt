@@ -1,7 +1,7 @@
 -- Whole runs of a session, and runs that were broken off.
-use Rattle.std.proofs.Common.{◌≡◌, ℕ, true, List, [], ◌∷◌, ◌++◌, refl, sym, ap, ◌∙◌, subst, append-nil, append_assoc}
+use Rattle.std.proofs.Common.{◌≡◌, ℕ, List, [], ◌∷◌, ◌++◌, sym, ap, subst, append-nil, append_assoc}
 use Rattle.editor_model.specs.Values.{Value}
-use Rattle.plain_machine.specs.Exchanges.{Ask, Kill, Exchange, living}
+use Rattle.plain_machine.specs.Exchanges.{Exchange, living}
 use Rattle.plain_machine.specs.WholeRuns.{AreKills, Ran, BrokenOff}
 use Rattle.machine_laws.specs.Children.{is_kill}
 use Rattle.line_session.specs.Script.{session_script}

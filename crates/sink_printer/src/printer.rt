@@ -1,5 +1,5 @@
 //! What writes to a sink until a write fails.
-ghost use Rattle.std.specs.Prelude.{◌≡◌, ◌+◌, ◌<◌, ◌≤◌, false, [], ◌∷◌, length};
+ghost use Rattle.std.specs.Prelude.{◌≡◌, ◌<◌, false, [], ◌∷◌};
 ghost use Rattle.ek_types.specs.Io.{Continues};
 ghost use Rattle.sink_printer.specs.Outcomes.{outcome};
 ghost use Rattle.sink_printer.specs.Printing.{Prints, Finishes};

@@ -1,12 +1,12 @@
 -- How far claimed bytes agree with those given, as more is given.
-use Rattle.std.proofs.Common.{◌≡◌, ℕ, suc, ◌+◌, ◌-◌, ◌^◌, ◌<◌, ◌≤◌, Bool, true, false, List, [], ◌∷◌, ◌++◌, length, get_or, refl, ap, sym, ◌∙◌, arith, inl, inr, length-append, append_assoc, append-nil, take, drop}
-use Rattle.std.specs.Prelude.{◌⊎◌, nat_lt, Some}
+use Rattle.std.proofs.Common.{◌≡◌, ℕ, ◌+◌, ◌-◌, ◌^◌, ◌<◌, ◌≤◌, Bool, true, false, List, [], ◌∷◌, ◌++◌, length, get_or, refl, ap, sym, ◌∙◌, arith, inl, inr, length-append, append_assoc, append-nil, take, drop}
+use Rattle.std.specs.Prelude.{◌⊎◌, Some}
 use Rattle.ek_types.specs.Io.{SinkState}
 use Rattle.std.proofs.lemmas.Bool.{ltb-true, ltb-false, lt-ltb, le-ltb}
 use Rattle.std.proofs.lemmas.List.{take_at, drop_at}
 use Rattle.plain_machine.specs.Grammar.{line_feeds}
 use Rattle.trace_check.specs.Comparing.{common, comparing_state, Compared, Agrees, DiffersAt}
-use Rattle.trace_check.proofs.CommonFronts.{common_nil, no_longer, stays_behind, stays_there, grows, one_feed, no_feed, feeds_few, all_met, all_same, they_differ}
+use Rattle.trace_check.proofs.CommonFronts.{common_nil, no_longer, stays_behind, stays_there, grows, feeds_few, all_met, all_same, they_differ}
 
 abbrev pub compared : (claimed given : List ℕ) → Compared
 compared claimed given = record { claimed = claimed; given = given }

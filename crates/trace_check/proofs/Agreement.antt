@@ -1,5 +1,5 @@
 -- Asks that agree are the same, and what an item comes to that asks.
-use Rattle.std.proofs.Common.{◌≡◌, ℕ, Bool, true, false, List, [], ◌∷◌, Result, Ok, Err, refl, ap, ◌∙◌, sym, inl, inr}
+use Rattle.std.proofs.Common.{◌≡◌, ℕ, Bool, true, false, List, Result, Ok, Err, refl, ap, ◌∙◌, inl, inr}
 use Rattle.std.specs.Prelude.{◌⊎◌, Option, Some, None, ◌==◌}
 use Rattle.std.proofs.KnownBytes.{Appends-nil}
 use Rattle.std.proofs.lemmas.Bool.{and_parts, eqb-true}
@@ -16,7 +16,7 @@ use Rattle.kernel_steps.specs.Work.{working}
 use Rattle.kernel_steps.specs.Worlds.{Stands}
 use Rattle.trace_check.specs.Answers.{TakesUp}
 use Rattle.trace_check.specs.Questions.{Misses}
-use Rattle.trace_check.specs.Steps.{Unheard, IsAsking, IsOff}
+use Rattle.trace_check.specs.Steps.{Unheard}
 use Rattle.trace_check.specs.declared.turn.Done.{Done}
 use Rattle.trace_check.specs.declared.turn.Done.TheVariants as done
 

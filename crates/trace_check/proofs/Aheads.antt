@@ -1,14 +1,12 @@
 -- What a wait comes to next, as the code finds it.
-use Rattle.std.proofs.Common.{◌≡◌, ℕ, zero, suc, ◌+◌, ◌-◌, Bool, true, false, List, [], ◌∷◌, length, take, drop, slice_get, Option, Some, None, refl, ap, sym, ◌∙◌}
-use Rattle.std.specs.List.{position}
+use Rattle.std.proofs.Common.{◌≡◌, ℕ, suc, Bool, true, false, List, [], ◌∷◌, drop, slice_get, Some, None, refl, ap, sym, ◌∙◌}
 use Rattle.std.proofs.lemmas.Option.{same_Some}
 use Rattle.plain_machine.specs.State.{State}
 use Rattle.plain_machine.specs.Items.{Waiting}
-use Rattle.plain_machine.specs.Waits.{is_eligible, eligible, from_eligible, target_is_eligible}
+use Rattle.plain_machine.specs.Waits.{eligible, from_eligible, target_is_eligible}
 use Rattle.wait_loop.specs.KeptWaits.{new_waiting}
 use Rattle.wait_loop.specs.Rounds.{Takes}
 use Rattle.wait_loop.proofs.StepLemmas.{Alike, eligible_alike, target_alike, later_alike}
-use Rattle.trace_check.specs.declared.waiting.Ahead.{Ahead}
 use Rattle.trace_check.specs.declared.waiting.Ahead.TheVariants as ahead
 use Rattle.trace_check.specs.Waits.{ahead_case, ahead_of, without_first}
 

@@ -1,16 +1,16 @@
 -- Calls that ask a child: what the machine asks, and what it comes to by each answer.
 use Rattle.std.proofs.Common.{◌≡◌, ℕ, ◌+◌, ◌≤◌, Bool, slice_get, true, false, List, [], ◌∷◌, map, length, refl, ap, sym, ◌∙◌}
-use Rattle.std.specs.Prelude.{Option, Some, None, drop, not, ◌==◌, ◌||◌}
+use Rattle.std.specs.Prelude.{Some, None, drop, not, ◌==◌, ◌||◌}
 use Rattle.std.specs.List.{list_any}
 use Rattle.std.proofs.lemmas.Bool.{eq-eqb, ne_eqb}
 use Rattle.std.proofs.lemmas.List.{drop_all, length-map}
 use Rattle.text_model.proofs.Lists.{drop_at}
-use Rattle.editor_model.specs.Values.{Value, Nil, TheProcess, StartProcess, ProcessSendString, ProcessSendEof, BrokenPipe, SpawnFailed}
-use Rattle.editor_model.specs.Arguments.{arg, string_of}
-use Rattle.plain_machine.specs.Arguments.{child_of, encoded, is_closed, process_of}
-use Rattle.plain_machine.specs.Exchanges.{Ask, Spawn, Send, Close, Answer, Started, Sent, Broken, Closed, Refused}
-use Rattle.plain_machine.specs.State.{State, Program, Process, process, change_process}
-use Rattle.plain_machine.specs.Items.{Item, MakeCall, GiveAnswer, Refuse, Target, Next, Step, Asks}
+use Rattle.editor_model.specs.Values.{Value, Nil, TheProcess, StartProcess, ProcessSendString, ProcessSendEof}
+use Rattle.editor_model.specs.Arguments.{arg}
+use Rattle.plain_machine.specs.Arguments.{child_of, is_closed, process_of}
+use Rattle.plain_machine.specs.Exchanges.{Spawn, Send, Close, Started, Sent, Broken, Closed, Refused}
+use Rattle.plain_machine.specs.State.{State, Program, Process, change_process}
+use Rattle.plain_machine.specs.Items.{Item, MakeCall, GiveAnswer, Target, Asks}
 use Rattle.plain_machine.specs.Calls.{on, silent, send, sent_answer, send_eof, closed_answer, with_input_closed, spawned, spawned_child, started, is_new_child}
 use Rattle.plain_machine.specs.Step.{step}
 use Rattle.process_table.specs.Table.{kept}
@@ -19,7 +19,7 @@ use Rattle.plain_machine.specs.Waits.{asked_more}
 use Rattle.kernel_steps.specs.Processes.{bytes_of, words_of, counted}
 use Rattle.kernel_steps.specs.Waits.{Passes}
 use Rattle.kernel_steps.specs.Work.{working}
-use Rattle.kernel_steps.specs.Worlds.{Stands, kept_state}
+use Rattle.kernel_steps.specs.Worlds.{Stands}
 use Rattle.kernel_steps.proofs.KeptProcesses.{process_alike, child_kept, closed_kept}
 use Rattle.kernel_steps.proofs.Hosting.{changed_kept, input_mild}
 use Rattle.kernel_steps.proofs.Launching.{started_kept}

@@ -19,7 +19,7 @@ use Rattle.kernel_steps.specs.Outside.{deepest}
 use Rattle.kernel_steps.specs.Processes.{IsSilent, set_by, told_by}
 use Rattle.kernel_steps.specs.Waits.{Passes, refusal_of, waiting_of, killed_by}
 use Rattle.kernel_steps.specs.Work.{working, reply_item}
-use Rattle.kernel_steps.specs.Worlds.{Stands, kept_state}
+use Rattle.kernel_steps.specs.Worlds.{Stands}
 use Rattle.kernel_steps.proofs.KeptProcesses.{tests_alike, process_alike, running_in_alike, waiting_alike}
 use Rattle.kernel_steps.proofs.Silently.{silent_step, set_by_kept, told_by_kept}
 use Rattle.trace_check.specs.Steps.{Quietly}

@@ -8,7 +8,7 @@ use Rattle.plain_machine.specs.Exchanges.{Exchange, Kill, Answer, Bytes, Nothing
 use Rattle.plain_machine.specs.State.{State, Program, Process, Status, Runs, Exited, Signalled, Lost, process}
 use Rattle.plain_machine.specs.Arguments.{is_running, runs}
 use Rattle.plain_machine.specs.Lines.{KilledLast, line}
-use Rattle.plain_machine.specs.Items.{Item, Delete, Finish, WriteDump, Next, Step, Asks}
+use Rattle.plain_machine.specs.Items.{Item, Delete, Finish, WriteDump, Next, Asks}
 use Rattle.plain_machine.specs.Calls.{on, silent}
 use Rattle.plain_machine.specs.Forms.{says}
 use Rattle.plain_machine.specs.Step.{step}
@@ -28,7 +28,7 @@ use Rattle.trace_check.specs.Steps.{Comes, Quietly}
 use Rattle.trace_check.specs.declared.turn.Done.TheVariants as done
 use Rattle.trace_check.proofs.Agreement.{ask_equal}
 use Rattle.trace_check.proofs.Quiet.{stays_put}
-use Rattle.trace_check.proofs.WaitItems.{Knows, known_process}
+use Rattle.trace_check.proofs.WaitItems.{known_process}
 
 -- ANSWERS
 pub kill_taken : (next : Next) (answer : Answer) → may_kill answer ≡ true → kill_answer next answer ≡ Some next

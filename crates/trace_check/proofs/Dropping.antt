@@ -7,7 +7,6 @@ use Rattle.plain_machine.specs.Items.{Item, Top, Called, Native, Exit, Leave, Co
 use Rattle.plain_machine.specs.Forms.{dropped, popped, restored}
 use Rattle.editor_model.specs.Answers.{Change}
 use Rattle.kernel_steps.specs.Work.{working}
-use Rattle.kernel_steps.specs.Worlds.{Stands}
 use Rattle.kernel_steps.proofs.KeptStates.{restored_apart}
 use Rattle.std.specs.Prelude.{Bool, true, Option}
 use Rattle.trace_check.specs.declared.item.Item.{Item as Piece}

@@ -1,5 +1,5 @@
 -- How handlers are entered and left.
-use Rattle.std.proofs.Common.{◌≡◌, ℕ, ◌+◌, ◌-◌, List, [], ◌∷◌, Ok, refl, ap, sym, ◌∙◌, subst}
+use Rattle.std.proofs.Common.{◌≡◌, ℕ, ◌-◌, List, [], ◌∷◌, Ok, refl, ap, sym, ◌∙◌, subst}
 use Rattle.std.specs.Prelude.{Option, Some, None, option_map, Bool, false}
 use Rattle.std.specs.Io.KnownBytes.{Appends}
 use Rattle.editor_model.specs.Values.{Value, HandlerDef, Forms}

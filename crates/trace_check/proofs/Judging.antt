@@ -1,6 +1,6 @@
 -- How far a run comes on a journal, step by step, and the verdict where it stops.
-use Rattle.std.proofs.Common.{◌≡◌, ℕ, zero, suc, ◌+◌, ◌-◌, ◌<◌, ◌≤◌, ◌^◌, Bool, true, false, List, [], ◌∷◌, ◌++◌, length, take, filter, inl, inr, refl, sym, ap, subst, ◌∙◌, arith, append-nil}
-use Rattle.std.specs.Prelude.{◌⊎◌, Option, Some, None, Ok, ◌&&◌, ◌==◌, nat_lt, nat_le, slice_get}
+use Rattle.std.proofs.Common.{◌≡◌, ℕ, zero, suc, ◌+◌, ◌-◌, ◌<◌, ◌≤◌, Bool, true, false, List, [], ◌∷◌, ◌++◌, length, take, inl, inr, refl, sym, ap, subst, ◌∙◌, arith, append-nil}
+use Rattle.std.specs.Prelude.{◌⊎◌, Option, Some, None, Ok, ◌==◌, nat_le, slice_get}
 use Rattle.std.proofs.lemmas.Bool.{eq-eqb, leb-true, leb-false}
 use Rattle.std.proofs.lemmas.List.{take_all}
 use Rattle.text_model.specs.Properties.{same_list}
@@ -21,7 +21,7 @@ use Rattle.kernel_steps.proofs.Journeys.{lines_then}
 use Rattle.trace_check.specs.Comparing.{Compared, comparing_state, DiffersAt}
 use Rattle.trace_check.specs.Steps.{IsAsking, IsOff}
 use Rattle.trace_check.specs.Turns.{Seen, Turns, Uses as UsesMade}
-use Rattle.trace_check.specs.Runs.{IsWhole, GoesThrough, Strays}
+use Rattle.trace_check.specs.Runs.{IsWhole, GoesThrough}
 use Rattle.trace_check.specs.Verdicts.{HasCome, IsVerdict}
 use Rattle.trace_check.specs.declared.checking.Verdict.TheVariants as verdict
 use Rattle.trace_check.proofs.Agreeing.{Kept, kept}

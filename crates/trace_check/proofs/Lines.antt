@@ -1,20 +1,19 @@
 -- Steps that say a line.
-use Rattle.std.proofs.Common.{◌≡◌, ℕ, List, [], ◌∷◌, ◌++◌, Result, Ok, refl, ap, sym, ◌∙◌, subst}
+use Rattle.std.proofs.Common.{◌≡◌, ℕ, List, [], ◌∷◌, Ok, refl, ap, sym, ◌∙◌, subst}
 use Rattle.std.specs.Io.KnownBytes.{Appends}
 use Rattle.editor_model.specs.Values.{Value, Reply, Answered, Refused, Fault}
 use Rattle.plain_machine.specs.State.{State, Program}
 use Rattle.plain_machine.specs.Lines.{Event, Replied, Dumped, line}
 use Rattle.plain_machine.specs.Items.{Item, Config, GiveAnswer, Refuse, WriteDump, Target, Nowhere, ToName, ToNative, Goes}
-use Rattle.plain_machine.specs.Forms.{says, assigned, dropped, kept_reply, refused}
+use Rattle.plain_machine.specs.Forms.{says, assigned, kept_reply, refused}
 use Rattle.plain_machine.specs.Step.{step}
-use Rattle.plain_machine.specs.Run.{lines}
 use Rattle.ek_types.specs.Io.{SinkState, Writes}
 use Rattle.kernel_steps.specs.Outside.{deepest}
 use Rattle.kernel_steps.specs.Work.{working}
 use Rattle.kernel_steps.specs.Worlds.{Stands, kept_state}
 use Rattle.kernel_steps.proofs.Journeys.{lines_of_one}
 use Rattle.kernel_steps.proofs.KeptStates.{reply_kept, dump_kept, assigned_apart}
-use Rattle.trace_check.specs.Steps.{Aloud, Drops, Sheds}
+use Rattle.trace_check.specs.Steps.{Aloud, Drops}
 use Rattle.trace_check.specs.Replies.{HandsOn}
 
 -- the line of a reply is the machine's

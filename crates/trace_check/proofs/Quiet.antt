@@ -1,5 +1,5 @@
 -- Steps that ask and say nothing.
-use Rattle.std.proofs.Common.{◌≡◌, List, ◌∷◌, refl, ap, ◌∙◌}
+use Rattle.std.proofs.Common.{◌≡◌, List, refl, ap, ◌∙◌}
 use Rattle.std.proofs.KnownBytes.{Appends-nil}
 use Rattle.plain_machine.specs.State.{State, Program}
 use Rattle.plain_machine.specs.Items.{Item}

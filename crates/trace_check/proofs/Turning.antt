@@ -1,5 +1,5 @@
 -- What an item comes to by what its function came to, and the turn of the machine.
-use Rattle.std.proofs.Common.{◌≡◌, ℕ, zero, suc, ◌+◌, ◌≤◌, List, [], ◌∷◌, length, Result, Ok, Err, refl, ap, sym, ◌∙◌, arith}
+use Rattle.std.proofs.Common.{◌≡◌, ℕ, zero, suc, ◌+◌, ◌≤◌, List, [], ◌∷◌, length, Result, Ok, Err, refl, ap, ◌∙◌, arith}
 use Rattle.std.specs.Prelude.{Option, Some, None, OnOk, slice_get}
 use Rattle.editor_model.specs.Values.{Value, Prim, Fault}
 use Rattle.editor_model.specs.Prims.{ConcernsHandlers, manner_of}

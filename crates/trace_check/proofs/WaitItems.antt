@@ -3,14 +3,14 @@ use Rattle.std.proofs.Common.{◌≡◌, ℕ, zero, suc, ◌-◌, ◌<◌, Bool,
 use Rattle.std.specs.Prelude.{Option, Some, None, option_map, slice_get, nat_le, nat_lt, ◌&&◌}
 use Rattle.std.specs.List.{list_all}
 use Rattle.std.proofs.lemmas.Option.{slice_get-map}
-use Rattle.editor_model.specs.Values.{T, Nil, ExchangesSpent, truth}
+use Rattle.editor_model.specs.Values.{ExchangesSpent, truth}
 use Rattle.plain_machine.specs.Exchanges.{Ask, Answer, Bytes, Nothing, End, Code, Signal, Running, Started, Refused, Sent, Broken, Closed, Killed, Failed}
 use Rattle.plain_machine.specs.State.{State, Program, Process, process}
 use Rattle.plain_machine.specs.Items.{Item, Wait, GiveAnswer, Refuse, Target, Waiting, Next, Step, Asks}
 use Rattle.plain_machine.specs.Calls.{on, silent}
 use Rattle.plain_machine.specs.Refusals.{may_ask}
 use Rattle.plain_machine.specs.Step.{step}
-use Rattle.plain_machine.specs.Waits.{ask_if, ask_next, ask_process, eligible, from_eligible, hear, is_eligible, target_is_eligible, wait, wait_case}
+use Rattle.plain_machine.specs.Waits.{ask_if, ask_next, ask_process, eligible, from_eligible, hear, is_eligible, target_is_eligible, wait_case}
 use Rattle.process_table.specs.Table.{kept, with_table}
 use Rattle.wait_loop.specs.KeptWaits.{noted}
 use Rattle.wait_loop.proofs.EligibleLemmas.{first_left_is_eligible}
@@ -18,13 +18,12 @@ use Rattle.wait_loop.proofs.StepLemmas.{Alike, eligible_alike, eligible_is_made,
 use Rattle.kernel_steps.specs.Outside.{deepest}
 use Rattle.kernel_steps.specs.Waits.{entering, truth_of}
 use Rattle.kernel_steps.specs.Work.{working}
-use Rattle.kernel_steps.specs.Worlds.{Stands, kept_state}
+use Rattle.kernel_steps.specs.Worlds.{Stands}
 use Rattle.kernel_steps.specs.declared.kernel.Heard.{Heard}
-use Rattle.trace_check.specs.Answers.{HearsAnswer, Hears, may_end, may_hear, may_read, next_by}
+use Rattle.trace_check.specs.Answers.{HearsAnswer, Hears, may_hear, next_by}
 use Rattle.trace_check.specs.Questions.{asked_about}
 use Rattle.trace_check.specs.Steps.{Quietly}
 use Rattle.trace_check.specs.Waits.{ahead_case, ahead_of, in_next_round, without_first}
-use Rattle.trace_check.specs.declared.waiting.Ahead.{Ahead}
 use Rattle.trace_check.specs.declared.waiting.Ahead.TheVariants as ahead
 use Rattle.trace_check.proofs.Quiet.{stays_put}
 

@@ -1,19 +1,15 @@
 -- Answers of children, taken up in front of other work.
 pub use Rattle.kernel_steps.specs.Answers.{may_read, may_end, may_hear, IsAllowed, next_by, HeardIn}
 pub use Rattle.kernel_steps.specs.Answers.{HearsAnswer, KilledIn, IsKilled}
-use Rattle.std.specs.Prelude.{◌≡◌, ℕ, ◌∷◌, ◌&&◌, nat_le, Bool, true, false, List, length, codes, Option}
+use Rattle.std.specs.Prelude.{◌≡◌, ℕ, Bool, true, false, List, codes, Option}
 use Rattle.std.specs.Prelude.{Some, None, Result, Ok, Err}
-use Rattle.plain_machine.specs.Exchanges.{Answer, Bytes, Nothing, End, Code, Signal, Running, Killed, Failed}
+use Rattle.plain_machine.specs.Exchanges.{Answer, Killed, Failed}
 use Rattle.plain_machine.specs.State.{State, Process, Signalled, process}
-use Rattle.plain_machine.specs.Items.{Item, Wait, Target, Waiting, Next}
+use Rattle.plain_machine.specs.Items.{Item, Target, Waiting, Next}
 use Rattle.plain_machine.specs.Calls.{silent}
-use Rattle.plain_machine.specs.Waits.{read_answer, end_answer, ends}
+use Rattle.plain_machine.specs.Waits.{ends}
 use Rattle.process_table.specs.Table.{with_table}
-use Rattle.wait_loop.specs.KeptWaits.{noted}
 use Rattle.kernel_steps.specs.Worlds.{Stands}
-use Rattle.kernel_steps.specs.Waits.{entering, entry_item}
-use Rattle.kernel_steps.specs.declared.kernel.Entry.{Entry}
-use Rattle.kernel_steps.specs.declared.kernel.Heard.{Heard}
 use Rattle.trace_check.specs.Waits.{without_first}
 use Rattle.trace_check.specs.declared.turn.Done.{Done}
 use Rattle.trace_check.specs.declared.turn.Done.TheVariants as done

@@ -1,5 +1,5 @@
 //! A buffer with its pool.
-ghost use Rattle.std.specs.Prelude.{◌≡◌, ◌<◌, length};
+ghost use Rattle.std.specs.Prelude.{◌<◌, length};
 
 use crate::checking::{at_most, below};
 use buffer_core::{Buffer, Marks};

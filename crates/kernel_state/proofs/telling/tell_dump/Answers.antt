@@ -1,9 +1,5 @@
-use Rattle.std.specs.Prelude.{◌-◌, map, option_map}
-use Rattle.std.proofs.Common.{subst}
-use Rattle.plain_machine.specs.Lines.{Replied, Entered, Left, KilledLast, Dumped}
-use Rattle.ek_types.specs.Listing.{items_of}
-use Rattle.ek_types.specs.Property.{number_of}
-use Rattle.ek_call.specs.Meaning.{view, reply_of}
+use Rattle.std.specs.Prelude.{◌-◌}
+use Rattle.plain_machine.specs.Lines.{Dumped}
 use Rattle.kernel_state.specs.Meaning.{state_of}
 use Rattle.kernel_state.proofs.Spoken.{by_symbols}
 use Rattle.kernel_state.proofs.telling.tell_dump.Goals as goal

@@ -1,4 +1,4 @@
-use Rattle.std.specs.Prelude.{◌≡◌, ◌-◌, ℕ, map, option_map}
+use Rattle.std.specs.Prelude.{◌≡◌, ◌-◌, ℕ, option_map}
 use Rattle.std.proofs.Common.{subst, arith}
 use Rattle.plain_machine.specs.Lines.{Left, line}
 use Rattle.ek_types.specs.Io.{Writes}

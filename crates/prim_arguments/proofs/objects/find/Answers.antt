@@ -1,4 +1,4 @@
-use Rattle.std.proofs.Common.{◌≡◌, map, ap, ◌∙◌}
+use Rattle.std.proofs.Common.{ap, ◌∙◌}
 use Rattle.editor_model.specs.Editor.{find}
 use Rattle.buffer_table.specs.Kept.{editor_of}
 use Rattle.prim_arguments.proofs.Found.{found_lives}

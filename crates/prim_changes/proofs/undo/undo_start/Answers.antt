@@ -5,7 +5,7 @@ use Rattle.text_model.specs.Commit.{Buffer}
 use Rattle.undo_list.specs.declared.plan.Refused.{Refused}
 use Rattle.undo_list.specs.declared.plan.Refused.TheVariants as refused
 use Rattle.editor_model.specs.Values as model
-use Rattle.editor_model.specs.Editor.{Editor, buffer_at, change_buffer}
+use Rattle.editor_model.specs.Editor.{buffer_at, change_buffer}
 use Rattle.editor_model.specs.Answers.{Applied, applied_of, refuse, first_fault}
 use Rattle.editor_model.specs.UndoCalls.{with_undo}
 use Rattle.buffer_table.specs.Kept.{editor_of}

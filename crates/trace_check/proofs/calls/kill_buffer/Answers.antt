@@ -1,9 +1,9 @@
-use Rattle.std.proofs.Common.{◌≡◌, ◌+◌, ◌-◌, ◌∷◌, ◌++◌, map, drop, length, ap, sym, ◌∙◌, arith}
+use Rattle.std.proofs.Common.{◌≡◌, ◌+◌, ◌-◌, ◌∷◌, ◌++◌, map, drop, length, ap, ◌∙◌, arith}
 use Rattle.plain_machine.specs.Items.{Delete, KillBuffer as KillsBuffer}
 use Rattle.ek_types.specs.Listing.{items_of}
 use Rattle.ek_call.specs.Meaning.{view}
 use Rattle.trace_check.specs.Meaning.{list_of, target_of}
-use Rattle.trace_check.proofs.CallItems.{deletes_more, deletes_none, kills_put}
+use Rattle.trace_check.proofs.CallItems.{kills_put}
 use Rattle.trace_check.proofs.calls.kill_buffer.Goals as goal
 
 pub returns : goal.returns

@@ -1,9 +1,8 @@
-use Rattle.std.proofs.Common.{◌≡◌, ◌∷◌, ap, ◌∙◌, sym}
-use Rattle.editor_model.specs.Answers.{Done, Failed}
+use Rattle.std.proofs.Common.{ap, ◌∙◌}
+use Rattle.editor_model.specs.Answers.{Done}
 use Rattle.plain_machine.specs.Lines.{OfAfter}
 use Rattle.ek_call.specs.Faults.{fault_of}
 use Rattle.prim_changes.specs.Meaning.{change_of}
-use Rattle.kernel_steps.specs.Changes.{behind_commit}
 use Rattle.kernel_steps.specs.Handlers.{around}
 use Rattle.trace_check.specs.Meaning.{list_of}
 use Rattle.trace_check.proofs.ChangeItems.{commit_done, commit_fails}

@@ -1,6 +1,5 @@
-use Rattle.std.proofs.Common.{◌≡◌, ◌∷◌, ap, ◌∙◌, sym}
+use Rattle.std.proofs.Common.{ap, ◌∙◌}
 use Rattle.plain_machine.specs.Lines.{OfBefore}
-use Rattle.plain_machine.specs.Items.{CommitChange}
 use Rattle.prim_changes.specs.Meaning.{change_of}
 use Rattle.kernel_steps.specs.Changes.{ends_of}
 use Rattle.kernel_steps.specs.Handlers.{around}

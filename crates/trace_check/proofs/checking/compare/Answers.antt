@@ -1,4 +1,4 @@
-use Rattle.std.proofs.Common.{◌≡◌, ◌-◌, ◌<◌, ◌≤◌, ◌^◌, [], length, append-nil, refl, sym, ap, subst, ◌∙◌, arith}
+use Rattle.std.proofs.Common.{◌≡◌, ◌-◌, ◌≤◌, [], length, append-nil, refl, sym, ap, subst, ◌∙◌, arith}
 use Rattle.plain_machine.specs.State.{new_state}
 use Rattle.plain_machine.specs.Run.{start}
 use Rattle.host_link.specs.Meaning.{exchanges_of}

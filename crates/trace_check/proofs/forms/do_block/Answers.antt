@@ -1,6 +1,5 @@
-use Rattle.std.proofs.Common.{◌∷◌, map, ap, sym, ◌∙◌}
+use Rattle.std.proofs.Common.{◌∷◌, map, ap, ◌∙◌}
 use Rattle.plain_machine.specs.Items.{Body, Leave}
-use Rattle.plain_machine.specs.Forms.{kept_of}
 use Rattle.ek_types.specs.Listing.{items_of}
 use Rattle.ek_call.specs.Meaning.{form_of, joined}
 use Rattle.kernel_steps.specs.Blocks.{block_of}

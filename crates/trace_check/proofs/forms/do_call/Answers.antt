@@ -1,9 +1,6 @@
-use Rattle.std.proofs.Common.{◌∷◌, map, ap, sym, ◌∙◌}
-use Rattle.editor_model.specs.Values.{VoidVariable}
-use Rattle.plain_machine.specs.Items.{MakeCall, Refuse}
+use Rattle.std.proofs.Common.{map, sym}
 use Rattle.ek_types.specs.Listing.{items_of}
 use Rattle.ek_call.specs.Meaning.{call_of, view}
-use Rattle.ek_call.specs.Primitives.{prim_of}
 use Rattle.trace_check.specs.Meaning.{list_of}
 use Rattle.trace_check.proofs.FormItems.{call_put, call_void}
 use Rattle.trace_check.proofs.Listing.{once_put}

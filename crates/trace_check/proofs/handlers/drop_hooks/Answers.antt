@@ -1,7 +1,5 @@
 use Rattle.std.proofs.Common.{ap, sym, ◌∙◌}
 use Rattle.plain_machine.specs.Handling.{without_hooks_item}
-use Rattle.trace_check.specs.Meaning.{list_of}
-use Rattle.trace_check.proofs.Fronts.{others_stay}
 use Rattle.trace_check.proofs.handlers.drop_hooks.Goals as goal
 
 pub returns-in-None : goal.returns-in-None

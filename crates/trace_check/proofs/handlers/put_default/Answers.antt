@@ -1,7 +1,6 @@
 use Rattle.std.proofs.Common.{refl, map, ap}
 use Rattle.ek_types.specs.Listing.{items_of}
 use Rattle.ek_call.specs.Meaning.{view}
-use Rattle.prim_changes.specs.Meaning.{prepared_of}
 use Rattle.kernel_steps.specs.Handlers.{kind_of}
 use Rattle.kernel_steps.specs.Work.{working}
 use Rattle.trace_check.specs.Meaning.{list_of}

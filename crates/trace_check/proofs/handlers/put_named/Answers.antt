@@ -1,4 +1,4 @@
-use Rattle.std.proofs.Common.{[], ◌∷◌, map, ap, ◌∙◌}
+use Rattle.std.proofs.Common.{◌∷◌, map, ap, ◌∙◌}
 use Rattle.plain_machine.specs.Items.{Body, Native}
 use Rattle.ek_types.specs.Listing.{items_of}
 use Rattle.ek_call.specs.Meaning.{form_of, joined, reply_of, view}

@@ -1,4 +1,4 @@
-use Rattle.std.proofs.Common.{◌∷◌, map, sym, ap, ◌∙◌}
+use Rattle.std.proofs.Common.{◌∷◌, map, sym}
 use Rattle.std.specs.Prelude.{option_map}
 use Rattle.plain_machine.specs.Items.{MakeCall}
 use Rattle.ek_types.specs.Listing.{items_of}

@@ -1,4 +1,4 @@
-use Rattle.std.proofs.Common.{◌∷◌, map, sym, ap, ◌∙◌}
+use Rattle.std.proofs.Common.{◌∷◌, map}
 use Rattle.std.specs.Prelude.{option_map}
 use Rattle.editor_model.specs.Values.{AcceptProcessOutput, DeleteProcess, KillBuffer}
 use Rattle.plain_machine.specs.Items.{MakeCall}

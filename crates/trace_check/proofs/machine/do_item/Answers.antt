@@ -1,4 +1,4 @@
-use Rattle.std.proofs.Common.{◌∷◌, refl}
+use Rattle.std.proofs.Common.{◌∷◌}
 use Rattle.std.specs.Prelude.{option_map}
 use Rattle.host_link.specs.Meaning.{exchange_of}
 use Rattle.trace_check.specs.Meaning.{item_of, list_of}

@@ -1,6 +1,5 @@
-use Rattle.std.proofs.Common.{◌≡◌, length, ap, sym, ◌∙◌, subst, arith}
-use Rattle.std.specs.Prelude.{not}
-use Rattle.trace_check.proofs.Asking.{child_there, child_elsewhere, child_nowhere}
+use Rattle.std.proofs.Common.{sym, ◌∙◌}
+use Rattle.trace_check.proofs.Asking.{child_there, child_elsewhere}
 use Rattle.trace_check.proofs.processes.is_new.Goals as goal
 
 pub returns-then-child : goal.returns-then-child

@@ -1,23 +1,22 @@
-use Rattle.std.proofs.Common.{◌≡◌, ◌∷◌, [], map, length, ap, sym, ◌∙◌, refl, subst, true, false, slice_get, inl, inr, arith}
-use Rattle.std.specs.Prelude.{Some, None, option_map, string_bytes, Option}
-use Rattle.editor_model.specs.Values.{StartProcess, ProcessSendString, ProcessSendEof}
+use Rattle.std.proofs.Common.{◌≡◌, ◌∷◌, map, length, ap, sym, ◌∙◌, subst, true, false, slice_get, arith}
+use Rattle.std.specs.Prelude.{Some, option_map, Option}
+use Rattle.editor_model.specs.Values.{ProcessSendEof}
 use Rattle.editor_model.specs.Arguments.{arg}
 use Rattle.plain_machine.specs.Arguments.{child_of, is_closed, process_of}
 use Rattle.plain_machine.specs.Calls.{on, closed_answer}
-use Rattle.plain_machine.specs.Exchanges.{Answer, Spawn, Send, Close}
+use Rattle.plain_machine.specs.Exchanges.{Answer, Close}
 use Rattle.plain_machine.specs.State.{State}
 use Rattle.plain_machine.specs.Items.{MakeCall, GiveAnswer, Next}
 use Rattle.ek_types.specs.Listing.{items_of}
 use Rattle.ek_call.specs.Meaning.{view}
-use Rattle.host_link.specs.Meaning.{answer_of, exchange_of}
-use Rattle.kernel_steps.specs.Processes.{bytes_of, words_of}
-use Rattle.kernel_steps.proofs.Passing.{child_found, closed_found, closes_may, closes_of, nothing_there, running_within, sends_few, sends_may, sends_to, something_there}
-use Rattle.kernel_steps.proofs.Shapes.{nil_is, process_is}
+use Rattle.host_link.specs.Meaning.{exchange_of}
+use Rattle.kernel_steps.proofs.Passing.{child_found, closed_found, closes_may, closes_of, running_within}
+use Rattle.kernel_steps.proofs.Shapes.{process_is}
 use Rattle.trace_check.specs.Answers.{TakesUp}
 use Rattle.trace_check.specs.Meaning.{list_of, target_of}
 use Rattle.trace_check.specs.Questions.{Meets}
 use Rattle.trace_check.proofs.Agreement.{comes_unmet, comes_taken}
-use Rattle.trace_check.proofs.Asking.{start_asks, send_asks, send_nothing, close_asks, close_nothing}
+use Rattle.trace_check.proofs.Asking.{close_asks, close_nothing}
 use Rattle.trace_check.proofs.Quiet.{stays_put}
 use Rattle.trace_check.proofs.processes.send_eof.Goals as goal
 

@@ -1,9 +1,6 @@
-use Rattle.std.proofs.Common.{◌≡◌, ◌∷◌, map, ap, sym, ◌∙◌, refl, length}
-use Rattle.std.specs.Prelude.{Some}
+use Rattle.std.proofs.Common.{◌∷◌, map, ap, sym, ◌∙◌, refl}
 use Rattle.editor_model.specs.Arguments.{arg}
-use Rattle.plain_machine.specs.Calls.{silent, started, is_new_child}
 use Rattle.plain_machine.specs.Items.{GiveAnswer}
-use Rattle.plain_machine.specs.State.{State}
 use Rattle.ek_types.specs.Listing.{items_of}
 use Rattle.ek_call.specs.Meaning.{view}
 use Rattle.kernel_steps.proofs.Shapes.{process_is}

@@ -1,4 +1,4 @@
-use Rattle.std.proofs.Common.{◌≡◌, ◌∷◌, ap, sym, ◌∙◌, refl}
+use Rattle.std.proofs.Common.{◌∷◌, ap, ◌∙◌, refl}
 use Rattle.plain_machine.specs.Items.{GiveAnswer}
 use Rattle.kernel_steps.proofs.Shapes.{process_is}
 use Rattle.trace_check.specs.Meaning.{list_of, target_of}

@@ -1,9 +1,7 @@
-use Rattle.std.proofs.Common.{◌≡◌, ◌∷◌, map, ap, sym, ◌∙◌, refl}
+use Rattle.std.proofs.Common.{map, ap, sym, ◌∙◌, refl}
 use Rattle.std.specs.Prelude.{Some}
-use Rattle.editor_model.specs.Values.{SpawnFailed}
 use Rattle.editor_model.specs.Arguments.{arg}
 use Rattle.plain_machine.specs.Calls.{silent}
-use Rattle.plain_machine.specs.Items.{Refuse}
 use Rattle.ek_types.specs.Listing.{items_of}
 use Rattle.ek_call.specs.Meaning.{view}
 use Rattle.plain_machine.specs.Waits.{asked_more}

@@ -1,5 +1,4 @@
-use Rattle.std.proofs.Common.{drop, option_map, [], ◌∷◌, ◌++◌, map, ap, sym, ◌∙◌, true}
-use Rattle.editor_model.specs.Values.{Refused}
+use Rattle.std.proofs.Common.{drop, option_map, ◌∷◌, map, ap, ◌∙◌}
 use Rattle.plain_machine.specs.Items.{Native}
 use Rattle.ek_types.specs.Listing.{items_of}
 use Rattle.ek_call.specs.Faults.{fault_of}
@@ -10,7 +9,7 @@ use Rattle.prim_changes.specs.Meaning.{change_of}
 use Rattle.kernel_steps.specs.Blocks.{kept_as}
 use Rattle.kernel_steps.specs.Handlers.{kind_of}
 use Rattle.kernel_steps.proofs.Evaluating.{map_more}
-use Rattle.trace_check.specs.Meaning.{item_of, list_of}
+use Rattle.trace_check.specs.Meaning.{list_of}
 use Rattle.trace_check.proofs.Dropping.{top_stays, native_replied, exit_faulted, block_restored, commit_dropped, others_go, other_dropped}
 use Rattle.trace_check.proofs.replies.drop_item.Goals as goal
 

@@ -1,4 +1,3 @@
-use Rattle.std.proofs.Common.{ap, ◌∙◌}
 use Rattle.editor_model.specs.Values.{Answered}
 use Rattle.plain_machine.specs.Lines.{Replied}
 use Rattle.ek_call.specs.Meaning.{view}

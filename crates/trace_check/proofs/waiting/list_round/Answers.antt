@@ -1,8 +1,8 @@
-use Rattle.std.proofs.Common.{◌∷◌, drop, ap, sym, ◌∙◌}
+use Rattle.std.proofs.Common.{sym, ◌∙◌}
 use Rattle.plain_machine.specs.Waits.{eligible}
 use Rattle.process_table.specs.Table.{with_table}
 use Rattle.wait_loop.specs.Aims.{waiting_for}
-use Rattle.trace_check.proofs.Aheads.{round_none, round_some}
+use Rattle.trace_check.proofs.Aheads.{round_none}
 use Rattle.trace_check.proofs.waiting.list_round.Goals as goal
 
 pub returns-in-None : goal.returns-in-None

@@ -1,4 +1,4 @@
-use Rattle.std.proofs.Common.{◌∷◌, ap, sym, ◌∙◌}
+use Rattle.std.proofs.Common.{◌∷◌, ap, ◌∙◌}
 use Rattle.plain_machine.specs.Items.{Wait}
 use Rattle.wait_loop.specs.KeptWaits.{noted}
 use Rattle.process_table.specs.Table.{with_table}

@@ -1,4 +1,4 @@
-use Rattle.std.proofs.Common.{◌∷◌, ap, sym, ◌∙◌, refl, subst}
+use Rattle.std.proofs.Common.{◌∷◌, ap, sym, ◌∙◌}
 use Rattle.plain_machine.specs.Items.{GiveAnswer, Wait}
 use Rattle.process_table.specs.Table.{with_table}
 use Rattle.trace_check.specs.Meaning.{list_of, target_of}

@@ -1,4 +1,4 @@
-use Rattle.std.proofs.Common.{◌+◌, ◌<◌, ◌^◌, ◌∷◌, length, length-append, ap, sym, refl, ◌∙◌, arith, rules}
+use Rattle.std.proofs.Common.{◌+◌, ◌<◌, ◌^◌, ◌∷◌, length, length-append, ap, sym, refl, arith, rules}
 use Rattle.plain_machine.specs.Lines.{run_words}
 use Rattle.prop_intervals.specs.Runs.{size}
 use Rattle.prop_intervals.proofs.RunLemmas.{size-append}

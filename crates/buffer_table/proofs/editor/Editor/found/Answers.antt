@@ -1,11 +1,7 @@
-use Rattle.std.proofs.Common.{◌≡◌, None, map, sym, ap, subst, ◌∙◌}
-use Rattle.std.specs.Prelude.{Some, option_map, unwrap_or, slice_get}
+use Rattle.std.proofs.Common.{None, subst}
+use Rattle.std.specs.Prelude.{Some}
 use Rattle.editor_model.specs.Editor as shown
-use Rattle.editor_model.specs.Editor.{Live, live}
-use Rattle.text_model.specs.Commit.{Buffer}
-use Rattle.gap_text.specs.Text.{LiesIn}
-use Rattle.buffer_core.specs.Meaning.{Stored, buffer_of}
-use Rattle.buffer_table.specs.Kept.{Named, Kept, IsKept, named_at, editor_of}
+use Rattle.buffer_table.specs.Kept.{IsKept}
 use Rattle.buffer_table.proofs.Shown.{Found, found_here, none_found, sets_of}
 use Rattle.buffer_table.proofs.editor.Editor.found.Goals as goal
 

@@ -4,7 +4,7 @@ use Rattle.std.proofs.lemmas.Int.{to_z-of_z}
 use Rattle.text_model.specs.Places.{clip}
 use Rattle.text_model.specs.Commit.{Buffer, Site}
 use Rattle.editor_model.specs.Editor as shown
-use Rattle.editor_model.specs.Editor.{Editor, change_site, change_buffer}
+use Rattle.editor_model.specs.Editor.{change_buffer}
 use Rattle.gap_text.specs.Text.{LiesIn}
 use Rattle.narrow_region.specs.Positions.{place_of}
 use Rattle.buffer_core.specs.Meaning.{Stored, site_of, buffer_of}

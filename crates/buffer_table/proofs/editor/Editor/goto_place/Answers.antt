@@ -3,7 +3,7 @@ use Rattle.std.specs.Prelude.{Some}
 use Rattle.text_model.specs.Places.{clip}
 use Rattle.text_model.specs.Commit.{Buffer, Site}
 use Rattle.editor_model.specs.Editor as shown
-use Rattle.editor_model.specs.Editor.{Editor, change_site, change_buffer}
+use Rattle.editor_model.specs.Editor.{change_buffer}
 use Rattle.gap_text.specs.Text.{LiesIn}
 use Rattle.buffer_core.specs.Meaning.{Stored, site_of}
 use Rattle.buffer_core.specs.Standing.{AreWithin}

@@ -1,6 +1,6 @@
-use Rattle.std.proofs.Common.{◌≡◌, ℕ, Bool, ◌++◌, [], ◌∷◌, All, sym, subst}
+use Rattle.std.proofs.Common.{ℕ, Bool, All, sym, subst}
 use Rattle.std.proofs.lemmas.List.Elements.{All-push}
-use Rattle.text_model.specs.Marks.{Marks, Marker}
+use Rattle.text_model.specs.Marks.{Marks}
 use Rattle.marker_set.specs.Numbered.{nowhere}
 use Rattle.buffer_core.specs.Standing.{AreWithin, MarkerWithin}
 use Rattle.buffer_table.specs.Kept.{Kept, is_live}

@@ -3,7 +3,6 @@ use Rattle.std.specs.Prelude.{option_map}
 use Rattle.std.proofs.lemmas.List.{length-map}
 use Rattle.text_model.specs.Characters.{Ch}
 use Rattle.editor_model.specs.Editor as shown
-use Rattle.editor_model.specs.Editor.{Editor}
 use Rattle.buffer_table.specs.Room.{Room}
 use Rattle.buffer_table.specs.Kept.{Named, Kept, Lives, IsKept, is_live, named_at, live_of, editor_of}
 use Rattle.buffer_table.proofs.NameLemmas.{name_is_free}

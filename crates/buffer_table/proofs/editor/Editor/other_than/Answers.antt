@@ -1,6 +1,5 @@
-use Rattle.std.proofs.Common.{◌≡◌, ◌≢◌, ◌<◌, true, false, Some, None, length, map, refl, sym, ap, subst, ◌∙◌, arith}
+use Rattle.std.proofs.Common.{◌≡◌, ◌<◌, true, false, Some, None, length, map, refl, sym, ap, subst, ◌∙◌, arith}
 use Rattle.std.specs.Prelude.{option_map, slice_get, slice_set}
-use Rattle.std.specs.Vec.{vec_len}
 use Rattle.text_model.specs.PropertyQuestions.{first}
 use Rattle.editor_model.specs.Editor as shown
 use Rattle.editor_model.specs.Editor.{live_from}

@@ -1,7 +1,4 @@
-use Rattle.std.proofs.Common.{◌≡◌, true, length, ap, ◌∙◌, subst, sym}
-use Rattle.editor_model.specs.Editor.{is_live, buffer_at}
 use Rattle.narrow_region.specs.Kept.{kept_of}
-use Rattle.buffer_table.specs.Kept.{named_at, editor_of}
 use Rattle.buffer_table.proofs.Shown.{kept_in}
 use Rattle.buffer_table.proofs.editor.Editor.pop_saved.Goals as goal
 

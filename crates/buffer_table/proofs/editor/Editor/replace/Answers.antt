@@ -1,24 +1,14 @@
-use Rattle.std.proofs.Common.{◌≡◌, ◌+◌, ◌≤◌, Bool, true, false, List, length, take, drop, refl, subst, sym, ap, ◌∙◌, arith}
-use Rattle.std.specs.Prelude.{slice_get, Some, option_map, if◌then◌else◌, IfOk}
-use Rattle.std.specs.List.{zip}
-use Rattle.std.proofs.lemmas.Result.{on_ok_weaker, on_err_weaker, IfOk-weaker}
-use Rattle.text_model.specs.Properties.{Cell, part}
-use Rattle.text_model.specs.Places.{clip}
-use Rattle.text_model.specs.Marks.{Marks}
-use Rattle.text_model.specs.Undo.{Undo, with_boundary, started, enabled, disabled}
-use Rattle.text_model.specs.Commit.{Buffer, Site, replaced, reset, property_records}
+use Rattle.std.proofs.Common.{◌≡◌, ◌≤◌, true, length, subst, sym, ap, ◌∙◌}
+use Rattle.std.specs.Prelude.{Some}
+use Rattle.std.proofs.lemmas.Result.{on_ok_weaker, on_err_weaker}
+use Rattle.text_model.specs.Commit.{replaced}
 use Rattle.editor_model.specs.Editor as shown
-use Rattle.editor_model.specs.Editor.{Editor, change_site, change_buffer}
+use Rattle.editor_model.specs.Editor.{change_site}
 use Rattle.gap_text.specs.Text.{LiesIn, characters}
-use Rattle.ek_types.specs.Seen.{ch_of}
-use Rattle.prop_intervals.specs.Edits.{edit_of}
 use Rattle.prop_intervals.specs.Sets.{together}
-use Rattle.narrow_region.specs.Positions.{place_of}
-use Rattle.buffer_core.specs.Changes.{is_some_record}
-use Rattle.buffer_core.specs.Meaning.{Stored, site_of, buffer_of}
 use Rattle.buffer_core.specs.Standing.{AreWithin}
 use Rattle.buffer_table.specs.Kept.{Named, Kept, Lives, is_live, editor_of}
-use Rattle.buffer_table.proofs.KeptLemmas.{live_here, none_here, live_in, buffer_is, place_in, quiet, Changes, kept_after, editor_after, editor_same}
+use Rattle.buffer_table.proofs.KeptLemmas.{live_here, none_here, live_in, place_in, Changes, kept_after, editor_after, editor_same}
 use Rattle.buffer_table.proofs.Replacing.{replace_changes}
 use Rattle.buffer_table.proofs.editor.Editor.replace.Goals as goal
 

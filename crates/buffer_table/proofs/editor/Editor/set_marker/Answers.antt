@@ -1,19 +1,13 @@
-use Rattle.std.proofs.Common.{◌≡◌, ℕ, Bool, ◌≤◌, ◌++◌, List, [], ◌∷◌, All, length, refl, sym, ap, subst, ◌∙◌, false}
-use Rattle.std.specs.Prelude.{slice_set, Some, None, IfSome, option_map}
-use Rattle.std.proofs.lemmas.List.Elements.{All-push, All-set, All-cons}
-use Rattle.std.proofs.lemmas.Option.{IfSome_then}
-use Rattle.text_model.specs.Properties.{put}
-use Rattle.text_model.specs.Marks.{Marks, Marker, Overlay, Saved}
-use Rattle.editor_model.specs.Editor.{Editor}
-use Rattle.ek_types.specs.Property.{prop_of, number_of}
-use Rattle.marker_set.specs.Numbered.{nowhere, marker_at, spot_of}
-use Rattle.overlay_set.specs.Numbered.{overlay_at, span_at, given_of}
-use Rattle.narrow_region.specs.Kept.{kept_of}
-use Rattle.buffer_core.specs.Standing.{AreWithin, MarkerWithin, OverlayWithin, SavedWithin}
+use Rattle.std.proofs.Common.{ℕ, Bool, All, sym, subst}
+use Rattle.std.specs.Prelude.{IfSome}
+use Rattle.std.proofs.lemmas.List.Elements.{All-set}
+use Rattle.text_model.specs.Marks.{Marks}
+use Rattle.marker_set.specs.Numbered.{marker_at, spot_of}
+use Rattle.buffer_core.specs.Standing.{AreWithin, MarkerWithin}
 use Rattle.buffer_table.specs.Kept.{Kept, is_live, editor_of}
-use Rattle.buffer_table.specs.Standing.{MarkerIn, OverlayIn, StandIn}
-use Rattle.buffer_table.specs.Places.{IsPlace, IsKeptPlace, with_marks}
-use Rattle.buffer_table.proofs.MarkLemmas.{marker_put, marker_alike, overlay_put, overlay_alike, marks_only, made_or_not, marker_made, marker_placed, marker_like, overlay_placed, overlay_found, saved_placed, saved_popped}
+use Rattle.buffer_table.specs.Standing.{MarkerIn, StandIn}
+use Rattle.buffer_table.specs.Places.{IsPlace}
+use Rattle.buffer_table.proofs.MarkLemmas.{marker_put, marks_only, marker_placed}
 use Rattle.buffer_table.proofs.editor.Editor.set_marker.Goals as goal
 
 pub invariant_of-self : goal.invariant_of-self

@@ -1,4 +1,4 @@
-use Rattle.std.proofs.Common.{◌≡◌, length, sym, ap, ◌∙◌}
+use Rattle.std.proofs.Common.{length, sym, ap, ◌∙◌}
 use Rattle.buffer_core.specs.Meaning.{Stored}
 use Rattle.buffer_table.specs.Kept.{editor_of}
 use Rattle.buffer_table.proofs.Shown.{shown_size, not_alive}

@@ -1,4 +1,4 @@
-use Rattle.std.proofs.Common.{◌≡◌, length, take, drop, map, subst, sym, ap, ◌∙◌, arith}
+use Rattle.std.proofs.Common.{length, take, drop, map, subst, sym, ap, ◌∙◌, arith}
 use Rattle.text_model.specs.Characters.{code}
 use Rattle.gap_text.specs.Text.{LiesIn, characters}
 use Rattle.buffer_table.specs.Kept.{Named}

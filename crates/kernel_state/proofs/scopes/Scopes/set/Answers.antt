@@ -1,7 +1,6 @@
-use Rattle.std.proofs.Common.{◌≡◌, ◌<◌, ℕ, Vec, Global, List, ◌∷◌, length, drop, refl, ap, sym, ◌∙◌, arith}
+use Rattle.std.proofs.Common.{◌≡◌, ◌<◌, Vec, Global, List, ◌∷◌, length, drop, refl, ap, sym, ◌∙◌, arith}
 use Rattle.std.specs.Prelude.{vec_len}
 use Rattle.editor_model.specs.Editor.{with_register}
-use Rattle.editor_model.specs.Values.{Value as Meant}
 use Rattle.plain_machine.specs.State.{Scope}
 use Rattle.ek_types.specs.Property.{number_of}
 use Rattle.ek_types.specs.declared.symbol.Sym.{Sym}

@@ -1,4 +1,4 @@
-use Rattle.std.proofs.Common.{[], ◌∷◌, ◌++◌, refl, ap, arith, ◌∙◌}
+use Rattle.std.proofs.Common.{[], ◌∷◌, ◌++◌, refl, ap, ◌∙◌}
 use Rattle.system_host.proofs.children.RealHostHost.spawn.Goals as goal
 
 pub returns-in-Ok-clause-made : goal.returns-in-Ok-clause-made

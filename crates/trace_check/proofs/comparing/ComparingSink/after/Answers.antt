@@ -1,6 +1,6 @@
-use Rattle.std.proofs.Common.{◌≡◌, ◌+◌, true, false, ◌++◌, ◌∷◌, [], sym, ap, ◌∙◌, subst, arith, inl, inr, refl}
+use Rattle.std.proofs.Common.{◌+◌, true, false, ◌++◌, ◌∷◌, [], sym, ap, ◌∙◌, subst, arith}
 use Rattle.plain_machine.specs.Grammar.{line_feeds}
-use Rattle.trace_check.specs.Comparing.{firsts, Compared, Agrees, DiffersAt, common}
+use Rattle.trace_check.specs.Comparing.{firsts, Compared, Agrees, common}
 use Rattle.trace_check.proofs.Agreeing.{goes_on, met, stays_differing, stays_at_end, stays_at_other, one_agrees, one_differs, few_feeds, at_within}
 use Rattle.trace_check.proofs.CommonFronts.{one_feed, no_feed}
 use Rattle.trace_check.proofs.comparing.ComparingSink.after.Goals as goal

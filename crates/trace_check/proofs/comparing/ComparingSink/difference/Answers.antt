@@ -1,6 +1,5 @@
-use Rattle.std.proofs.Common.{◌≡◌, ◌+◌, ◌++◌, ◌∷◌, [], sym, ap, ◌∙◌, subst, arith, inl, inr}
-use Rattle.plain_machine.specs.Grammar.{line_feeds}
-use Rattle.trace_check.specs.Comparing.{firsts, Compared, Agrees, DiffersAt, common}
+use Rattle.std.proofs.Common.{◌≡◌, ◌+◌, subst, arith, inl, inr}
+use Rattle.trace_check.specs.Comparing.{firsts, Compared, DiffersAt}
 use Rattle.trace_check.proofs.Agreeing.{first_difference, no_difference, few_feeds}
 use Rattle.trace_check.proofs.comparing.ComparingSink.difference.Goals as goal
 

@@ -1,4 +1,4 @@
-use Rattle.std.proofs.Common.{◌≡◌, ℕ, suc, ◌-◌, [], refl, ap, sym, ◌∙◌, subst, arith, slice_get}
+use Rattle.std.proofs.Common.{◌≡◌, suc, ◌-◌, sym, ◌∙◌, subst, arith, slice_get}
 use Rattle.std.specs.Prelude.{Some, None}
 use Rattle.plain_machine.specs.Items.{Waiting}
 use Rattle.plain_machine.specs.Waits.{eligible}
