@@ -1,10 +1,9 @@
 //! Markers that go back to where they stood before a deletion that is undone.
 ghost use Rattle.std.specs.Prelude.{◌≡◌, pos, ◌-ℤ◌, ◌≤◌, [], ◌∷◌, ◌++◌, length, drop};
-ghost use Rattle.std.specs.Prelude.{option_map, slice_get, All, OnOk, IfOk};
+ghost use Rattle.std.specs.Prelude.{option_map, slice_get, OnOk, IfOk};
 ghost use Rattle.text_model.specs.Places.{clip};
 ghost use Rattle.text_model.specs.Commit.{moves_behind, place_of, spot_less, stands_at, marker_less};
 ghost use Rattle.marker_set.specs.Numbered.{spot_of};
-ghost use Rattle.buffer_core.specs.Standing.{MarkerWithin};
 ghost use Rattle.buffer_core.specs.Undoing.{standing, all_less};
 
 use ek_types::Mem;

@@ -1,5 +1,5 @@
 //! Changes of a buffer's text.
-ghost use Rattle.std.specs.Prelude.{◌≡◌, ◌⊎◌, ◌+◌, ◌<◌, ◌≤◌, true, false, [], length, map, All};
+ghost use Rattle.std.specs.Prelude.{◌≡◌, ◌⊎◌, ◌+◌, ◌<◌, ◌≤◌, true, [], length, map, All};
 ghost use Rattle.std.specs.Prelude.{◌++◌, take, drop, IfOk, OnOk, OnErr};
 ghost use Rattle.text_model.specs.Properties.{part};
 ghost use Rattle.text_model.specs.Undo.{Undo, pushed_all};

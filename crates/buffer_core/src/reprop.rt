@@ -9,7 +9,7 @@ ghost use Rattle.machine_laws.specs.Good.{Good};
 ghost use Rattle.text_model.specs.Commit.{property_records, stretch_record, with_properties, reset};
 ghost use Rattle.text_pool.specs.Pool.{Pooled};
 ghost use Rattle.gap_text.specs.Text.{LiesIn};
-ghost use Rattle.ek_types.specs.Property.{prop_of, number_of};
+ghost use Rattle.ek_types.specs.Property.{prop_of};
 ghost use Rattle.prop_intervals.specs.Edits.{edit_of};
 ghost use Rattle.prop_intervals.specs.Sets.{sets_in};
 ghost use Rattle.undo_list.specs.Records.{rec_of};

@@ -1,5 +1,5 @@
 //! Characters that copies may share.
-ghost use Rattle.std.specs.Prelude.{◌≡◌, ◌<◌, ◌≤◌, ◌++◌, length, slice_get, Some, OnOk, OnErr, IfOk};
+ghost use Rattle.std.specs.Prelude.{◌≡◌, ◌<◌, ◌≤◌, ◌++◌, length, slice_get, Some, OnOk, IfOk};
 ghost use Rattle.text_model.specs.Characters.{IsCharacter};
 ghost use Rattle.ek_types.specs.Seen.{ch_of};
 ghost use Rattle.ek_types.specs.Sharing.{characters_held};

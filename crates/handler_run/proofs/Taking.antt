@@ -8,7 +8,7 @@ use Rattle.text_model.specs.Characters.{Ch, Scalar}
 use Rattle.text_model.specs.Properties.{bare}
 use Rattle.text_model.specs.Codings.{decoded, all_decoded}
 use Rattle.editor_model.specs.Values.{Str, TheProcess}
-use Rattle.plain_machine.specs.Exchanges.{Answer, Bytes}
+use Rattle.plain_machine.specs.Exchanges.{Answer, Bytes, most_read}
 use Rattle.plain_machine.specs.State.{State, Process, Status, Exited, Signalled, Lost, change_process, read_so_far}
 use Rattle.plain_machine.specs.Lines.{OfSentinel}
 use Rattle.plain_machine.specs.Items.{Item, Enter, Wait, Waiting, Target}
@@ -71,7 +71,7 @@ module _ (s : State) (p : ℕ) (x : Process) (table : List Process) (text : List
   pub took_bytes : (g : Got) (n : ℕ) (bytes : List ℕ) → g ≡ got.Bytes n → IsRead g bytes → All (λ b. b < 256) bytes → StandsFor table (heard bytes).processes → text ≡ more_characters (decoded x.coding (read_so_far x)) (decoded x.coding (read_so_far x ++ bytes)) → Takes s p x (got_answer bytes g) table text
   took_bytes g n bytes is read small stands came =
       let size = subst (λ a. IsRead a bytes) is read in
-      let room : is_room bytes ≡ true = rw (le-leb 1 (length bytes) (omega (arith, size)), le-leb (length bytes) 4096 (omega (arith, size)), all_bytes bytes small) refl in
+      let room : is_room bytes ≡ true = rw (le-leb 1 (length bytes) (omega (arith, size)), le-leb (length bytes) most_read (omega (arith, size)), all_bytes bytes small) refl in
       subst (λ a. Takes s p x a table text) (sym (ap (got_answer bytes) is ∙ ap Bytes (take_all n bytes size.0))) (takes_bytes bytes room stands came)
 
   -- the output has ended, or the read failed

@@ -3,7 +3,7 @@ use Rattle.std.specs.Prelude.{◌≡◌, ℕ, ◌+◌, ◌≤◌, Bool, true, fa
 use Rattle.std.specs.Prelude.{Option, Some, None}
 use Rattle.text_model.specs.Characters.{Ch}
 use Rattle.text_model.specs.Codings.{Coding, decoded, undecoded, all_decoded}
-use Rattle.plain_machine.specs.Exchanges.{Answer, Bytes}
+use Rattle.plain_machine.specs.Exchanges.{Answer, Bytes, most_read}
 use Rattle.plain_machine.specs.State.{State, Process, Status, Exited, Signalled, Lost}
 use Rattle.plain_machine.specs.Items.{Item, Wait, Waiting, Target}
 use Rattle.plain_machine.specs.Calls.{silent}
@@ -20,10 +20,6 @@ use Rattle.handler_run.specs.declared.entry.Entry.{Entry}
 use Rattle.handler_run.specs.Entries.{entering}
 
 -- ROOM
--- the most bytes that one read gives
-abbrev pub most_read : ℕ
-most_read = 4096
-
 -- the most bytes that a decoder holds
 abbrev pub most_held : ℕ
 most_held = 3

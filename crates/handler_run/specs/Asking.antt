@@ -1,6 +1,6 @@
 -- One question to a child and its answer, on the host and in the machine; or an answer that was told.
 use Rattle.std.specs.Prelude.{◌≡◌, ◌≢◌, ℕ, Bool, true, false, List, [], slice_set, ◌⊎◌, Some}
-use Rattle.plain_machine.specs.Exchanges.{Ask, Answer, Bytes, Read, AskEnd, Kill}
+use Rattle.plain_machine.specs.Exchanges.{Ask, Answer, Bytes, Read, AskEnd, Kill, most_read}
 use Rattle.plain_machine.specs.State.{State, Process, Signalled, process}
 use Rattle.plain_machine.specs.Arguments.{child_of, runs}
 use Rattle.process_table.specs.Table.{StandsFor, with_table, with_status, changed}
@@ -51,7 +51,7 @@ pub record TakesKill (old new : List Process) (p : ℕ) (e : Entry) : Type 0 whe
 pub record HearsOutput {H : Type 0} (state : H → HostState) (made : H → H → Ask → ℕ → Answer → Type 0)
     (host host' : H) (old new : List Process) (p : ℕ) (heard : Heard) : Type 0 where
   pub answer : Answer
-  pub called : made host host' (Read (child_of (with_table old) p)) 4096 answer
+  pub called : made host host' (Read (child_of (with_table old) p)) most_read answer
   pub exchanged : Exchanged (state host) (state host') (state host).kills
       (Read (child_of (with_table old) p)) answer
   pub takes : TakesOutput old new p answer heard
@@ -86,7 +86,7 @@ pub record Kills {H : Type 0} (state : H → HostState) (made : H → H → Ask 
 -- ANSWERS THAT WERE TOLD
 -- a process may answer so: to a read, and once its output has ended, about its end
 abbrev pub MayAnswer : (drained : Bool) → Answer → Type 0
-MayAnswer false answer = read_as 4096 answer ≡ answer
+MayAnswer false answer = read_as most_read answer ≡ answer
 MayAnswer true answer = end_as answer ≡ answer
 
 abbrev pub MayBeTold : List Process → (p : ℕ) → Answer → Type 0

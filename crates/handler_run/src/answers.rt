@@ -1,13 +1,14 @@
 //! What an answer changes in the table, and what is entered for it.
 ghost use Rattle.std.specs.Prelude.{◌≡◌, ◌+◌, ◌<◌, ◌≤◌, ◌++◌, ◌↔◌, [], length, false};
 ghost use Rattle.std.specs.Prelude.{Some, None, option_map};
+ghost use Rattle.plain_machine.specs.Exchanges.{most_read};
 ghost use Rattle.plain_machine.specs.State.{State, Process as Meant, process};
 ghost use Rattle.process_table.specs.Meaning.{status_of};
 ghost use Rattle.process_table.specs.Table.{StandsFor, coding_by, held_by};
 ghost use Rattle.host_link.specs.Hosts.{got_answer};
 ghost use Rattle.handler_run.specs.Answers.{Deletes, Ends, IsRead, Reads, Takes, after_end};
 ghost use Rattle.handler_run.specs.Answers.{after_read, came_to, heard_of};
-ghost use Rattle.handler_run.specs.Answers.{longest_told, most_held, most_read};
+ghost use Rattle.handler_run.specs.Answers.{longest_told, most_held};
 
 use crate::entry::{Entry, arguments, filter_entry};
 use crate::slot::Slot;

@@ -1,15 +1,17 @@
 //! Asking a child: the question, its answer, and what is entered for it.
 ghost use Rattle.std.specs.Prelude.{◌≡◌, ◌+◌, ◌<◌, ◌≤◌, length, false, Some, IfOk, OnErr, slice_get};
 ghost use Rattle.plain_machine.specs.Arguments.{child_of};
+ghost use Rattle.plain_machine.specs.Exchanges.{most_read};
 ghost use Rattle.process_table.specs.Table.{with_table};
 ghost use Rattle.host_link.specs.Hosts.{Fits, got_answer};
-ghost use Rattle.handler_run.specs.Answers.{IsRead, longest_told, most_held, most_read};
+ghost use Rattle.handler_run.specs.Answers.{IsRead, longest_told, most_held};
 ghost use Rattle.handler_run.specs.Asking.{Hears, HearsEnd, HearsOutput, Kills};
 
 use crate::entry::Entry;
-use crate::slot::{MOST_READ, Slot, ready};
+use crate::slot::{Slot, ready};
 use crate::taken::{take_end, take_output, take_signal};
 use ek_types::Mem;
+use ek_types::limits::MOST_READ;
 use host_link::{Got, Host};
 use process_table::Processes;
 use std::alloc::Global;

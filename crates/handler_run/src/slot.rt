@@ -1,16 +1,15 @@
 //! Room for an answer.
 ghost use Rattle.std.specs.Prelude.{◌≡◌, ◌+◌, ◌≤◌, false, IfOk};
-ghost use Rattle.handler_run.specs.Answers.{longest_told, most_held, most_read};
+ghost use Rattle.plain_machine.specs.Exchanges.{most_read};
+ghost use Rattle.handler_run.specs.Answers.{longest_told, most_held};
 
 use crate::told::LONGEST_TOLD;
 use ek_call::Values;
+use ek_types::limits::MOST_READ;
 use ek_types::{Chars, Mem, PieceRoom};
 use process_table::Process;
 use std::alloc::Global;
 use std::marker::Model;
-
-/// The most bytes that one read gives.
-pub(crate) const MOST_READ: usize = 4096;
 
 /// The most bytes that a decoder holds.
 const MOST_HELD: usize = 3;

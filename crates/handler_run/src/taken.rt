@@ -1,10 +1,10 @@
 //! Taking up an answer of a child, whether a host gave it or it was told.
 ghost use Rattle.std.specs.Prelude.{◌≡◌, ◌+◌, ◌<◌, ◌≤◌, ℕ, List, length, IfOk, OnErr};
+ghost use Rattle.plain_machine.specs.Exchanges.{most_read};
 ghost use Rattle.host_link.specs.Meaning.{answer_of};
 ghost use Rattle.host_link.specs.Hosts.{got_answer};
 ghost use Rattle.host_link.specs.Played.{read_as};
 ghost use Rattle.handler_run.specs.Answers.{IsRead, gave_bytes, longest_told, most_held};
-ghost use Rattle.handler_run.specs.Answers.{most_read};
 ghost use Rattle.handler_run.specs.Asking.{MayBeTold, TakesAnswer, TakesEnd, TakesKill};
 ghost use Rattle.handler_run.specs.Asking.{TakesOutput, bytes_in};
 
@@ -68,7 +68,7 @@ pub(crate) fn take_signal(table: &mut Processes, p: u32, slot: Slot) -> Entry
 
 /// What a read gave, as it was told.
 fn got_of(answer: &Answer) -> Got
-    requires { read_as 4096 (answer_of answer.now) ≡ answer_of answer.now }
+    requires { read_as most_read (answer_of answer.now) ≡ answer_of answer.now }
     ensures read { IsRead result (bytes_in (answer_of answer.now)) }
     ensures answer { got_answer (bytes_in (answer_of answer.now)) result ≡ answer_of answer.now }
 {

@@ -4,7 +4,7 @@ use Rattle.std.specs.Prelude.{if◌then◌else◌, nat_le}
 use Rattle.std.proofs.lemmas.Bool.{leb-true, le-leb, eqb-true, eq-eqb}
 use Rattle.text_model.specs.Options.{◌>>=◌}
 use Rattle.plain_machine.specs.Lines.{shown_int}
-use Rattle.plain_machine.specs.Exchanges.{Ask, Answer, Spawn, Read, AskEnd, Send, Close, Kill, Started, Refused, Bytes, Nothing, End, Code, Signal, Running, Sent, Broken, Closed, Killed, Failed}
+use Rattle.plain_machine.specs.Exchanges.{Ask, Answer, Spawn, Read, AskEnd, Send, Close, Kill, Started, Refused, Bytes, Nothing, End, Code, Signal, Running, Sent, Broken, Closed, Killed, Failed, most_read}
 use Rattle.journal_text.specs.Lines.{hex, answer_words}
 use Rattle.journal_text.specs.Allowed.{IsSpawned, IsRead, IsEnd, IsSent, IsClosed, IsKilled, IsAnswerTo, IsAnswerLine}
 use Rattle.journal_text.specs.Reading.{behind, choose, then_end, number_at, hex_at, code_at, fixed, as_started, spawned_at, as_bytes, given_at, nothing_got_at, got_at, as_code, ended_at, sent_at, closed_at, killed_at, answer_at}
@@ -39,7 +39,7 @@ got_there : (answer : Answer) (rest : List ℕ) → IsRead answer → IsAnswerLi
 got_there (Bytes bytes) rest h all =
     ap (λ l. hex_at l >>= as_bytes) (append_assoc (hex bytes) (10 ∷ []) rest)
     ∙ ap (λ o. o >>= as_bytes) (hex_there bytes 10 rest h.0 all refl)
-    ∙ ap (λ t. if t then then_end (Bytes bytes, 10 ∷ rest) else None) (le-leb (length bytes) 4096 h.1)
+    ∙ ap (λ t. if t then then_end (Bytes bytes, 10 ∷ rest) else None) (le-leb (length bytes) most_read h.1)
 got_there Nothing rest h all = refl
 got_there End rest h all = refl
 got_there Failed rest h all = refl
@@ -166,13 +166,13 @@ given_found : (bytes rest : List ℕ) (r : Answer × List ℕ) → bytes ≡ cod
 given_found bytes rest r b h =
     let last = bound (hex_at rest) as_bytes r h in
     let x = hex_found rest last.x last.first in
-    let t = tested_then (nat_le (length last.x.0) 4096) (then_end (Bytes last.x.0, last.x.1)) r last.next in
+    let t = tested_then (nat_le (length last.x.0) most_read) (then_end (Bytes last.x.0, last.x.1)) r last.next in
     let e = end_found (Bytes last.x.0, last.x.1) r t.1 in
     subst (λ a. IsAnswerAt IsRead bytes (a, r.1)) e.0
     (record {
       whole = b ∙ ap (λ l. codes "bytes " ++ l) (x.whole ∙ ap (λ l. hex last.x.0 ++ l) e.1 ∙ sym (append_assoc (hex last.x.0) (10 ∷ []) r.1));
       line = x.all;
-      allowed = (x.some, leb-true (length last.x.0) 4096 t.0);
+      allowed = (x.some, leb-true (length last.x.0) most_read t.0);
     })
 
 end_got_found : (bytes : List ℕ) (r : Answer × List ℕ) → choose (behind (codes "end\n") bytes) (fixed End) (behind (codes "failed\n") bytes >>= fixed Failed) ≡ Some r → IsAnswerAt IsRead bytes r

@@ -4,7 +4,7 @@ use Rattle.std.specs.Prelude.{[], ◌∷◌, length, IsUtf8}
 use Rattle.std.specs.List.{AllByRecursion, list_all}
 use Rattle.plain_machine.specs.Exchanges.{Ask, Answer, Exchange, Spawn, Read, AskEnd, Send, Close, Kill}
 use Rattle.plain_machine.specs.Exchanges.{Started, Refused, Bytes, Nothing, End, Code, Signal, Running}
-use Rattle.plain_machine.specs.Exchanges.{Sent, Broken, Closed, Killed, Failed, started_by}
+use Rattle.plain_machine.specs.Exchanges.{Sent, Broken, Closed, Killed, Failed, started_by, most_read}
 
 -- ANSWERS
 -- a child that is started has the next number
@@ -13,9 +13,9 @@ IsSpawned next (Started child) = child ≡ next
 IsSpawned next Refused = Unit {0}
 IsSpawned next _ = ⊥
 
--- a read gives 1 to 4,096 bytes
+-- a read gives 1 to `most_read` bytes
 abbrev pub IsRead : Answer → Type 0
-IsRead (Bytes bytes) = (1 ≤ length bytes) × (length bytes ≤ 4096)
+IsRead (Bytes bytes) = (1 ≤ length bytes) × (length bytes ≤ most_read)
 IsRead Nothing = Unit {0}
 IsRead End = Unit {0}
 IsRead Failed = Unit {0}

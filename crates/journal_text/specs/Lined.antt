@@ -1,7 +1,7 @@
 -- What a host says of a call that it hands on: that the exchange has a line.
 use Rattle.std.specs.Prelude.{◌≡◌, ℕ, ◌≤◌, IsTrue, length}
 use Rattle.std.specs.List.{AllByRecursion}
-use Rattle.plain_machine.specs.Exchanges.{Ask, Answer, Spawn, Send}
+use Rattle.plain_machine.specs.Exchanges.{Ask, Answer, Spawn, Send, most_read}
 use Rattle.host_link.specs.Hosts.{HostState}
 use Rattle.journal_text.specs.Allowed.{has_no_zero, IsLine}
 use Rattle.journal_text.specs.declared.lined.LinedHost.{LinedHost}
@@ -17,6 +17,6 @@ IsSpoken _ = Unit {0}
 pub record HandsLine {H : Type 0} (state : H → HostState) (made : H → H → Ask → ℕ → Answer → Type 0)
     (old new : LinedHost H) (ask : Ask) (room : ℕ) (answer : Answer) : Type 0 where
   pub once : made old.inner.now new.inner.now ask room answer
-  pub line : room ≤ 4096 → IsSpoken ask →
+  pub line : room ≤ most_read → IsSpoken ask →
       IsLine (length (state old.inner.now).kills) (record { ask = ask; answer = answer })
   pub same_reference : new.inner.ghost_name ≡ old.inner.ghost_name

@@ -8,7 +8,7 @@ use Rattle.text_model.specs.Options.{◌>>=◌}
 use Rattle.plain_machine.specs.Words.{is_digit, begins_with, digits_value}
 use Rattle.plain_machine.specs.Exchanges.{Ask, Answer, Exchange, Spawn, Read, AskEnd, Send, Close, Kill}
 use Rattle.plain_machine.specs.Exchanges.{Started, Refused, Bytes, Nothing, End, Code, Signal, Running}
-use Rattle.plain_machine.specs.Exchanges.{Sent, Broken, Closed, Killed, Failed}
+use Rattle.plain_machine.specs.Exchanges.{Sent, Broken, Closed, Killed, Failed, most_read}
 use Rattle.journal_text.specs.Allowed.{has_no_zero}
 
 abbrev pub Found : Type 0 → Type 0
@@ -158,7 +158,7 @@ spawned_at next bytes = choose (behind (codes "refused\n") bytes) (fixed Refused
     (behind (codes "started ") bytes >>= number_at >>= as_started next)
 
 abbrev pub as_bytes : List ℕ × List ℕ → Found Answer
-as_bytes r = if nat_le (length r.0) 4096 then then_end (Bytes r.0, r.1) else None
+as_bytes r = if nat_le (length r.0) most_read then then_end (Bytes r.0, r.1) else None
 
 abbrev pub given_at : List ℕ → Found Answer
 given_at bytes = hex_at bytes >>= as_bytes

@@ -10,6 +10,7 @@ ghost use Rattle.journal_text.specs.Reading.{killed_at, answer_at, with_answer, 
 use crate::hex::{hex, text, words};
 use crate::pieces::{behind, code, number};
 use ek_types::Mem;
+use ek_types::limits::MOST_READ;
 use host_link::{Answer, Ask, ByteList, Exchange};
 use std::alloc::Global;
 
@@ -140,7 +141,7 @@ fn given(alloc: Global, bytes: &[u8]) -> Mem<Option<(Answer, &[u8])>>
     let Some((list, rest)) = hex(alloc, bytes)? else {
         return Ok(None);
     };
-    if list.len() > 4096 {
+    if list.len() > MOST_READ {
         return Ok(None);
     }
     Ok(with_end(Answer::Bytes(list), rest))

@@ -3,7 +3,7 @@ use Rattle.std.proofs.Common.{◌≡◌, ◌≢◌, ℕ, ◌≤◌, Bool, true, 
 use Rattle.std.specs.Prelude.{◌⊎◌, Some, None, nat_le}
 use Rattle.std.proofs.lemmas.Bool.{false≢true, leb-true, and_parts}
 use Rattle.std.proofs.lemmas.List.{take_all}
-use Rattle.plain_machine.specs.Exchanges.{Answer, Started, Refused, Bytes, Nothing, End, Code, Signal, Running, Sent, Broken, Closed, Killed, Failed}
+use Rattle.plain_machine.specs.Exchanges.{Answer, Started, Refused, Bytes, Nothing, End, Code, Signal, Running, Sent, Broken, Closed, Killed, Failed, most_read}
 use Rattle.plain_machine.specs.State.{State, Process, process}
 use Rattle.plain_machine.specs.Items.{Item, Wait, Target, Waiting}
 use Rattle.plain_machine.specs.Calls.{silent}
@@ -25,8 +25,8 @@ use Rattle.kernel_state.proofs.Exchanges.{stood, heard_state, heard_stands, kill
 may_answer : (drained : Bool) (answer : Answer) → may_hear drained answer ≡ true → MayAnswer drained answer
 may_answer false (Bytes []) e = absurd (false≢true e)
 may_answer false (Bytes (b ∷ bytes)) e =
-    let few : length (b ∷ bytes) ≤ 4096 = leb-true (length (b ∷ bytes)) 4096 (and_parts (nat_le 1 (length (b ∷ bytes))) (nat_le (length (b ∷ bytes)) 4096) e).1 in
-    ap Bytes (take_all 4096 (b ∷ bytes) few)
+    let few : length (b ∷ bytes) ≤ most_read = leb-true (length (b ∷ bytes)) most_read (and_parts (nat_le 1 (length (b ∷ bytes))) (nat_le (length (b ∷ bytes)) most_read) e).1 in
+    ap Bytes (take_all most_read (b ∷ bytes) few)
 may_answer false Nothing e = refl
 may_answer false End e = refl
 may_answer false Failed e = refl

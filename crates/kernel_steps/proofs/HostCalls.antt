@@ -1,7 +1,7 @@
 -- Calls of a host, one after another.
 use Rattle.std.proofs.Common.{◌≡◌, ℕ, Bool, List, [], ◌∷◌, ◌++◌, length, Some, None, refl, sym, ap, ◌∙◌, subst, append-nil, append_assoc, option_map}
 use Rattle.std.specs.declared.option.Option.{Option}
-use Rattle.plain_machine.specs.Exchanges.{Ask, Answer, Exchange, Spawn, Read}
+use Rattle.plain_machine.specs.Exchanges.{Ask, Answer, Exchange, Spawn, Read, most_read}
 use Rattle.host_link.specs.Hosts.{HostState, Exchanged, IsNumbered, after_spawn, spawned_answer, got_answer}
 use Rattle.host_link.specs.Played.{kills_after}
 use Rattle.host_link.specs.declared.host.Spawned.{Spawned}
@@ -51,7 +51,7 @@ module _ {H : Type 0} (state : H → HostState) (made : H → H → Ask → ℕ 
       next spawned.Refused h = tt
 
   -- a read into a room of its size
-  pub adds_read : (start old new : H) (child room : ℕ) (into : List ℕ) (got : Got) → room ≡ 4096 → Exchanged (state old) (state new) (state old).kills (Read child) (got_answer into got) →
+  pub adds_read : (start old new : H) (child room : ℕ) (into : List ℕ) (got : Got) → room ≡ most_read → Exchanged (state old) (state new) (state old).kills (Read child) (got_answer into got) →
       made old new (Read child) room (got_answer into got) → AddsOne (CallsSince state made start old) (CallsSince state made start new) (Read child) (got_answer into got)
   adds_read start old new child room into got size exchanged said =
       adds_call start old new (state old).kills (Read child) (got_answer into got) refl tt exchanged (subst (λ n. made old new (Read child) n (got_answer into got)) size said)

@@ -1,6 +1,6 @@
 -- Answers of children that are told, and what the machine comes to by them.
 use Rattle.std.specs.Prelude.{◌≡◌, ℕ, ◌∷◌, ◌&&◌, nat_le, Bool, true, false, List, length, codes, Option, Some}
-use Rattle.plain_machine.specs.Exchanges.{Answer, Bytes, Nothing, End, Code, Signal, Running, Failed}
+use Rattle.plain_machine.specs.Exchanges.{Answer, Bytes, Nothing, End, Code, Signal, Running, Failed, most_read}
 use Rattle.plain_machine.specs.State.{State, Process, Signalled, process}
 use Rattle.plain_machine.specs.Items.{Item, Wait, Target, Waiting, Next}
 use Rattle.plain_machine.specs.Calls.{silent}
@@ -12,9 +12,9 @@ use Rattle.kernel_steps.specs.declared.kernel.Entry.{Entry}
 use Rattle.kernel_steps.specs.declared.kernel.Heard.{Heard}
 
 -- WHICH ANSWERS ARE ALLOWED
--- a read gives 1 to 4,096 bytes
+-- a read gives 1 to `most_read` bytes
 abbrev pub may_read : Answer → Bool
-may_read (Bytes bytes) = nat_le 1 (length bytes) && nat_le (length bytes) 4096
+may_read (Bytes bytes) = nat_le 1 (length bytes) && nat_le (length bytes) most_read
 may_read Nothing = true
 may_read End = true
 may_read Failed = true

@@ -4,7 +4,7 @@ use Rattle.std.specs.Prelude.{Result, Ok, Err, OnOk}
 use Rattle.std.proofs.lemmas.List.{length-append, length-set}
 use Rattle.editor_model.specs.Values.{Script}
 use Rattle.plain_machine.specs.State.{Program}
-use Rattle.plain_machine.specs.Exchanges.{Ask, Answer, Exchange, Spawn, Read, AskEnd, Send, Close, Kill, Started, Refused, started_by}
+use Rattle.plain_machine.specs.Exchanges.{Ask, Answer, Exchange, Spawn, Read, AskEnd, Send, Close, Kill, Started, Refused, started_by, most_read}
 use Rattle.host_link.specs.Hosts.{HostState}
 use Rattle.host_link.specs.Played.{kills_after}
 use Rattle.journal_text.specs.Allowed.{IsAnswerTo, AreLines}
@@ -16,7 +16,7 @@ use Rattle.kernel_top.specs.Unseen.{RanUnseen}
 use Rattle.journal_laws.specs.Spoken.{AreSpoken}
 use Rattle.journal_laws.proofs.Spoken.{asks_are_spoken}
 
-small_room : (ask : Ask) → room_of ask ≤ 4096
+small_room : (ask : Ask) → room_of ask ≤ most_read
 small_room (Read child) = omega arith
 small_room _ = omega arith
 

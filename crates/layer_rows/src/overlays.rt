@@ -1,5 +1,5 @@
 //! Worked cases of overlays. Emacs counts positions from 1, and places count from 0.
-ghost use Rattle.std.specs.Prelude.{◌≤◌, ◌<◌, ◌+◌, ◌-◌, ◌^◌, All, IfOk};
+ghost use Rattle.std.specs.Prelude.{◌<◌, ◌+◌, ◌-◌, ◌^◌, All, IfOk};
 ghost use Rattle.layer_rows.specs.Upto.{EndsUpto};
 
 use crate::checking::is;

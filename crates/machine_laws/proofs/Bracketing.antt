@@ -2,7 +2,7 @@
 use Rattle.std.proofs.Common.{◌≡◌, ℕ, Bool, true, false, List, [], ◌∷◌, ◌++◌, length, refl, ap, sym, ◌∙◌, subst}
 use Rattle.std.specs.Prelude.{Option, Some}
 use Rattle.text_model.specs.Marks.{Saved}
-use Rattle.editor_model.specs.Values.{Reply, Answered, Prim, Script}
+use Rattle.editor_model.specs.Values.{Reply, Answered, Script}
 use Rattle.plain_machine.specs.Exchanges.{Exchange, Ask, Answer}
 use Rattle.plain_machine.specs.State.{State, Scope, Program}
 use Rattle.plain_machine.specs.Lines.{Kind, OfBefore, OfAfter, OfFilter, OfSentinel}

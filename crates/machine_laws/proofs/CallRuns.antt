@@ -4,7 +4,7 @@ use Rattle.std.specs.Prelude.{Option, Some, None, ◌&&◌}
 use Rattle.std.specs.List.{list_all}
 use Rattle.std.proofs.lemmas.List.{append-nil}
 use Rattle.std.proofs.lemmas.Bool.{false≢true}
-use Rattle.editor_model.specs.Values.{Value, Fault, Prim, Script, HandlerDef}
+use Rattle.editor_model.specs.Values.{Value, Fault, Script, HandlerDef}
 use Rattle.editor_model.specs.Editor.{Editor, is_live}
 use Rattle.editor_model.specs.Answers.{Prepared, Changes, Quiet, Nothing, Barred}
 use Rattle.editor_model.specs.TextCalls.{prepare_output}

@@ -293,8 +293,7 @@ pub fn refused_calls_leave_the_state()
 
 // SCRIPTS
 
-/// The line of the fault of bytes that are no script is one number. (That no bytes are two scripts
-/// is a law of `script_read`.)
+/// Bytes have at most one fault line. (That no bytes are two scripts is a law of `script_read`.)
 pub fn fault_lines_are_determined()
     ensures { OneFaultLine }
 {}

@@ -1,6 +1,6 @@
 //! All markers of a run, by number.
-ghost use Rattle.std.specs.Prelude.{◌≡◌, ℕ, ◌+◌, ◌-◌, ◌^◌, ◌<◌, ◌≤◌, Bool, true, false, [], ◌∷◌};
-ghost use Rattle.std.specs.Prelude.{◌++◌, length, map, slice_set, slice_get, All, IsSome, Some};
+ghost use Rattle.std.specs.Prelude.{◌≡◌, ◌+◌, ◌-◌, ◌^◌, ◌<◌, ◌≤◌, true, false, [], ◌∷◌};
+ghost use Rattle.std.specs.Prelude.{◌++◌, length, map, slice_set, All, Some};
 ghost use Rattle.std.specs.Prelude.{None, OnOk, OnErr, IfOk, IfSome, vec_capacity};
 ghost use Rattle.text_model.specs.Marks.{move_marker, marker_left, insertion, deletion};
 ghost use Rattle.marker_set.specs.Numbered.{nowhere, marker_at, spot_of, points_into};

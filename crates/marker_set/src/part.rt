@@ -1,5 +1,5 @@
 //! A part: markers of one buffer that lie near one another and move together.
-ghost use Rattle.std.specs.Prelude.{◌≡◌, ℕ, ◌+◌, ◌≤◌, ◌<◌, Bool, true, false, All, List, length};
+ghost use Rattle.std.specs.Prelude.{◌≡◌, ℕ, ◌+◌, ◌≤◌, ◌<◌, Bool, true, false, All, length};
 ghost use Rattle.std.specs.Prelude.{map, Some, None, option_map, slice_set, slice_index_or, IfOk};
 ghost use Rattle.std.specs.Prelude.{OnOk, IfSome, MatchOption, [], ◌++◌};
 ghost use Rattle.marker_set.specs.Changes.{move_of, CanMove};

@@ -2,7 +2,6 @@
 ghost use Rattle.std.specs.Prelude.{◌≡◌, ◌∷◌, ◌++◌};
 ghost use Rattle.overlay_set.specs.Entries.{HoldSame, entries_in};
 
-use crate::bounds::Entry;
 use crate::tree::{Link, Node, Tree, fork, take_sides};
 
 /// An entry between two trees, with a rotation where one side is two levels higher than the other.

@@ -1,6 +1,6 @@
 //! Changes of a tree of entries. A part that a change can't touch is left as it is, and one that moves as one gets a
 //! shift.
-ghost use Rattle.std.specs.Prelude.{◌≡◌, ℕ, false, ◌<◌, All, ◌∷◌, [], ◌++◌, length, map, List, Some};
+ghost use Rattle.std.specs.Prelude.{◌≡◌, ℕ, false, ◌<◌, All, ◌∷◌, ◌++◌, length, map, List, Some};
 ghost use Rattle.std.specs.List.{flat_map};
 ghost use Rattle.text_model.specs.Marks.{Overlay};
 ghost use Rattle.overlay_set.specs.Numbered.{span_of};

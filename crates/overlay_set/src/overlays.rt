@@ -10,7 +10,7 @@ ghost use Rattle.ek_types.specs.Property.{prop_of};
 ghost use Rattle.ek_types.specs.Listing.{items_of};
 ghost use Rattle.overlay_set.specs.Numbered.{overlay_at, span_of, span_at, given_of, numbers_of};
 ghost use Rattle.overlay_set.specs.Numbered.{next_or, previous_or, HasRoomFor};
-ghost use Rattle.overlay_set.specs.Slots.{test_of, with_span, moved_by, bare_of, CanMoveIn};
+ghost use Rattle.overlay_set.specs.Slots.{test_of, with_span, moved_by, CanMoveIn};
 ghost use Rattle.overlay_set.specs.Entries.{HoldSame};
 
 use crate::bounds::Entry;

@@ -10,7 +10,7 @@ use Rattle.text_model.specs.Codings.{decoded, all_decoded}
 use Rattle.text_model.specs.Properties.{bare}
 use Rattle.editor_model.specs.Values.{Nil, T, Str, TheProcess, ExchangesSpent}
 use Rattle.editor_model.specs.Editor.{is_live, killed}
-use Rattle.plain_machine.specs.Exchanges.{Read, AskEnd, Kill, Answer, Bytes, End, Code, Signal, Running, Killed}
+use Rattle.plain_machine.specs.Exchanges.{Read, AskEnd, Kill, Answer, Bytes, End, Code, Signal, Running, Killed, most_read}
 use Rattle.plain_machine.specs.State.{State, Process, Status, Runs, Exited, Signalled, Lost, Filter}
 use Rattle.plain_machine.specs.State.{Off, Named, Program, process, change_process, read_so_far}
 use Rattle.plain_machine.specs.Lines.{OfFilter, OfSentinel, KilledLast}
@@ -82,9 +82,9 @@ drain s w target rest p x =
     (entry_of s p x (more_characters (decoded x.coding (read_so_far x)) (all_decoded x.coding (read_so_far x)))
     (Wait w target ∷ rest)))
 
--- one read gives 1 to 4,096 bytes
+-- one read gives 1 to `most_read` bytes
 abbrev pub is_room : List ℕ → Bool
-is_room bytes = nat_le 1 (length bytes) && (nat_le (length bytes) 4096 && list_all (λ b. nat_lt b 256) bytes)
+is_room bytes = nat_le 1 (length bytes) && (nat_le (length bytes) most_read && list_all (λ b. nat_lt b 256) bytes)
 
 abbrev pub hear : (fits : Bool) → State → Waiting → Target → List Item → ℕ → Process → List ℕ → Option Next
 hear false s w target rest p x bytes = None

@@ -7,6 +7,7 @@ ghost use Rattle.trace_check.specs.Answers.{may_end, may_kill, may_read};
 ghost use Rattle.trace_check.specs.Questions.{Meets, allows, asked};
 
 use crate::turn::Done;
+use ek_types::limits::MOST_READ;
 use host_link::{Answer, Ask, Exchange, WordList};
 use kernel_steps::Command;
 
@@ -91,12 +92,12 @@ pub(crate) fn meet<'a>(next: Option<&'a Exchange>, question: &Question) -> Resul
     Ok(&exchange.answer)
 }
 
-/// Whether a read may be answered so: it gives 1 to 4,096 bytes.
+/// Whether a read may be answered so: it gives one byte at least, and no more than a read has room for.
 fn may_read(answer: &Answer) -> bool
     ensures { result ≡ may_read (answer_of answer.now) }
 {
     match answer {
-        Answer::Bytes(bytes) => bytes.len() >= 1 && bytes.len() <= 4096,
+        Answer::Bytes(bytes) => bytes.len() >= 1 && bytes.len() <= MOST_READ,
         Answer::Nothing | Answer::End | Answer::Failed => true,
         _ => false,
     }

@@ -1,5 +1,5 @@
 -- Worked rows on the codings of processes.
-use Rattle.std.specs.Prelude.{ℕ, List, [], ◌∷◌, ◌++◌, codes}
+use Rattle.std.specs.Prelude.{ℕ, [], ◌∷◌, ◌++◌, codes}
 use Rattle.editor_model.specs.Values.{Name, Prim}
 use Rattle.worked_rows.specs.Row.{Row, row, script, handler, call, set, nil, number, string, symbol}
 use Rattle.worked_rows.specs.Row.{spawned, reads, reads_nothing, output_ends, exits, killed}

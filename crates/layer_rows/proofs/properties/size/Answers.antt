@@ -1,4 +1,4 @@
-use Rattle.std.proofs.Common.{◌≡◌, length, sym, ap, ◌∙◌}
+use Rattle.std.proofs.Common.{length, sym, ap, ◌∙◌}
 use Rattle.prop_intervals.proofs.SetLemmas.{length-sets_of}
 use Rattle.layer_rows.proofs.properties.size.Goals as goal
 

@@ -1,7 +1,6 @@
 use Rattle.std.proofs.Common.{◌++◌, ◌∙◌, ap, sym, length, map, arith}
 use Rattle.std.proofs.lemmas.List.{length-map}
 use Rattle.text_model.specs.Characters.{Raw}
-use Rattle.text_model.specs.Codings.{undecoded, Utf8}
 use Rattle.utf8_stream.proofs.Returns.{raw_held, held_tail}
 use Rattle.utf8_stream.proofs.decoder.Decoder.put_raw.Goals as goal
 
